@@ -1,0 +1,11 @@
+-- The texts of the faults of reading and writing.
+use Rattle.std.specs.Prelude.{ℕ, List, ◌++◌, codes, decimal}
+use Rattle.latex2mathml.specs.Refusal.{error_text, refusal_of}
+use Rattle.latex2mathml.specs.declared.error.FileFault.{FileFault}
+use Rattle.latex2mathml.specs.declared.error.FileFault.TheVariants.{Read, NotText, Refused, Write}
+
+abbrev pub fault_text : FileFault → List ℕ
+fault_text Read = codes "The input could not be read."
+fault_text NotText = codes "The input is not UTF-8 text."
+fault_text (Refused error) = error_text (refusal_of error)
+fault_text (Write written cause) = codes "The output stopped after " ++ (decimal written ++ codes " bytes.")

@@ -1,0 +1,73 @@
+-- Trees of formulas: what nodes are, as values. A text is its bytes, and a character its code point.
+use Rattle.std.specs.Prelude.{ℕ, ℤ, Bool, List, [], ◌∷◌, string_bytes, map}
+use Rattle.std.specs.Prelude.{Option}
+use Rattle.latex2mathml.specs.declared.DisplayStyle.{DisplayStyle}
+use Rattle.latex2mathml.specs.declared.attribute.Variant.{Variant}
+use Rattle.latex2mathml.specs.declared.attribute.Accent.{Accent}
+use Rattle.latex2mathml.specs.declared.attribute.LineThickness.{LineThickness}
+use Rattle.latex2mathml.specs.declared.attribute.ColumnAlign.{ColumnAlign}
+use Rattle.latex2mathml.specs.declared.ast.Node.{Node}
+use Rattle.latex2mathml.specs.declared.ast.Node.TheVariants as node
+
+mutual
+  pub data Tree : Type 0 where
+    number : List ℕ → Tree
+    letter : ℕ → Variant → Tree
+    operator : ℕ → Tree
+    -- the name of a function, alone and with what it is applied to
+    function : List ℕ → Tree
+    applied : List ℕ → Tree → Tree
+    -- in eighteenths of an em
+    space : ℤ → Tree
+    -- what carries a script, and then the script
+    subscript : Tree → Tree → Tree
+    superscript : Tree → Tree → Tree
+    sub_sup : Tree → Tree → Tree → Tree
+    over_op : ℕ → Accent → Tree → Tree
+    under_op : ℕ → Accent → Tree → Tree
+    -- what stands over or under, and then what it stands at
+    overset : Tree → Tree → Tree
+    underset : Tree → Tree → Tree
+    -- what carries limits, then the one under it, then the one over it
+    under : Tree → Tree → Tree
+    under_over : Tree → Tree → Tree → Tree
+    -- the degree, and then what the root is of
+    root : Tree → Tree → Tree
+    sqrt : Tree → Tree
+    frac : Tree → Tree → LineThickness → Tree
+    row : Trees → Tree
+    -- the opening fence, the closing fence, and what stands between them
+    fenced : List ℕ → List ℕ → Tree → Tree
+    stretched : Bool → List ℕ → Tree
+    other_operator : List ℕ → Tree
+    -- the size, and then the parenthesis
+    sized_paren : List ℕ → List ℕ → Tree
+    words : List ℕ → Tree
+    matrix : Trees → ColumnAlign → Tree
+    ampersand : Tree
+    new_line : Tree
+    slashed : Tree → Tree
+    style : Option DisplayStyle → Tree → Tree
+    undefined : List ℕ → Tree
+    deriving Discrete as Tree-discrete
+
+  pub data Trees : Type 0 where
+    no_trees : Trees
+    more_trees : Tree → Trees → Trees
+
+-- a list of trees as the members of one
+abbrev pub trees_of : List Tree → Trees
+trees_of [] = no_trees
+trees_of (x ∷ xs) = more_trees x (trees_of xs)
+
+-- the tree of a node of the code
+abbrev pub tree : Node → Tree
+tree (node.Number digits) = number (string_bytes digits)
+tree (node.Letter c variant) = letter c variant
+tree (node.Operator c) = operator c
+tree (node.OtherOperator text) = other_operator text.now
+tree node.Ampersand = ampersand
+tree (node.Undefined text) = undefined (string_bytes text)
+
+abbrev pub trees : List Node → Trees
+trees nodes = trees_of (map tree nodes)

@@ -1,0 +1,142 @@
+//! Nodes to markup. Each part is written where it belongs; no text is made on the way.
+ghost use Rattle.std.specs.Prelude.{Some, ◌++◌, codes};
+ghost use Rattle.std.specs.Char.{encode_utf8};
+ghost use Rattle.std.specs.Fmt.{WritesOnOk};
+ghost use Rattle.std.specs.List.{flat_map};
+ghost use Rattle.latex2mathml.specs.Attributes.{variant_text};
+ghost use Rattle.latex2mathml.specs.Escape.{content, content_char, quoted, quoted_byte};
+ghost use Rattle.latex2mathml.specs.Print.{error_print, operator_print, print, prints};
+ghost use Rattle.latex2mathml.specs.Tree.{tree, trees};
+
+use crate::ast::Node;
+use crate::attribute::Variant;
+use std::fmt;
+
+/// Prints the markup of the node.
+impl fmt::Display for Node {
+    ghost output = { λ node. Some (print (tree node)) };
+
+    fn fmt<W: fmt::Write>(&self, f: &mut fmt::Formatter<W>) -> fmt::Result {
+        write_node(self, f)
+    }
+}
+
+/// Nodes side by side.
+#[derive(Drop)]
+pub(crate) struct Nodes<'a>(pub(crate) &'a [Node]);
+
+impl fmt::Display for Nodes<'_> {
+    ghost output = { λ nodes. Some (prints (trees nodes.0.now)) };
+
+    fn fmt<W: fmt::Write>(&self, f: &mut fmt::Formatter<W>) -> fmt::Result {
+        write_all(self.0, f)
+    }
+}
+
+fn write_all<W: fmt::Write>(nodes: &[Node], f: &mut fmt::Formatter<W>) -> fmt::Result
+    ensures { WritesOnOk W.write_str_gives f.old result (prints (trees nodes.now)) f.new }
+{
+    for node in nodes {
+        write_node(node, f)?;
+    }
+    Ok(())
+}
+
+fn write_node<W: fmt::Write>(node: &Node, f: &mut fmt::Formatter<W>) -> fmt::Result
+    ensures { WritesOnOk W.write_str_gives f.old result (print (tree node.now)) f.new }
+{
+    match node {
+        Node::Number(digits) => write_text("<mn>", digits, "</mn>", f),
+        Node::Letter(c, Variant::Italic) => write_char("<mi>", *c, "</mi>", f),
+        Node::Letter(c, variant) => write_letter(*c, *variant, "</mi>", f),
+        Node::Operator(c) => write_operator(*c, f),
+        Node::OtherOperator(text) => write_text("<mo>", text, "</mo>", f),
+        Node::Ampersand => f.write_str("<mtext>[PARSE ERROR: Ampersand]</mtext>"),
+        Node::Undefined(text) => write_undefined(text, f),
+    }
+}
+
+/// Writes a text as contents, between two tags.
+fn write_text<W: fmt::Write>(before: &str, text: &str, after: &str, f: &mut fmt::Formatter<W>) -> fmt::Result
+    ensures { WritesOnOk W.write_str_gives f.old result (before.now ++ (content text.now ++ after.now)) f.new }
+{
+    f.write_str(before)?;
+    write_content(text, f)?;
+    f.write_str(after)
+}
+
+/// Writes a character as contents, between two tags.
+fn write_char<W: fmt::Write>(before: &str, c: char, after: &str, f: &mut fmt::Formatter<W>) -> fmt::Result
+    ensures { WritesOnOk W.write_str_gives f.old result (before.now ++ (content_char c ++ after.now)) f.new }
+{
+    f.write_str(before)?;
+    write_content_char(c, f)?;
+    f.write_str(after)
+}
+
+/// Writes a letter with its style, and what stands after it.
+fn write_letter<W: fmt::Write>(c: char, variant: Variant, after: &str, f: &mut fmt::Formatter<W>) -> fmt::Result
+    ensures { WritesOnOk W.write_str_gives f.old result (codes "<mi mathvariant=\"" ++ (variant_text variant ++ (codes "\">" ++ (content_char c ++ after.now)))) f.new }
+{
+    write!(f, "<mi mathvariant=\"{variant}\">")?;
+    write_content_char(c, f)?;
+    f.write_str(after)
+}
+
+fn write_operator<W: fmt::Write>(c: char, f: &mut fmt::Formatter<W>) -> fmt::Result
+    ensures { WritesOnOk W.write_str_gives f.old result (operator_print c) f.new }
+{
+    if c == '∂' {
+        f.write_str("<mo mathvariant=\"italic\">∂</mo>")
+    } else {
+        write_char("<mo>", c, "</mo>", f)
+    }
+}
+
+fn write_undefined<W: fmt::Write>(text: &str, f: &mut fmt::Formatter<W>) -> fmt::Result
+    ensures { WritesOnOk W.write_str_gives f.old result (error_print (codes "Undefined(" ++ (quoted text.now ++ codes ")"))) f.new }
+{
+    f.write_str("<mtext>[PARSE ERROR: Undefined(\"")?;
+    write_quoted(text, f)?;
+    f.write_str("\")]</mtext>")
+}
+
+/// Writes what stands between the quotation marks of a text in quotes, as contents.
+fn write_quoted<W: fmt::Write>(text: &str, f: &mut fmt::Formatter<W>) -> fmt::Result
+    ensures { WritesOnOk W.write_str_gives f.old result (content (flat_map quoted_byte text.now)) f.new }
+{
+    for c in text.chars() {
+        write_quoted_char(c, f)?;
+    }
+    Ok(())
+}
+
+fn write_quoted_char<W: fmt::Write>(c: char, f: &mut fmt::Formatter<W>) -> fmt::Result
+    ensures { WritesOnOk W.write_str_gives f.old result (content (flat_map quoted_byte (encode_utf8 c))) f.new }
+{
+    match c {
+        '"' => f.write_str("\\\""),
+        '\\' => f.write_str("\\\\"),
+        _ => write_content_char(c, f),
+    }
+}
+
+fn write_content<W: fmt::Write>(text: &str, f: &mut fmt::Formatter<W>) -> fmt::Result
+    ensures { WritesOnOk W.write_str_gives f.old result (content text.now) f.new }
+{
+    for c in text.chars() {
+        write_content_char(c, f)?;
+    }
+    Ok(())
+}
+
+fn write_content_char<W: fmt::Write>(c: char, f: &mut fmt::Formatter<W>) -> fmt::Result
+    ensures { WritesOnOk W.write_str_gives f.old result (content_char c) f.new }
+{
+    match c {
+        '&' => f.write_str("&amp;"),
+        '<' => f.write_str("&lt;"),
+        '>' => f.write_str("&gt;"),
+        _ => f.write_char(c),
+    }
+}

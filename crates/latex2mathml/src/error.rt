@@ -1,0 +1,113 @@
+//! Why a formula is refused, and why a reading or a writing stopped.
+ghost use Rattle.std.specs.Prelude.{◌≡◌, ◌↔◌, Some, IsTrue, IfOk};
+ghost use Rattle.latex2mathml.specs.Discreteness.{optional_refusal-discrete, same_refusal};
+ghost use Rattle.latex2mathml.specs.Faults.{fault_text};
+ghost use Rattle.latex2mathml.specs.Refusal.{error_text, refusal_of};
+ghost use Rattle.latex2mathml.specs.Same.{same_laws};
+ghost use Rattle.latex2mathml.specs.declared.error.LatexError.TheVariants.{OutOfMemory};
+
+use std::alloc::{AllocError, AllocFailed, Global};
+use std::error::Error;
+use std::fmt;
+
+/// Why a formula is refused.
+#[derive(Debug, Drop)]
+pub enum LatexError {
+    /// Memory could not be found. It may stand in place of any other answer.
+    OutOfMemory,
+}
+
+impl LatexError {
+    /// An error with the same contents.
+    pub fn clone(&self, alloc: Global) -> Result<LatexError, AllocError>
+        ensures { IfOk result (λ copy. refusal_of copy ≡ refusal_of self.now) }
+    {
+        let _ = alloc;
+        match self {
+            LatexError::OutOfMemory => Ok(LatexError::OutOfMemory),
+        }
+    }
+}
+
+/// Two errors are equal where their contents are.
+impl PartialEq for LatexError {
+    ghost eq = { λ a b. same_refusal (refusal_of a) (refusal_of b) };
+
+    ghost laws = { same_laws optional_refusal-discrete refusal_of };
+
+    fn eq(&self, other: &LatexError) -> bool
+        ensures answer { result ≡ same_refusal (refusal_of self.now) (refusal_of other.now) }
+        ensures contents { IsTrue result ↔ (refusal_of self.now ≡ refusal_of other.now) }
+    {
+        match self {
+            LatexError::OutOfMemory => matches!(other, LatexError::OutOfMemory),
+        }
+    }
+}
+
+/// Prints the text of the refusal.
+impl fmt::Display for LatexError {
+    ghost output = { λ error. Some (error_text (refusal_of error)) };
+
+    fn fmt<W: fmt::Write>(&self, f: &mut fmt::Formatter<W>) -> fmt::Result {
+        match self {
+            LatexError::OutOfMemory => f.write_str("Memory could not be found."),
+        }
+    }
+}
+
+impl Error for LatexError {}
+
+impl From<AllocError> for LatexError {
+    ghost from_gives = { λ _ error. error ≡ OutOfMemory };
+
+    fn from(_refused: AllocError) -> LatexError {
+        LatexError::OutOfMemory
+    }
+}
+
+impl<T: Drop> From<AllocFailed<T>> for LatexError {
+    ghost from_gives = { λ _ error. error ≡ OutOfMemory };
+
+    fn from(_refused: AllocFailed<T>) -> LatexError {
+        LatexError::OutOfMemory
+    }
+}
+
+/// Why a writing stopped.
+#[derive(Debug, Clone, Copy, PartialEq)]
+pub enum WriteCause {
+    /// The sink failed.
+    Failed,
+    /// The sink took no byte, though there were some to take.
+    TookNothing,
+}
+
+/// Why what was to be converted was not, or not written whole.
+#[derive(Debug, Drop, PartialEq)]
+pub enum FileFault {
+    /// The input could not be read.
+    Read,
+    /// The input is not UTF-8.
+    NotText,
+    /// The input was refused.
+    Refused(LatexError),
+    /// The output took its first `written` bytes and stopped.
+    Write { written: usize, cause: WriteCause },
+}
+
+/// Prints the text of the fault.
+impl fmt::Display for FileFault {
+    ghost output = { λ fault. Some (fault_text fault) };
+
+    fn fmt<W: fmt::Write>(&self, f: &mut fmt::Formatter<W>) -> fmt::Result {
+        match self {
+            FileFault::Read => f.write_str("The input could not be read."),
+            FileFault::NotText => f.write_str("The input is not UTF-8 text."),
+            FileFault::Refused(error) => write!(f, "{error}"),
+            FileFault::Write { written, cause: _ } => write!(f, "The output stopped after {written} bytes."),
+        }
+    }
+}
+
+impl Error for FileFault {}
