@@ -1,0 +1,57 @@
+//! Converts a formula on standard input to MathML on standard output.
+#![tactic(auto)]
+
+mod job;
+mod serve;
+
+use latex2mathml::{LatexError, Stream};
+use std::io::{ErrorKind, Write};
+use std::process::ExitCode;
+use std::{env, io};
+
+/// The words after the program's name. Where one of them is no text there are none.
+fn words(rt: &HostRuntime) -> io::Result<Vec<String>> {
+    let words = env::args(rt);
+    match words {
+        Ok(words) => Ok(words.skip(1).collect(rt.alloc())?),
+        Err(fault) if fault.kind() == ErrorKind::OutOfMemory => Err(fault),
+        Err(_) => Ok(Vec::new(rt.alloc())),
+    }
+}
+
+fn main(rt: HostRuntime) -> ExitCode {
+    let Ok(words) = words(&rt) else {
+        let _ = eprintln!(rt; "LaTeX2MathML Error: {}", LatexError::OutOfMemory);
+        return ExitCode::from(1);
+    };
+    let mut input = Stream {
+        inner: rt.stdin(),
+        failed: false,
+        ended: false,
+    };
+    let mut output = Stream {
+        inner: rt.stdout(),
+        failed: false,
+        ended: false,
+    };
+    let mut errors = Stream {
+        inner: rt.stderr(),
+        failed: false,
+        ended: false,
+    };
+    let status = serve::serve(
+        &rt,
+        rt.alloc(),
+        words.as_slice(),
+        &mut input,
+        &mut output,
+        &mut errors,
+    );
+    if status == 0 && output.inner.flush().is_err() {
+        return ExitCode::from(1);
+    }
+    ExitCode::from(status)
+}
+
+#[cfg(test)]
+mod tests;

@@ -1,0 +1,111 @@
+//! Nodes made by hand: their markup, their copies and their equality.
+
+use latex2mathml::ast::Node;
+use latex2mathml::attribute::Variant;
+use std::alloc::{AllocError, Global};
+use std::test::Fail;
+
+fn prints(alloc: Global, node: &Node, markup: &str) -> Result<bool, AllocError> {
+    let printed = node.to_string(alloc)?;
+    Ok(printed.as_str() == markup)
+}
+
+fn number(alloc: Global, digits: &str) -> Result<Node, AllocError> {
+    Ok(Node::Number(String::from_str(alloc, digits)?))
+}
+
+fn undefined(alloc: Global, text: &str) -> Result<Node, AllocError> {
+    Ok(Node::Undefined(String::from_str(alloc, text)?))
+}
+
+#[test]
+fn each_kind_prints(rt: HostRuntime) -> Result<(), Fail> {
+    let alloc = rt.alloc();
+    assert!(rt; prints(alloc, &number(alloc, "3.14")?, "<mn>3.14</mn>")?);
+    assert!(rt; prints(alloc, &number(alloc, "<&>\"'")?, "<mn>&lt;&amp;&gt;\"'</mn>")?);
+    assert!(rt; prints(alloc, &Node::OtherOperator("⟨"), "<mo>⟨</mo>")?);
+    assert!(rt; prints(alloc, &Node::OtherOperator("a<b"), "<mo>a&lt;b</mo>")?);
+    assert!(rt; prints(alloc, &Node::Ampersand, "<mtext>[PARSE ERROR: Ampersand]</mtext>")?);
+    Ok(())
+}
+
+#[test]
+fn undefined_prints(rt: HostRuntime) -> Result<(), Fail> {
+    let alloc = rt.alloc();
+    for (text, markup) in [
+        ("", "<mtext>[PARSE ERROR: Undefined(\"\")]</mtext>"),
+        ("<", "<mtext>[PARSE ERROR: Undefined(\"&lt;\")]</mtext>"),
+        ("\"", "<mtext>[PARSE ERROR: Undefined(\"\\\"\")]</mtext>"),
+        ("\\&", "<mtext>[PARSE ERROR: Undefined(\"\\\\&amp;\")]</mtext>"),
+        ("'é\u{1}", "<mtext>[PARSE ERROR: Undefined(\"'é\u{1}\")]</mtext>"),
+    ] {
+        assert!(rt; prints(alloc, &undefined(alloc, text)?, markup)?, "{text}");
+    }
+    Ok(())
+}
+
+#[test]
+fn letters_print(rt: HostRuntime) -> Result<(), Fail> {
+    for (c, variant, markup) in [
+        ('x', Variant::Italic, "<mi>x</mi>"),
+        ('α', Variant::Italic, "<mi>α</mi>"),
+        ('あ', Variant::Normal, "<mi mathvariant=\"normal\">あ</mi>"),
+        ('<', Variant::Bold, "<mi mathvariant=\"bold\">&lt;</mi>"),
+        ('&', Variant::Italic, "<mi>&amp;</mi>"),
+    ] {
+        assert!(rt; prints(rt.alloc(), &Node::Letter(c, variant), markup)?, "{c}");
+    }
+    Ok(())
+}
+
+#[test]
+fn operators_print(rt: HostRuntime) -> Result<(), Fail> {
+    for (c, markup) in [
+        ('+', "<mo>+</mo>"),
+        ('>', "<mo>&gt;</mo>"),
+        ('∑', "<mo>∑</mo>"),
+        ('∂', "<mo mathvariant=\"italic\">∂</mo>"),
+    ] {
+        assert!(rt; prints(rt.alloc(), &Node::Operator(c), markup)?, "{c}");
+    }
+    Ok(())
+}
+
+/// One node of each kind, and beside each one that differs in its contents alone.
+fn samples(alloc: Global) -> Result<Vec<Node>, Fail> {
+    Ok(vec![in alloc;
+        number(alloc, "1")?,
+        number(alloc, "2")?,
+        Node::Letter('x', Variant::Italic),
+        Node::Letter('x', Variant::Bold),
+        Node::Letter('y', Variant::Italic),
+        Node::Operator('+'),
+        Node::Operator('-'),
+        Node::OtherOperator("("),
+        Node::OtherOperator(")"),
+        Node::Ampersand,
+        undefined(alloc, "1")?,
+        undefined(alloc, "2")?
+    ]?)
+}
+
+#[test]
+fn copies_are_equal(rt: HostRuntime) -> Result<(), Fail> {
+    let nodes = samples(rt.alloc())?;
+    for node in &nodes {
+        let copy = node.clone(rt.alloc())?;
+        assert!(rt; copy == *node);
+    }
+    Ok(())
+}
+
+#[test]
+fn different_nodes_differ(rt: HostRuntime) -> Result<(), Fail> {
+    let nodes = samples(rt.alloc())?;
+    for (i, a) in nodes.iter().enumerate() {
+        for (j, b) in nodes.iter().enumerate() {
+            assert!(rt; (*a == *b) == (i == j), "{i} {j}");
+        }
+    }
+    Ok(())
+}
