@@ -1,5 +1,5 @@
 -- A search for the first character outside a class splits off the longest run.
-use Rattle.std.proofs.Common.{◌≡◌, ℕ, Bool, true, false, not, List, [], ◌∷◌, take, drop, refl, sym, ap, ◌∙◌, take-append-drop, append-nil}
+use Rattle.std.proofs.Common.{◌≡◌, ℕ, Bool, not, List, [], ◌∷◌, take, drop, sym, ap, ◌∙◌, take-append-drop, append-nil}
 use Rattle.std.specs.Str.{chars, IsUtf8, NoCharPasses, NonePass, IsCharBoundary}
 use Rattle.std.specs.Str.Pattern.{HasPassingCharAt}
 use Rattle.std.proofs.lemmas.Bool.{not-false, not-true}

@@ -1,5 +1,5 @@
 -- What each branch of the lexer has read is a slice that spells its token.
-use Rattle.std.proofs.Common.{◌≡◌, ℕ, ◌≤◌, Bool, true, false, ◌&&◌, ◌==◌, List, [], ◌∷◌, ◌++◌, refl, sym, ap, subst, ◌∙◌, arith, append_assoc, append-nil, length}
+use Rattle.std.proofs.Common.{◌≡◌, ℕ, ◌≤◌, Bool, true, false, ◌==◌, List, [], ◌∷◌, ◌++◌, refl, sym, ap, subst, ◌∙◌, arith, append_assoc, append-nil, length}
 use Rattle.std.proofs.lemmas.Bool.Decides.{nat_tests}
 use Rattle.std.proofs.lemmas.Str.{encodes-chars, encodes-append, length-le-encodes, encode_ascii}
 use Rattle.std.specs.Char.{encode_utf8, is_ascii_digit, is_ascii_alphabetic}
@@ -7,7 +7,7 @@ use Rattle.std.specs.Str.{chars, encode_utf8_all, IsUtf8}
 use Rattle.latex2mathml.specs.Characters.{Each, Stops, head, IsRun, is_space, is_empty}
 use Rattle.latex2mathml.specs.Commands.{command_token}
 use Rattle.latex2mathml.specs.Lexing.{Begins, BeginsWith, IsStep}
-use Rattle.latex2mathml.specs.Spelling.{SpellsAt, is_period, is_equals_sign, begins_longer, character_token, character, colon, colon_equals, number, symbol_command, letter_command, lone_backslash}
+use Rattle.latex2mathml.specs.Spelling.{is_period, is_equals_sign, begins_longer, character_token, character, colon, colon_equals, number, symbol_command, letter_command, lone_backslash}
 use Rattle.latex2mathml.specs.Tok.{Tok, Number, Command, Paren, Operator}
 use Rattle.latex2mathml.proofs.Numbers.{number_whole, number_parts}
 

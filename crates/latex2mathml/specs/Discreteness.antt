@@ -1,5 +1,5 @@
 -- Tokens, trees and refusals can be told apart: of any two it is known whether they are one value.
-use Rattle.std.specs.Prelude.{◌≡◌, ℕ, zero, suc, ◌==◌, Bool, true, false, Option, refl, if◌then◌else◌}
+use Rattle.std.specs.Prelude.{◌≡◌, ℕ, zero, suc, ◌==◌, Bool, Option, refl, if◌then◌else◌}
 use mathlib.Core.Bool.{Bool-discrete}
 use mathlib.Core.HLevel.{Discrete}
 use mathlib.Core.List.{List-discrete}

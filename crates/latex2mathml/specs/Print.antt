@@ -1,5 +1,5 @@
 -- The markup of a tree.
-use Rattle.std.specs.Prelude.{ℕ, Bool, List, [], ◌++◌, Option, Some, None, if◌then◌else◌, ◌==◌, codes}
+use Rattle.std.specs.Prelude.{ℕ, List, [], ◌++◌, Option, Some, None, if◌then◌else◌, ◌==◌, codes}
 use Rattle.latex2mathml.specs.Attributes.{accent_text, align_text, bool_text, thickness_text, variant_text}
 use Rattle.latex2mathml.specs.Escape.{content, content_char, quoted, value}
 use Rattle.latex2mathml.specs.Tree.{Tree, Trees, number, letter, operator, function, applied, space, subscript, superscript, sub_sup, over_op, under_op, overset, underset, under, under_over, root, sqrt, frac, row, fenced, stretched, other_operator, sized_paren, words, matrix, ampersand, new_line, slashed, style, undefined, no_trees, more_trees}

@@ -59,7 +59,8 @@ fn same_contents(a: &Node, b: &Node) -> bool
 {
     match a {
         Node::Number(digits) => matches!(b, Node::Number(other) if digits == other),
-        Node::Letter(c, variant) => matches!(b, Node::Letter(d, other) if c == d && variant == other),
+        Node::Letter(c, variant) =>
+            matches!(b, Node::Letter(d, other) if c == d && variant == other),
         Node::Operator(c) => matches!(b, Node::Operator(d) if c == d),
         Node::OtherOperator(text) => matches!(b, Node::OtherOperator(other) if text == other),
         Node::Ampersand => matches!(b, Node::Ampersand),

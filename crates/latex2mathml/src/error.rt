@@ -105,7 +105,10 @@ impl fmt::Display for FileFault {
             FileFault::Read => f.write_str("The input could not be read."),
             FileFault::NotText => f.write_str("The input is not UTF-8 text."),
             FileFault::Refused(error) => write!(f, "{error}"),
-            FileFault::Write { written, cause: _ } => write!(f, "The output stopped after {written} bytes."),
+            FileFault::Write { written, cause: _ } => write!(
+                f,
+                "The output stopped after {written} bytes."
+            ),
         }
     }
 }

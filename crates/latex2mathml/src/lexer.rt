@@ -31,7 +31,8 @@ pub(crate) fn tokens(alloc: Global, text: &str) -> Result<Vec<Token>, AllocError
 
 /// The next token of the text and what follows it, or that only white space is left.
 fn next_token(alloc: Global, text: &str) -> Result<Option<(Token, &str)>, AllocError>
-    ensures token { IfOk result (λ found. MatchOption found (Each is_space (chars text.now)) (λ step. IsStep false (chars text.now) (tok step.0) (chars step.1.now))) }
+    ensures token { IfOk result (λ found. MatchOption found (Each is_space (chars text.now))
+        (λ step. IsStep false (chars text.now) (tok step.0) (chars step.1.now))) }
     ensures utf8 { IfOk result (λ found. IfSome found (λ step. IsUtf8 step.1.now)) }
 {
     let (_, start) = split_run(Class::Space, text);
@@ -45,10 +46,16 @@ fn next_token(alloc: Global, text: &str) -> Result<Option<(Token, &str)>, AllocE
 }
 
 /// The token at the start of the text and what follows it, where the text is c and after.
-fn token_at<'a>(alloc: Global, text: &'a str, c: char, after: &'a str) -> Result<(Token, &'a str), AllocError>
+fn token_at<'a>(
+    alloc: Global,
+    text: &'a str,
+    c: char,
+    after: &'a str,
+) -> Result<(Token, &'a str), AllocError>
     requires starts { chars text.now ≡ c ∷ chars after.now }
     requires dark { is_space c ≡ false }
-    ensures token { IfOk result (λ step. BeginsWith false (chars text.now) (tok step.0) (chars step.1.now)) }
+    ensures token { IfOk result (λ step.
+        BeginsWith false (chars text.now) (tok step.0) (chars step.1.now)) }
     ensures utf8 { IfOk result (λ step. IsUtf8 step.1.now) }
 {
     if c.is_ascii_digit() {
@@ -74,7 +81,8 @@ fn character(c: char) -> Token
     ensures { tok result ≡ character_token c }
 {
     match c {
-        '=' | ';' | ',' | '.' | '\'' | '+' | '-' | '*' | '/' | '!' | '<' | '>' => Token::Operator(c),
+        '=' | '<' | '>' | '+' | '-' | '*' | '/' => Token::Operator(c),
+        ';' | ',' | '.' | '!' | '\'' => Token::Operator(c),
         '(' => Token::Paren("("),
         ')' => Token::Paren(")"),
         '[' => Token::Paren("["),
@@ -94,13 +102,18 @@ fn character(c: char) -> Token
 fn variant_of(c: char) -> Variant
     ensures { result ≡ (if is_ascii_alphabetic c then Italic else Normal) }
 {
-    if c.is_ascii_alphabetic() { Variant::Italic } else { Variant::Normal }
+    if c.is_ascii_alphabetic() {
+        Variant::Italic
+    } else {
+        Variant::Normal
+    }
 }
 
 /// The number at the start of the text, and what follows it.
 fn number(alloc: Global, text: &str) -> Result<(Token, &str), AllocError>
     requires { Begins is_ascii_digit (chars text.now) }
-    ensures token { IfOk result (λ step. BeginsWith false (chars text.now) (tok step.0) (chars step.1.now)) }
+    ensures token { IfOk result (λ step.
+        BeginsWith false (chars text.now) (tok step.0) (chars step.1.now)) }
     ensures utf8 { IfOk result (λ step. IsUtf8 step.1.now) }
 {
     let (whole, rest) = split_run(Class::Digit, text);
@@ -118,7 +131,8 @@ fn number(alloc: Global, text: &str) -> Result<(Token, &str), AllocError>
 
 /// The command whose backslash stands before the text, and what follows it.
 fn command(alloc: Global, text: &str) -> Result<(Token, &str), AllocError>
-    ensures token { IfOk result (λ step. (alone : Bool) → BeginsWith alone (92 ∷ chars text.now) (tok step.0) (chars step.1.now)) }
+    ensures token { IfOk result (λ step. (alone : Bool) →
+        BeginsWith alone (92 ∷ chars text.now) (tok step.0) (chars step.1.now)) }
     ensures utf8 { IfOk result (λ step. IsUtf8 step.1.now) }
 {
     let (letters, rest) = split_run(Class::Letter, text);

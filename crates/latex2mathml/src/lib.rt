@@ -17,10 +17,9 @@ mod stream;
 pub mod token;
 
 pub use error::{FileFault, LatexError, WriteCause};
-pub use stream::{Sink, Source, Stream, write_document};
-
 use std::alloc::Global;
 use std::fmt;
+pub use stream::{Sink, Source, Stream, write_document};
 
 /// How a formula is set: in a block of its own, or in a line of text.
 #[derive(Debug, Clone, Copy, PartialEq, Eq)]
@@ -51,12 +50,21 @@ impl fmt::Display for DisplayStyle {
 ///
 /// `x<y`, inline, is `<math xmlns="http://www.w3.org/1998/Math/MathML" display="inline"><mi>x</mi><mo>&lt;</mo><mi>y</mi></math>`.
 #[tactic(auto, unfolding(crate::specs::Rendering::IsRendering))]
-pub fn latex_to_mathml(alloc: Global, latex: &str, display: DisplayStyle) -> Result<String, LatexError>
-    ensures rendering { IfOk result (λ markup. IsRendering latex.now display (string_bytes markup)) }
-    ensures refusal { IfErr result (λ error. IfSome (refusal_of error) (IsFormulaRefusal latex.now)) }
+pub fn latex_to_mathml(
+    alloc: Global,
+    latex: &str,
+    display: DisplayStyle,
+) -> Result<String, LatexError>
+    ensures rendering { IfOk result (λ markup.
+        IsRendering latex.now display (string_bytes markup)) }
+    ensures refusal { IfErr result (λ error.
+        IfSome (refusal_of error) (IsFormulaRefusal latex.now)) }
 {
     let tokens = lexer::tokens(alloc, latex)?;
     let nodes = parse::formula(alloc, tokens)?;
-    let markup = format!(in alloc; "<math xmlns=\"http://www.w3.org/1998/Math/MathML\" display=\"{display}\">{}</math>", ast::print::Nodes(&nodes))?;
+    let markup = format!(in alloc;
+        "<math xmlns=\"http://www.w3.org/1998/Math/MathML\" display=\"{display}\">{}</math>",
+        ast::print::Nodes(&nodes)
+    )?;
     Ok(markup)
 }

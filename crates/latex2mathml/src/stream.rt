@@ -23,7 +23,8 @@ pub trait Source {
         requires unfailed { IsFalse (has_failed self.old) }
         requires unended { IsFalse (has_ended self.old) }
         ensures bound { IfSome result (λ n. n ≤ length room.new) }
-        ensures bytes { MatchOption result (Keeps (remaining self.old) (remaining self.new)) (λ n. Consumes (remaining self.old) (remaining self.new) (take n room.new)) }
+        ensures bytes { MatchOption result (Keeps (remaining self.old) (remaining self.new))
+            (λ n. Consumes (remaining self.old) (remaining self.new) (take n room.new)) }
         ensures failed { has_failed self.new ≡ is_none result }
         ensures ended { has_ended self.new ≡ meets_end result (length room.old) }
         ensures end { IsTrue (has_ended self.new) → IsAtEnd (remaining self.new) };
@@ -46,7 +47,8 @@ pub trait Sink {
         requires unfailed { IsFalse (has_failed self.old) }
         requires unended { IsFalse (has_ended self.old) }
         ensures bound { IfSome result (λ n. n ≤ length bytes.now) }
-        ensures bytes { MatchOption result (Keeps (taken self.old) (taken self.new)) (λ n. Appends (taken self.old) (taken self.new) (take n bytes.now)) }
+        ensures bytes { MatchOption result (Keeps (taken self.old) (taken self.new))
+            (λ n. Appends (taken self.old) (taken self.new) (take n bytes.now)) }
         ensures failed { has_failed self.new ≡ is_none result }
         ensures ended { has_ended self.new ≡ meets_end result (length bytes.now) };
 }
@@ -113,8 +115,11 @@ pub fn write_document<S: Sink>(writer: &mut S, text: &str) -> Result<(), FileFau
     requires unfailed { IsFalse (S.has_failed writer.old) }
     requires unended { IsFalse (S.has_ended writer.old) }
     ensures taken { OnOk result (Appends (S.taken writer.old) (S.taken writer.new) text.now) }
-    ensures ready { OnOk result (IsFalse (S.has_failed writer.new) × IsFalse (S.has_ended writer.new)) }
-    ensures stopped { IfErr result (λ fault. Stops fault text.now (S.taken writer.old) (S.taken writer.new) (S.has_failed writer.new) (S.has_ended writer.new)) }
+    ensures ready { OnOk result
+        (IsFalse (S.has_failed writer.new) × IsFalse (S.has_ended writer.new)) }
+    ensures stopped { IfErr result (λ fault.
+        Stops fault text.now (S.taken writer.old) (S.taken writer.new)
+        (S.has_failed writer.new) (S.has_ended writer.new)) }
 {
     let bytes = text.as_bytes();
     let mut written = 0;

@@ -99,7 +99,8 @@ fn same_contents(a: &Token, b: &Token) -> bool
         Token::Underscore => matches!(b, Token::Underscore),
         Token::Circumflex => matches!(b, Token::Circumflex),
         Token::Operator(c) => matches!(b, Token::Operator(d) if c == d),
-        Token::Letter(c, variant) => matches!(b, Token::Letter(d, other) if c == d && variant == other),
+        Token::Letter(c, variant) =>
+            matches!(b, Token::Letter(d, other) if c == d && variant == other),
         Token::Number(digits) => matches!(b, Token::Number(other) if digits == other),
         Token::Command(name) => matches!(b, Token::Command(other) if name == other),
     }

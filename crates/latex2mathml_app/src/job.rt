@@ -49,7 +49,10 @@ pub fn run<R: Source, W: Sink>(
     requires input_unended { IsFalse (R.has_ended input.old) }
     requires output_unfailed { IsFalse (W.has_failed output.old) }
     requires output_unended { IsFalse (W.has_ended output.old) }
-    ensures { (bytes : List ℕ) × Consumes (R.remaining input.old) (R.remaining input.new) bytes × IsRun job bytes (R.has_failed input.new) (R.has_ended input.new) (W.taken output.old) (W.taken output.new) (W.has_failed output.new) (W.has_ended output.new) result }
+    ensures { (bytes : List ℕ) × Consumes (R.remaining input.old) (R.remaining input.new) bytes
+        × IsRun job bytes (R.has_failed input.new) (R.has_ended input.new)
+        (W.taken output.old) (W.taken output.new)
+        (W.has_failed output.new) (W.has_ended output.new) result }
 {
     let line = make(alloc, job, input)?;
     write_document(output, line.as_str())
@@ -59,7 +62,8 @@ pub fn run<R: Source, W: Sink>(
 fn make<S: Source>(alloc: Global, job: Job, source: &mut S) -> Result<String, FileFault>
     requires unfailed { IsFalse (S.has_failed source.old) }
     requires unended { IsFalse (S.has_ended source.old) }
-    ensures { (bytes : List ℕ) × Consumes (S.remaining source.old) (S.remaining source.new) bytes × IsMade job bytes (S.has_failed source.new) (S.has_ended source.new) result }
+    ensures { (bytes : List ℕ) × Consumes (S.remaining source.old) (S.remaining source.new) bytes
+        × IsMade job bytes (S.has_failed source.new) (S.has_ended source.new) result }
 {
     let bytes = read_whole(alloc, source)?;
     let Ok(text) = String::from_utf8(bytes) else {
@@ -74,7 +78,8 @@ fn make<S: Source>(alloc: Global, job: Job, source: &mut S) -> Result<String, Fi
 /// The markup of a formula, and a line feed.
 fn line(alloc: Global, latex: &str, display: DisplayStyle) -> Result<String, LatexError>
     ensures line { IfOk result (λ line. IsLine latex.now display (string_bytes line)) }
-    ensures refusal { IfErr result (λ error. IfSome (refusal_of error) (IsFormulaRefusal latex.now)) }
+    ensures refusal { IfErr result (λ error.
+        IfSome (refusal_of error) (IsFormulaRefusal latex.now)) }
 {
     let mut markup = latex_to_mathml(alloc, latex, display)?;
     markup.push('\n')?;
@@ -85,8 +90,12 @@ fn line(alloc: Global, latex: &str, display: DisplayStyle) -> Result<String, Lat
 fn read_whole<S: Source>(alloc: Global, source: &mut S) -> Result<Vec<u8>, FileFault>
     requires unfailed { IsFalse (S.has_failed source.old) }
     requires unended { IsFalse (S.has_ended source.old) }
-    ensures whole { IfOk result (λ bytes. Consumes (S.remaining source.old) (S.remaining source.new) bytes.items × IsFalse (S.has_failed source.new) × IsTrue (S.has_ended source.new)) }
-    ensures fault { IfErr result (λ fault. ((bytes : List ℕ) × Consumes (S.remaining source.old) (S.remaining source.new) bytes) × IsReadFault fault (S.has_failed source.new)) }
+    ensures whole { IfOk result (λ bytes.
+        Consumes (S.remaining source.old) (S.remaining source.new) bytes.items
+        × IsFalse (S.has_failed source.new) × IsTrue (S.has_ended source.new)) }
+    ensures fault { IfErr result (λ fault.
+        ((bytes : List ℕ) × Consumes (S.remaining source.old) (S.remaining source.new) bytes)
+        × IsReadFault fault (S.has_failed source.new)) }
 {
     let mut bytes = Vec::new(alloc);
     let mut room = [0u8; ROOM];

@@ -64,13 +64,20 @@ fn stream<T>(inner: T) -> Stream<T>
     }
 }
 
-const INLINE: &str = "<math xmlns=\"http://www.w3.org/1998/Math/MathML\" display=\"inline\"><mi>x</mi><mo>&lt;</mo><mi>y</mi></math>\n";
+const INLINE: &str =
+    "<math xmlns=\"http://www.w3.org/1998/Math/MathML\" display=\"inline\"><mi>x</mi><mo>&lt;</mo><mi>y</mi></math>\n";
 
-const BLOCK: &str = "<math xmlns=\"http://www.w3.org/1998/Math/MathML\" display=\"block\"><mi>x</mi><mo>&lt;</mo><mi>y</mi></math>\n";
+const BLOCK: &str =
+    "<math xmlns=\"http://www.w3.org/1998/Math/MathML\" display=\"block\"><mi>x</mi><mo>&lt;</mo><mi>y</mi></math>\n";
 
 /// What the output holds after a run whose input gives one byte a call and fails after so many calls, and how the run
 /// ended.
-fn read_by_bytes(alloc: Global, job: Job, bytes: &[u8], calls: usize) -> (Vec<u8>, Result<(), FileFault>) {
+fn read_by_bytes(
+    alloc: Global,
+    job: Job,
+    bytes: &[u8],
+    calls: usize,
+) -> (Vec<u8>, Result<(), FileFault>) {
     let mut input = stream(Reader {
         bytes,
         step: 1,
@@ -83,7 +90,12 @@ fn read_by_bytes(alloc: Global, job: Job, bytes: &[u8], calls: usize) -> (Vec<u8
 
 /// What the output holds after a run whose output takes one byte a call and fails after so many calls, and how the run
 /// ended.
-fn written_by_bytes(alloc: Global, job: Job, bytes: &[u8], calls: usize) -> (Vec<u8>, Result<(), FileFault>) {
+fn written_by_bytes(
+    alloc: Global,
+    job: Job,
+    bytes: &[u8],
+    calls: usize,
+) -> (Vec<u8>, Result<(), FileFault>) {
     let mut input = stream(bytes);
     let mut output = stream(Writer {
         held: Vec::new(alloc),
@@ -106,7 +118,11 @@ fn runs(rt: HostRuntime) -> Result<(), Fail> {
 /// Nothing is written where the bytes are no text.
 #[test]
 fn refuses_what_is_no_text(rt: HostRuntime) -> Result<(), Fail> {
-    for bytes in [b"\xFF".as_slice(), b"$\xC3".as_slice(), b"\xED\xA0\x80".as_slice()] {
+    for bytes in [
+        b"\xFF".as_slice(),
+        b"$\xC3".as_slice(),
+        b"\xED\xA0\x80".as_slice(),
+    ] {
         let (held, ended) = read_by_bytes(rt.alloc(), Job::Block, bytes, 9);
         assert!(rt; ended == Err(FileFault::NotText));
         assert!(rt; held.is_empty());
@@ -135,7 +151,10 @@ fn output_fails(rt: HostRuntime) -> Result<(), Fail> {
             cause: WriteCause::Failed,
         };
         assert!(rt; ended == Err(fault), "{written}");
-        assert!(rt; held.as_slice() == &INLINE.as_bytes()[..written], "{written}");
+        assert!(rt;
+            held.as_slice() == &INLINE.as_bytes()[..written],
+            "{written}"
+        );
     }
     Ok(())
 }
@@ -150,7 +169,11 @@ fn texts(alloc: Global, words: &[&str]) -> Result<Vec<String>, AllocError> {
 }
 
 /// The status of these words over these bytes, and what the output and the errors hold.
-fn served(rt: &HostRuntime, words: &[&str], bytes: &[u8]) -> Result<(u8, Vec<u8>, Vec<u8>), AllocError> {
+fn served(
+    rt: &HostRuntime,
+    words: &[&str],
+    bytes: &[u8],
+) -> Result<(u8, Vec<u8>, Vec<u8>), AllocError> {
     let alloc = rt.alloc();
     let words = texts(alloc, words)?;
     let mut input = stream(bytes);
@@ -186,6 +209,7 @@ fn refuses_wrong_words(rt: HostRuntime) -> Result<(), Fail> {
     assert!(rt; are_wrong(&rt, &["html", "."])?);
     Ok(())
 }
+
 #[test]
 fn serves(rt: HostRuntime) -> Result<(), Fail> {
     for (word, line) in [("inline", INLINE), ("block", BLOCK)] {
@@ -202,6 +226,8 @@ fn serves_a_refusal(rt: HostRuntime) -> Result<(), Fail> {
     let (status, output, errors) = served(&rt, &["block"], b"\xFF")?;
     assert!(rt; status == 1);
     assert!(rt; output.is_empty());
-    assert!(rt; errors.as_slice() == b"LaTeX2MathML Error: The input is not UTF-8 text.\n".as_slice());
+    assert!(rt;
+        errors.as_slice() == b"LaTeX2MathML Error: The input is not UTF-8 text.\n".as_slice()
+    );
     Ok(())
 }

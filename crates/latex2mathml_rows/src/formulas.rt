@@ -6,7 +6,9 @@ use std::test::Fail;
 
 /// The inline `math` element with these contents.
 pub fn inline(alloc: Global, contents: &str) -> Result<String, AllocError> {
-    format!(in alloc; "<math xmlns=\"http://www.w3.org/1998/Math/MathML\" display=\"inline\">{contents}</math>")
+    format!(in alloc;
+        "<math xmlns=\"http://www.w3.org/1998/Math/MathML\" display=\"inline\">{contents}</math>"
+    )
 }
 
 /// Whether the formula, inline, has these contents.
@@ -19,7 +21,10 @@ pub fn has(alloc: Global, formula: &str, contents: &str) -> Result<bool, Fail> {
 #[test]
 fn empty_formula(rt: HostRuntime) -> Result<(), Fail> {
     let markup = latex_to_mathml(rt.alloc(), "", DisplayStyle::Inline)?;
-    assert!(rt; markup.as_str() == "<math xmlns=\"http://www.w3.org/1998/Math/MathML\" display=\"inline\"></math>");
+    assert!(rt;
+        markup.as_str()
+            == "<math xmlns=\"http://www.w3.org/1998/Math/MathML\" display=\"inline\"></math>"
+    );
     assert!(rt; markup.len() == 73);
     Ok(())
 }
@@ -27,7 +32,10 @@ fn empty_formula(rt: HostRuntime) -> Result<(), Fail> {
 #[test]
 fn block_formula(rt: HostRuntime) -> Result<(), Fail> {
     let markup = latex_to_mathml(rt.alloc(), "x<y", DisplayStyle::Block)?;
-    assert!(rt; markup.as_str() == "<math xmlns=\"http://www.w3.org/1998/Math/MathML\" display=\"block\"><mi>x</mi><mo>&lt;</mo><mi>y</mi></math>");
+    assert!(rt;
+        markup.as_str()
+            == "<math xmlns=\"http://www.w3.org/1998/Math/MathML\" display=\"block\"><mi>x</mi><mo>&lt;</mo><mi>y</mi></math>"
+    );
     Ok(())
 }
 
@@ -40,11 +48,20 @@ fn letters_and_characters(rt: HostRuntime) -> Result<(), Fail> {
         ("Zz", "<mi>Z</mi><mi>z</mi>"),
         ("é", "<mi mathvariant=\"normal\">é</mi>"),
         ("$", "<mi mathvariant=\"normal\">$</mi>"),
-        ("\"~∞", "<mi mathvariant=\"normal\">\"</mi><mi mathvariant=\"normal\">~</mi><mi mathvariant=\"normal\">∞</mi>"),
+        (
+            "\"~∞",
+            "<mi mathvariant=\"normal\">\"</mi><mi mathvariant=\"normal\">~</mi><mi mathvariant=\"normal\">∞</mi>",
+        ),
         ("∂", "<mi mathvariant=\"normal\">∂</mi>"),
-        ("=;,.+-*/!", "<mo>=</mo><mo>;</mo><mo>,</mo><mo>.</mo><mo>+</mo><mo>-</mo><mo>*</mo><mo>/</mo><mo>!</mo>"),
+        (
+            "=;,.+-*/!",
+            "<mo>=</mo><mo>;</mo><mo>,</mo><mo>.</mo><mo>+</mo><mo>-</mo><mo>*</mo><mo>/</mo><mo>!</mo>",
+        ),
         ("'", "<mo>'</mo>"),
-        ("()[]|", "<mo>(</mo><mo>)</mo><mo>[</mo><mo>]</mo><mo>|</mo>"),
+        (
+            "()[]|",
+            "<mo>(</mo><mo>)</mo><mo>[</mo><mo>]</mo><mo>|</mo>",
+        ),
         ("}", "<mtext>[PARSE ERROR: Undefined(\"RBrace\")]</mtext>"),
     ] {
         assert!(rt; has(rt.alloc(), formula, contents)?, "{formula}");
@@ -92,8 +109,14 @@ fn white_space(rt: HostRuntime) -> Result<(), Fail> {
         (" \t\n\r", ""),
         (" a b ", "<mi>a</mi><mi>b</mi>"),
         ("a\rb", "<mi>a</mi><mi>b</mi>"),
-        ("a\u{c}b", "<mi>a</mi><mi mathvariant=\"normal\">\u{c}</mi><mi>b</mi>"),
-        ("a\u{a0}b", "<mi>a</mi><mi mathvariant=\"normal\">\u{a0}</mi><mi>b</mi>"),
+        (
+            "a\u{c}b",
+            "<mi>a</mi><mi mathvariant=\"normal\">\u{c}</mi><mi>b</mi>",
+        ),
+        (
+            "a\u{a0}b",
+            "<mi>a</mi><mi mathvariant=\"normal\">\u{a0}</mi><mi>b</mi>",
+        ),
     ] {
         assert!(rt; has(rt.alloc(), formula, contents)?, "{formula}");
     }
@@ -103,15 +126,42 @@ fn white_space(rt: HostRuntime) -> Result<(), Fail> {
 #[test]
 fn commands_without_a_meaning(rt: HostRuntime) -> Result<(), Fail> {
     for (formula, contents) in [
-        ("\\foo", "<mtext>[PARSE ERROR: Undefined(\"Command(\\\"foo\\\")\")]</mtext>"),
-        ("\\foo1", "<mtext>[PARSE ERROR: Undefined(\"Command(\\\"foo\\\")\")]</mtext><mn>1</mn>"),
-        ("\\fooé", "<mtext>[PARSE ERROR: Undefined(\"Command(\\\"foo\\\")\")]</mtext><mi mathvariant=\"normal\">é</mi>"),
-        ("\\\"", "<mtext>[PARSE ERROR: Undefined(\"Command(\\\"\\\\\\\"\\\")\")]</mtext>"),
-        ("\\<", "<mtext>[PARSE ERROR: Undefined(\"Command(\\\"&lt;\\\")\")]</mtext>"),
-        ("\\😀", "<mtext>[PARSE ERROR: Undefined(\"Command(\\\"😀\\\")\")]</mtext>"),
-        ("a\\\nb", "<mi>a</mi><mtext>[PARSE ERROR: Undefined(\"Command(\\\"\n\\\")\")]</mtext><mi>b</mi>"),
-        ("a\\", "<mi>a</mi><mtext>[PARSE ERROR: Undefined(\"Command(\\\"\\\")\")]</mtext>"),
-        ("\\", "<mtext>[PARSE ERROR: Undefined(\"Command(\\\"\\\")\")]</mtext>"),
+        (
+            "\\foo",
+            "<mtext>[PARSE ERROR: Undefined(\"Command(\\\"foo\\\")\")]</mtext>",
+        ),
+        (
+            "\\foo1",
+            "<mtext>[PARSE ERROR: Undefined(\"Command(\\\"foo\\\")\")]</mtext><mn>1</mn>",
+        ),
+        (
+            "\\fooé",
+            "<mtext>[PARSE ERROR: Undefined(\"Command(\\\"foo\\\")\")]</mtext><mi mathvariant=\"normal\">é</mi>",
+        ),
+        (
+            "\\\"",
+            "<mtext>[PARSE ERROR: Undefined(\"Command(\\\"\\\\\\\"\\\")\")]</mtext>",
+        ),
+        (
+            "\\<",
+            "<mtext>[PARSE ERROR: Undefined(\"Command(\\\"&lt;\\\")\")]</mtext>",
+        ),
+        (
+            "\\😀",
+            "<mtext>[PARSE ERROR: Undefined(\"Command(\\\"😀\\\")\")]</mtext>",
+        ),
+        (
+            "a\\\nb",
+            "<mi>a</mi><mtext>[PARSE ERROR: Undefined(\"Command(\\\"\n\\\")\")]</mtext><mi>b</mi>",
+        ),
+        (
+            "a\\",
+            "<mi>a</mi><mtext>[PARSE ERROR: Undefined(\"Command(\\\"\\\")\")]</mtext>",
+        ),
+        (
+            "\\",
+            "<mtext>[PARSE ERROR: Undefined(\"Command(\\\"\\\")\")]</mtext>",
+        ),
     ] {
         assert!(rt; has(rt.alloc(), formula, contents)?, "{formula}");
     }
@@ -122,8 +172,14 @@ fn commands_without_a_meaning(rt: HostRuntime) -> Result<(), Fail> {
 #[test]
 fn signs(rt: HostRuntime) -> Result<(), Fail> {
     for (formula, contents) in [
-        ("x^2", "<mi>x</mi><mtext>[PARSE ERROR: Undefined(\"Circumflex\")]</mtext><mn>2</mn>"),
-        ("x_2", "<mi>x</mi><mtext>[PARSE ERROR: Undefined(\"Underscore\")]</mtext><mn>2</mn>"),
+        (
+            "x^2",
+            "<mi>x</mi><mtext>[PARSE ERROR: Undefined(\"Circumflex\")]</mtext><mn>2</mn>",
+        ),
+        (
+            "x_2",
+            "<mi>x</mi><mtext>[PARSE ERROR: Undefined(\"Underscore\")]</mtext><mn>2</mn>",
+        ),
         ("{", "<mtext>[PARSE ERROR: Undefined(\"LBrace\")]</mtext>"),
         ("f'", "<mi>f</mi><mo>'</mo>"),
     ] {

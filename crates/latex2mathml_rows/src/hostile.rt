@@ -8,9 +8,18 @@ use std::test::Fail;
 #[test]
 fn nul(rt: HostRuntime) -> Result<(), Fail> {
     for (formula, contents) in [
-        ("\0", "<mtext>[PARSE ERROR: Undefined(\"Illegal('\0')\")]</mtext>"),
-        ("\\\0", "<mtext>[PARSE ERROR: Undefined(\"Command(\\\"\0\\\")\")]</mtext>"),
-        ("a\0b", "<mi>a</mi><mtext>[PARSE ERROR: Undefined(\"Illegal('\0')\")]</mtext><mi>b</mi>"),
+        (
+            "\0",
+            "<mtext>[PARSE ERROR: Undefined(\"Illegal('\0')\")]</mtext>",
+        ),
+        (
+            "\\\0",
+            "<mtext>[PARSE ERROR: Undefined(\"Command(\\\"\0\\\")\")]</mtext>",
+        ),
+        (
+            "a\0b",
+            "<mi>a</mi><mtext>[PARSE ERROR: Undefined(\"Illegal('\0')\")]</mtext><mi>b</mi>",
+        ),
         ("\u{1}", "<mi mathvariant=\"normal\">\u{1}</mi>"),
     ] {
         assert!(rt; has(rt.alloc(), formula, contents)?, "{formula}");
@@ -55,7 +64,10 @@ fn one_long_command(rt: HostRuntime) -> Result<(), Fail> {
     let alloc = rt.alloc();
     let letters = repeated(alloc, "z", MEGABYTE)?;
     let formula = format!(in alloc; "\\{}", letters.as_str())?;
-    let contents = format!(in alloc; "<mtext>[PARSE ERROR: Undefined(\"Command(\\\"{}\\\")\")]</mtext>", letters.as_str())?;
+    let contents = format!(in alloc;
+        "<mtext>[PARSE ERROR: Undefined(\"Command(\\\"{}\\\")\")]</mtext>",
+        letters.as_str()
+    )?;
     assert!(rt; has(alloc, formula.as_str(), contents.as_str())?);
     Ok(())
 }

@@ -22,10 +22,22 @@ fn undefined(alloc: Global, text: &str) -> Result<Node, AllocError> {
 fn each_kind_prints(rt: HostRuntime) -> Result<(), Fail> {
     let alloc = rt.alloc();
     assert!(rt; prints(alloc, &number(alloc, "3.14")?, "<mn>3.14</mn>")?);
-    assert!(rt; prints(alloc, &number(alloc, "<&>\"'")?, "<mn>&lt;&amp;&gt;\"'</mn>")?);
+    assert!(rt;
+        prints(
+            alloc,
+            &number(alloc, "<&>\"'")?,
+            "<mn>&lt;&amp;&gt;\"'</mn>"
+        )?
+    );
     assert!(rt; prints(alloc, &Node::OtherOperator("⟨"), "<mo>⟨</mo>")?);
     assert!(rt; prints(alloc, &Node::OtherOperator("a<b"), "<mo>a&lt;b</mo>")?);
-    assert!(rt; prints(alloc, &Node::Ampersand, "<mtext>[PARSE ERROR: Ampersand]</mtext>")?);
+    assert!(rt;
+        prints(
+            alloc,
+            &Node::Ampersand,
+            "<mtext>[PARSE ERROR: Ampersand]</mtext>"
+        )?
+    );
     Ok(())
 }
 
@@ -36,8 +48,14 @@ fn undefined_prints(rt: HostRuntime) -> Result<(), Fail> {
         ("", "<mtext>[PARSE ERROR: Undefined(\"\")]</mtext>"),
         ("<", "<mtext>[PARSE ERROR: Undefined(\"&lt;\")]</mtext>"),
         ("\"", "<mtext>[PARSE ERROR: Undefined(\"\\\"\")]</mtext>"),
-        ("\\&", "<mtext>[PARSE ERROR: Undefined(\"\\\\&amp;\")]</mtext>"),
-        ("'é\u{1}", "<mtext>[PARSE ERROR: Undefined(\"'é\u{1}\")]</mtext>"),
+        (
+            "\\&",
+            "<mtext>[PARSE ERROR: Undefined(\"\\\\&amp;\")]</mtext>",
+        ),
+        (
+            "'é\u{1}",
+            "<mtext>[PARSE ERROR: Undefined(\"'é\u{1}\")]</mtext>",
+        ),
     ] {
         assert!(rt; prints(alloc, &undefined(alloc, text)?, markup)?, "{text}");
     }
@@ -53,7 +71,10 @@ fn letters_print(rt: HostRuntime) -> Result<(), Fail> {
         ('<', Variant::Bold, "<mi mathvariant=\"bold\">&lt;</mi>"),
         ('&', Variant::Italic, "<mi>&amp;</mi>"),
     ] {
-        assert!(rt; prints(rt.alloc(), &Node::Letter(c, variant), markup)?, "{c}");
+        assert!(rt;
+            prints(rt.alloc(), &Node::Letter(c, variant), markup)?,
+            "{c}"
+        );
     }
     Ok(())
 }
@@ -85,7 +106,7 @@ fn samples(alloc: Global) -> Result<Vec<Node>, Fail> {
         Node::OtherOperator(")"),
         Node::Ampersand,
         undefined(alloc, "1")?,
-        undefined(alloc, "2")?
+        undefined(alloc, "2")?,
     ]?)
 }
 

@@ -19,7 +19,11 @@ struct Writer {
 impl Write for Writer {
     fn write(&mut self, bytes: &[u8]) -> io::Result<usize> {
         if self.calls_left == 0 {
-            return if self.fails { Err(io::Error::from(io::ErrorKind::Other)) } else { Ok(0) };
+            return if self.fails {
+                Err(io::Error::from(io::ErrorKind::Other))
+            } else {
+                Ok(0)
+            };
         }
         self.calls_left -= 1;
         let count = self.step.min(bytes.len());
@@ -57,12 +61,27 @@ fn stream<T>(inner: T) -> Stream<T>
     ensures unfailed { IsFalse result.failed }
     ensures unended { IsFalse result.ended }
 {
-    Stream { inner, failed: false, ended: false }
+    Stream {
+        inner,
+        failed: false,
+        ended: false,
+    }
 }
 
 /// Writes the text to such a writer, and answers what it holds, what it tells, and how the writing ended.
-fn written(alloc: Global, text: &str, step: usize, calls: usize, fails: bool) -> (Stream<Writer>, Result<(), FileFault>) {
-    let mut sink = stream(Writer { held: Vec::new(alloc), step, calls_left: calls, fails });
+fn written(
+    alloc: Global,
+    text: &str,
+    step: usize,
+    calls: usize,
+    fails: bool,
+) -> (Stream<Writer>, Result<(), FileFault>) {
+    let mut sink = stream(Writer {
+        held: Vec::new(alloc),
+        step,
+        calls_left: calls,
+        fails,
+    });
     let ended = write_document(&mut sink, text);
     (sink, ended)
 }
@@ -84,9 +103,15 @@ fn writer_fails(rt: HostRuntime) -> Result<(), Fail> {
     let text = "abc";
     for calls in 0..text.len() {
         let (sink, ended) = written(rt.alloc(), text, 1, calls, true);
-        let fault = FileFault::Write { written: calls, cause: WriteCause::Failed };
+        let fault = FileFault::Write {
+            written: calls,
+            cause: WriteCause::Failed,
+        };
         assert!(rt; ended == Err(fault), "{calls}");
-        assert!(rt; sink.inner.held.as_slice() == text[..calls].as_bytes(), "{calls}");
+        assert!(rt;
+            sink.inner.held.as_slice() == text[..calls].as_bytes(),
+            "{calls}"
+        );
         assert!(rt; sink.failed && !sink.ended, "{calls}");
     }
     Ok(())
@@ -95,10 +120,22 @@ fn writer_fails(rt: HostRuntime) -> Result<(), Fail> {
 #[test]
 fn writer_takes_nothing(rt: HostRuntime) -> Result<(), Fail> {
     let (sink, ended) = written(rt.alloc(), "abc", 2, 0, false);
-    assert!(rt; ended == Err(FileFault::Write { written: 0, cause: WriteCause::TookNothing }));
+    assert!(rt;
+        ended
+            == Err(FileFault::Write {
+                written: 0,
+                cause: WriteCause::TookNothing
+            })
+    );
     assert!(rt; sink.inner.held.is_empty() && sink.ended && !sink.failed);
     let (sink, ended) = written(rt.alloc(), "abc", 2, 1, false);
-    assert!(rt; ended == Err(FileFault::Write { written: 2, cause: WriteCause::TookNothing }));
+    assert!(rt;
+        ended
+            == Err(FileFault::Write {
+                written: 2,
+                cause: WriteCause::TookNothing
+            })
+    );
     assert!(rt; sink.inner.held.as_slice() == b"ab".as_slice());
     Ok(())
 }
@@ -115,7 +152,11 @@ fn nothing_to_write(rt: HostRuntime) -> Result<(), Fail> {
 #[test]
 fn reader_gives(rt: HostRuntime) -> Result<(), Fail> {
     let mut room = [0u8; 4];
-    let mut source = stream(Reader { bytes: b"ab", step: 1, calls_left: 9 });
+    let mut source = stream(Reader {
+        bytes: b"ab",
+        step: 1,
+        calls_left: 9,
+    });
     assert!(rt; source.take_in(&mut room) == Some(1));
     assert!(rt; room[0] == b'a' && !source.failed && !source.ended);
     assert!(rt; source.take_in(&mut room) == Some(1));
@@ -130,7 +171,11 @@ fn reader_gives(rt: HostRuntime) -> Result<(), Fail> {
 #[test]
 fn reader_fails(rt: HostRuntime) -> Result<(), Fail> {
     let mut room = [0u8; 4];
-    let mut source = stream(Reader { bytes: b"ab", step: 1, calls_left: 0 });
+    let mut source = stream(Reader {
+        bytes: b"ab",
+        step: 1,
+        calls_left: 0,
+    });
     assert!(rt; source.take_in(&mut room) == None);
     assert!(rt; source.failed && !source.ended);
     Ok(())
@@ -140,7 +185,12 @@ fn reader_fails(rt: HostRuntime) -> Result<(), Fail> {
 #[test]
 fn sink_answers(rt: HostRuntime) -> Result<(), Fail> {
     let alloc = rt.alloc();
-    let mut sink = stream(Writer { held: Vec::new(alloc), step: 2, calls_left: 2, fails: false });
+    let mut sink = stream(Writer {
+        held: Vec::new(alloc),
+        step: 2,
+        calls_left: 2,
+        fails: false,
+    });
     assert!(rt; sink.put_out(b"") == Some(0));
     assert!(rt; !sink.failed && !sink.ended);
     assert!(rt; sink.put_out(b"abc") == Some(2));

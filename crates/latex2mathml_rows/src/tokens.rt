@@ -34,7 +34,7 @@ fn samples(alloc: Global) -> Result<Vec<Token>, Fail> {
         number(alloc, "1")?,
         number(alloc, "2")?,
         command(alloc, "1")?,
-        command(alloc, "2")?
+        command(alloc, "2")?,
     ]?)
 }
 

@@ -57,8 +57,14 @@ fn write_node<W: fmt::Write>(node: &Node, f: &mut fmt::Formatter<W>) -> fmt::Res
 }
 
 /// Writes a text as contents, between two tags.
-fn write_text<W: fmt::Write>(before: &str, text: &str, after: &str, f: &mut fmt::Formatter<W>) -> fmt::Result
-    ensures { WritesOnOk W.write_str_gives f.old result (before.now ++ (content text.now ++ after.now)) f.new }
+fn write_text<W: fmt::Write>(
+    before: &str,
+    text: &str,
+    after: &str,
+    f: &mut fmt::Formatter<W>,
+) -> fmt::Result
+    ensures { WritesOnOk W.write_str_gives f.old result
+        (before.now ++ (content text.now ++ after.now)) f.new }
 {
     f.write_str(before)?;
     write_content(text, f)?;
@@ -66,8 +72,14 @@ fn write_text<W: fmt::Write>(before: &str, text: &str, after: &str, f: &mut fmt:
 }
 
 /// Writes a character as contents, between two tags.
-fn write_char<W: fmt::Write>(before: &str, c: char, after: &str, f: &mut fmt::Formatter<W>) -> fmt::Result
-    ensures { WritesOnOk W.write_str_gives f.old result (before.now ++ (content_char c ++ after.now)) f.new }
+fn write_char<W: fmt::Write>(
+    before: &str,
+    c: char,
+    after: &str,
+    f: &mut fmt::Formatter<W>,
+) -> fmt::Result
+    ensures { WritesOnOk W.write_str_gives f.old result
+        (before.now ++ (content_char c ++ after.now)) f.new }
 {
     f.write_str(before)?;
     write_content_char(c, f)?;
@@ -75,8 +87,15 @@ fn write_char<W: fmt::Write>(before: &str, c: char, after: &str, f: &mut fmt::Fo
 }
 
 /// Writes a letter with its style, and what stands after it.
-fn write_letter<W: fmt::Write>(c: char, variant: Variant, after: &str, f: &mut fmt::Formatter<W>) -> fmt::Result
-    ensures { WritesOnOk W.write_str_gives f.old result (codes "<mi mathvariant=\"" ++ (variant_text variant ++ (codes "\">" ++ (content_char c ++ after.now)))) f.new }
+fn write_letter<W: fmt::Write>(
+    c: char,
+    variant: Variant,
+    after: &str,
+    f: &mut fmt::Formatter<W>,
+) -> fmt::Result
+    ensures { WritesOnOk W.write_str_gives f.old result
+        (codes "<mi mathvariant=\"" ++ (variant_text variant ++ (codes "\">"
+        ++ (content_char c ++ after.now)))) f.new }
 {
     write!(f, "<mi mathvariant=\"{variant}\">")?;
     write_content_char(c, f)?;
@@ -94,7 +113,8 @@ fn write_operator<W: fmt::Write>(c: char, f: &mut fmt::Formatter<W>) -> fmt::Res
 }
 
 fn write_undefined<W: fmt::Write>(text: &str, f: &mut fmt::Formatter<W>) -> fmt::Result
-    ensures { WritesOnOk W.write_str_gives f.old result (error_print (codes "Undefined(" ++ (quoted text.now ++ codes ")"))) f.new }
+    ensures { WritesOnOk W.write_str_gives f.old result
+        (error_print (codes "Undefined(" ++ (quoted text.now ++ codes ")"))) f.new }
 {
     f.write_str("<mtext>[PARSE ERROR: Undefined(\"")?;
     write_quoted(text, f)?;
@@ -103,7 +123,8 @@ fn write_undefined<W: fmt::Write>(text: &str, f: &mut fmt::Formatter<W>) -> fmt:
 
 /// Writes what stands between the quotation marks of a text in quotes, as contents.
 fn write_quoted<W: fmt::Write>(text: &str, f: &mut fmt::Formatter<W>) -> fmt::Result
-    ensures { WritesOnOk W.write_str_gives f.old result (content (flat_map quoted_byte text.now)) f.new }
+    ensures { WritesOnOk W.write_str_gives f.old result
+        (content (flat_map quoted_byte text.now)) f.new }
 {
     for c in text.chars() {
         write_quoted_char(c, f)?;
@@ -112,7 +133,8 @@ fn write_quoted<W: fmt::Write>(text: &str, f: &mut fmt::Formatter<W>) -> fmt::Re
 }
 
 fn write_quoted_char<W: fmt::Write>(c: char, f: &mut fmt::Formatter<W>) -> fmt::Result
-    ensures { WritesOnOk W.write_str_gives f.old result (content (flat_map quoted_byte (encode_utf8 c))) f.new }
+    ensures { WritesOnOk W.write_str_gives f.old result
+        (content (flat_map quoted_byte (encode_utf8 c))) f.new }
 {
     match c {
         '"' => f.write_str("\\\""),

@@ -29,7 +29,8 @@ impl Class {
 /// The first character and what follows it.
 #[tactic(auto, using(std::proofs::lemmas::Str::chars_past_char))]
 pub(crate) fn first_char(text: &str) -> Option<(char, &str)>
-    ensures first { MatchOption result (chars text.now ≡ []) (λ found. chars text.now ≡ found.0 ∷ chars found.1.now) }
+    ensures first { MatchOption result (chars text.now ≡ [])
+        (λ found. chars text.now ≡ found.0 ∷ chars found.1.now) }
     ensures utf8 { IfSome result (λ found. IsUtf8 found.1.now) }
 {
     let mut characters = text.chars();
@@ -39,7 +40,8 @@ pub(crate) fn first_char(text: &str) -> Option<(char, &str)>
 
 /// What follows this character, where the text begins with it.
 pub(crate) fn after_char(text: &str, c: char) -> Option<&str>
-    ensures first { MatchOption result (Stops (λ x. x == c) (head (chars text.now))) (λ rest. chars text.now ≡ c ∷ chars rest.now) }
+    ensures first { MatchOption result (Stops (λ x. x == c) (head (chars text.now)))
+        (λ rest. chars text.now ≡ c ∷ chars rest.now) }
     ensures utf8 { IfSome result (λ rest. IsUtf8 rest.now) }
 {
     let (first, rest) = first_char(text)?;
@@ -48,7 +50,8 @@ pub(crate) fn after_char(text: &str, c: char) -> Option<&str>
 
 /// The longest run of characters of a class at the start of the text, and what follows it.
 pub(crate) fn split_run(class: Class, text: &str) -> (&str, &str)
-    ensures run { IsRun (in_class class) (chars text.now) (chars result.0.now) (chars result.1.now) }
+    ensures run { IsRun (in_class class)
+        (chars text.now) (chars result.0.now) (chars result.1.now) }
     ensures utf8 { IsUtf8 result.0.now × IsUtf8 result.1.now }
 {
     match text.find(|c: char| !class.contains(c)) {

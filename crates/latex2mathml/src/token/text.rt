@@ -106,7 +106,12 @@ impl fmt::Display for TokenText<'_> {
             Token::Underscore => f.write_str("Underscore"),
             Token::Circumflex => f.write_str("Circumflex"),
             Token::Operator(c) => write!(f, "Operator({})", QuotedChar(*c)),
-            Token::Letter(c, variant) => write!(f, "Letter({}, {})", QuotedChar(*c), VariantName(*variant)),
+            Token::Letter(c, variant) => write!(
+                f,
+                "Letter({}, {})",
+                QuotedChar(*c),
+                VariantName(*variant)
+            ),
             Token::Number(digits) => write!(f, "Number({})", Quoted(digits)),
             Token::Command(name) => write!(f, "Command({})", Quoted(name)),
         }

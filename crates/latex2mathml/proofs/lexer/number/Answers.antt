@@ -1,5 +1,4 @@
 use Rattle.std.proofs.Common.{refl}
-use Rattle.std.proofs.lemmas.Str.{encode_ascii}
 use Rattle.latex2mathml.proofs.Slices.{whole_number, number_with_period, pushed}
 use Rattle.latex2mathml.proofs.lexer.number.Goals as goal
 

@@ -1,7 +1,7 @@
-use Rattle.std.proofs.Common.{sym, ap, subst, ◌∙◌, List, map}
+use Rattle.std.proofs.Common.{sym, ap, subst, ◌∙◌, map}
 use Rattle.std.proofs.lemmas.List.{map-append}
 use Rattle.std.specs.Str.{chars}
-use Rattle.latex2mathml.specs.Tok.{Tok, tok}
+use Rattle.latex2mathml.specs.Tok.{tok}
 use Rattle.latex2mathml.proofs.Tokenizing.{LeadsOn, one_more, none_left}
 use Rattle.latex2mathml.proofs.lexer.tokens.Goals as goal
 

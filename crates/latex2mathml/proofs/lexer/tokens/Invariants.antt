@@ -10,7 +10,7 @@ use Rattle.latex2mathml.proofs.lexer.tokens.Given as goal
 abbrev pub invariant-loop-tokens : goal.invariant-loop-tokens
 invariant-loop-tokens l = record {
   utf8 : shadow (Utf8 l.rest);
-  so_far : LeadsOn (chars l.text) (chars l.rest) (map tok l.tokens.items)
+  so_far : LeadsOn (chars l.text) (chars l.rest) (map tok l.tokens.items);
 }
 
 abbrev pub decreases-loop-tokens : goal.decreases-loop-tokens

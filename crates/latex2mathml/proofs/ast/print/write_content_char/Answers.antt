@@ -1,4 +1,4 @@
-use Rattle.std.proofs.Common.{◌≡◌, ◌≢◌, sym, arith}
+use Rattle.std.proofs.Common.{sym, arith}
 use Rattle.std.proofs.Output.{has_written_of_eq}
 use Rattle.latex2mathml.proofs.Escapes.{content_char-other}
 use Rattle.latex2mathml.proofs.ast.print.write_content_char.Goals as goal

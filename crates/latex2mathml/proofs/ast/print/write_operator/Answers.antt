@@ -1,4 +1,4 @@
-use Rattle.std.proofs.Common.{refl, ap, sym}
+use Rattle.std.proofs.Common.{ap, sym}
 use Rattle.std.proofs.Output.{has_written_of_eq}
 use Rattle.latex2mathml.specs.Print.{operator_print}
 use Rattle.latex2mathml.proofs.ast.print.write_operator.Goals as goal

@@ -1,4 +1,4 @@
-use Rattle.std.proofs.Common.{◌≡◌, ◌≢◌, sym, ap, arith}
+use Rattle.std.proofs.Common.{sym, ap, arith}
 use Rattle.std.proofs.Output.{has_written_of_eq}
 use Rattle.latex2mathml.specs.Escape.{content}
 use Rattle.latex2mathml.proofs.Escapes.{quoted_char-other}

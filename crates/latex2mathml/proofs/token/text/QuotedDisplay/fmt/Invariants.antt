@@ -2,7 +2,6 @@
 use Rattle.std.specs.Char.{encode_utf8}
 use Rattle.std.specs.Fmt.{HasWritten, IsPlainFormatter}
 use Rattle.std.specs.List.{flat_map}
-use Rattle.std.proofs.Common.{◌∷◌}
 use Rattle.latex2mathml.specs.Escape.{quoted_byte}
 use Rattle.latex2mathml.proofs.token.text.QuotedDisplay.fmt.Given as goal
 

@@ -1,4 +1,4 @@
-use Rattle.std.proofs.Common.{◌≡◌, ◌≢◌, sym, arith}
+use Rattle.std.proofs.Common.{sym, arith}
 use Rattle.std.proofs.Output.{has_written_of_eq}
 use Rattle.latex2mathml.proofs.Escapes.{quoted_char-other}
 use Rattle.latex2mathml.proofs.token.text.QuotedPartDisplay.fmt.Goals as goal
