@@ -1,8 +1,13 @@
+pub mod Begins
 pub mod Escapes
+pub mod Members
 pub mod Numbers
 pub mod Parsing
 pub mod Prints
 pub mod Runs
+pub mod Sliced
 pub mod Slices
-pub mod Tokenizing
 pub mod StreamLemmas
+pub mod Tokenizing
+pub mod Total
+pub mod Unique

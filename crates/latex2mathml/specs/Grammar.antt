@@ -1,10 +1,10 @@
 -- The grammar: what a list of tokens is read as, or why it is refused. A table has a row for each token that can begin
 -- a core; three small relations say how rows are read, and they are the same for every row.
-use Rattle.std.specs.Prelude.{◌≡◌, ◌≢◌, ℕ, List, [], ◌∷◌, Option, Some, None}
+use Rattle.std.specs.Prelude.{◌≡◌, ◌≢◌, ℕ, Bool, true, false, List, [], ◌∷◌, Option, Some, None}
 use Rattle.latex2mathml.specs.Refusal.{Refusal, UnexpectedToken}
-use Rattle.latex2mathml.specs.Tok.{Tok, EOF, Ampersand, Paren, Letter, Number, Operator}
+use Rattle.latex2mathml.specs.Tok.{Tok, EOF, Ampersand, Paren, LBrace, RBrace, Underscore, Circumflex, Letter, Number, Operator}
 use Rattle.latex2mathml.specs.TokenText.{token_text}
-use Rattle.latex2mathml.specs.Tree.{Tree, number, letter, operator, other_operator, ampersand, undefined}
+use Rattle.latex2mathml.specs.Tree.{Tree, number, letter, operator, other_operator, subscript, superscript, ampersand, undefined, no_trees, trees_of, row as row_tree}
 
 -- what a part of a row may be: a core, a single, which is a core with what stands directly behind it, or a node, which
 -- is a single with its scripts
@@ -32,6 +32,12 @@ pub data Row : Type 0 where
   -- the longest run of letters is taken, of any variant, and what follows has their characters
   takes_letters : (List ℕ → Row) → Row
 
+-- the members of a group as one tree: one member is itself, none or several are a row
+abbrev pub grouped : List Tree → Tree
+grouped [] = row_tree no_trees
+grouped (x ∷ []) = x
+grouped (x ∷ y ∷ ys) = row_tree (trees_of (x ∷ y ∷ ys))
+
 -- the row of a token that stands where a core begins
 abbrev pub row : Tok → Row
 row (Number digits) = gives (number digits)
@@ -39,15 +45,30 @@ row (Letter c variant) = gives (letter c variant)
 row (Operator c) = gives (operator c)
 row (Paren text) = gives (other_operator text)
 row Ampersand = gives ampersand
+row LBrace = reads_members RBrace (λ xs. gives (grouped xs))
 row t = gives (undefined (token_text t))
 
--- what follows the core of a single: nothing yet
-abbrev pub primed : Tree → Row
-primed x = gives x
+-- a row without parts: it gives its tree at once
+abbrev pub is_plain : Row → Bool
+is_plain (gives x) = true
+is_plain r = false
 
--- what follows the single of a node: nothing yet
+-- the prime, and the character that it prints
+abbrev pub prime : Tok
+prime = Operator 39
+
+abbrev pub prime_mark : Tree
+prime_mark = operator 8242
+
+-- what follows the core of a single: one prime, if it stands next
+abbrev pub primed : Tree → Row
+primed x = reads_sign prime (gives (superscript x prime_mark)) (gives x)
+
+-- what follows the single of a node: a sign and a node, if a sign stands next. So scripts bind to the right.
 abbrev pub scripted : Tree → Row
-scripted x = gives x
+scripted x =
+    reads_sign Underscore (reads_part node (λ sub. gives (subscript x sub)))
+    (reads_sign Circumflex (reads_part node (λ sup. gives (superscript x sup))) (gives x))
 
 -- what was read, with the tokens that are left, or the refusal
 pub data Outcome (A : Type 0) : Type 0 where
@@ -64,10 +85,12 @@ abbrev pub first_or_end : List Tok → Tok
 first_or_end [] = EOF
 first_or_end (t ∷ ts) = t
 
+-- the character of a letter, whatever its variant
 abbrev pub letter_of : Tok → Option ℕ
 letter_of (Letter c variant) = Some c
 letter_of t = None
 
+-- the character of the letter that stands next, where a letter does
 abbrev pub first_letter : List Tok → Option ℕ
 first_letter [] = None
 first_letter (t ∷ ts) = letter_of t

@@ -5,11 +5,13 @@ pub mod Discreteness
 pub mod Escape
 pub mod Faults
 pub mod Grammar
+pub mod Laws
 pub mod Lexing
 pub mod Print
 pub mod Refusal
 pub mod Rendering
 pub mod Same
+pub mod Slices
 pub mod Spelling
 pub mod Streams
 pub mod Tok

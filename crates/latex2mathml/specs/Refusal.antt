@@ -1,6 +1,6 @@
 -- Why a formula or a document is refused, as values, and the texts of refusals.
-use Rattle.std.specs.Prelude.{ℕ, List, ◌++◌, Option, Some, None, codes}
-use Rattle.latex2mathml.specs.Tok.{Tok}
+use Rattle.std.specs.Prelude.{ℕ, List, ◌++◌, Option, Some, None, IfErr, IfSome, Result, codes}
+use Rattle.latex2mathml.specs.Tok.{Tok, tok}
 use Rattle.latex2mathml.specs.TokenText.{token_text}
 use Rattle.latex2mathml.specs.declared.error.LatexError.{LatexError}
 use Rattle.latex2mathml.specs.declared.error.LatexError.TheVariants as error
@@ -16,7 +16,12 @@ pub data Refusal : Type 0 where
 
 -- the refusal that an error tells; want of memory refuses nothing
 abbrev pub refusal_of : LatexError → Option Refusal
+refusal_of (error.UnexpectedToken expected got) = Some (UnexpectedToken (tok expected) (tok got))
 refusal_of error.OutOfMemory = None
+
+-- the fact of the refusal, where the answer is an error that tells one
+abbrev pub IfRefused : {T : Type 0} → Result T LatexError → (Refusal → Type 0) → Type 0
+IfRefused answer P = IfErr answer (λ e. IfSome (refusal_of e) P)
 
 abbrev pub refusal_text : Refusal → List ℕ
 refusal_text (UnexpectedToken expected got) = codes "The token \"" ++ (token_text expected ++ (codes "\" is expected, but the token \"" ++ (token_text got ++ codes "\" is found.\"")))

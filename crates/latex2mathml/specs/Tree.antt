@@ -6,8 +6,8 @@ use Rattle.latex2mathml.specs.declared.attribute.Variant.{Variant}
 use Rattle.latex2mathml.specs.declared.attribute.Accent.{Accent}
 use Rattle.latex2mathml.specs.declared.attribute.LineThickness.{LineThickness}
 use Rattle.latex2mathml.specs.declared.attribute.ColumnAlign.{ColumnAlign}
-use Rattle.latex2mathml.specs.declared.ast.Node.{Node}
-use Rattle.latex2mathml.specs.declared.ast.Node.TheVariants as node
+use Rattle.latex2mathml.specs.declared.ast.Node.{Node, fold-Node}
+use Rattle.latex2mathml.specs.declared.ast.Node.TheOpen.{Node-F}
 
 mutual
   pub data Tree : Type 0 where
@@ -60,14 +60,21 @@ abbrev pub trees_of : List Tree → Trees
 trees_of [] = no_trees
 trees_of (x ∷ xs) = more_trees x (trees_of xs)
 
+-- one level of a node of the code, where each node within is already seen as its tree
+abbrev pub tree_step : Node-F Tree → Tree
+tree_step (Node-F.Number digits) = number (string_bytes digits)
+tree_step (Node-F.Letter c variant) = letter c variant
+tree_step (Node-F.Operator c) = operator c
+tree_step (Node-F.Subscript target sub) = subscript target.value sub.value
+tree_step (Node-F.Superscript target sup) = superscript target.value sup.value
+tree_step (Node-F.Row members) = row (trees_of members.items)
+tree_step (Node-F.OtherOperator text) = other_operator text.now
+tree_step Node-F.Ampersand = ampersand
+tree_step (Node-F.Undefined text) = undefined (string_bytes text)
+
 -- the tree of a node of the code
 abbrev pub tree : Node → Tree
-tree (node.Number digits) = number (string_bytes digits)
-tree (node.Letter c variant) = letter c variant
-tree (node.Operator c) = operator c
-tree (node.OtherOperator text) = other_operator text.now
-tree node.Ampersand = ampersand
-tree (node.Undefined text) = undefined (string_bytes text)
+tree = fold-Node Tree tree_step
 
 abbrev pub trees : List Node → Trees
 trees nodes = trees_of (map tree nodes)

@@ -6,6 +6,8 @@ ghost use Rattle.latex2mathml.specs.Refusal.{error_text, refusal_of};
 ghost use Rattle.latex2mathml.specs.Same.{same_laws};
 ghost use Rattle.latex2mathml.specs.declared.error.LatexError.TheVariants.{OutOfMemory};
 
+use crate::token::Token;
+use crate::token::text::TokenText;
 use std::alloc::{AllocError, AllocFailed, Global};
 use std::error::Error;
 use std::fmt;
@@ -13,6 +15,8 @@ use std::fmt;
 /// Why a formula is refused.
 #[derive(Debug, Drop)]
 pub enum LatexError {
+    /// A token is expected, and another is found: a group is still open where the formula ends.
+    UnexpectedToken { expected: Token, got: Token },
     /// Memory could not be found. It may stand in place of any other answer.
     OutOfMemory,
 }
@@ -22,8 +26,11 @@ impl LatexError {
     pub fn clone(&self, alloc: Global) -> Result<LatexError, AllocError>
         ensures { IfOk result (λ copy. refusal_of copy ≡ refusal_of self.now) }
     {
-        let _ = alloc;
         match self {
+            LatexError::UnexpectedToken { expected, got } => Ok(LatexError::UnexpectedToken {
+                expected: expected.clone(alloc)?,
+                got: got.clone(alloc)?,
+            }),
             LatexError::OutOfMemory => Ok(LatexError::OutOfMemory),
         }
     }
@@ -40,6 +47,10 @@ impl PartialEq for LatexError {
         ensures contents { IsTrue result ↔ (refusal_of self.now ≡ refusal_of other.now) }
     {
         match self {
+            LatexError::UnexpectedToken { expected, got } => matches!(
+                other,
+                LatexError::UnexpectedToken { expected: token, got: found } if expected == token && got == found
+            ),
             LatexError::OutOfMemory => matches!(other, LatexError::OutOfMemory),
         }
     }
@@ -51,6 +62,12 @@ impl fmt::Display for LatexError {
 
     fn fmt<W: fmt::Write>(&self, f: &mut fmt::Formatter<W>) -> fmt::Result {
         match self {
+            LatexError::UnexpectedToken { expected, got } => write!(
+                f,
+                "The token \"{}\" is expected, but the token \"{}\" is found.\"",
+                TokenText(expected),
+                TokenText(got)
+            ),
             LatexError::OutOfMemory => f.write_str("Memory could not be found."),
         }
     }

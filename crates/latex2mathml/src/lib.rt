@@ -4,13 +4,14 @@
 //! first and answers a `Result`.
 #![tactic(auto)]
 
-ghost use Rattle.std.specs.Prelude.{Some, IfOk, IfErr, IfSome, string_bytes};
-ghost use Rattle.latex2mathml.specs.Refusal.{refusal_of};
+ghost use Rattle.std.specs.Prelude.{Some, IfOk, string_bytes};
+ghost use Rattle.latex2mathml.specs.Refusal.{IfRefused};
 ghost use Rattle.latex2mathml.specs.Rendering.{IsRendering, IsFormulaRefusal};
 
 pub mod ast;
 pub mod attribute;
 mod error;
+pub mod laws;
 mod lexer;
 mod parse;
 mod stream;
@@ -49,7 +50,7 @@ impl fmt::Display for DisplayStyle {
 /// An `Err` leaves nothing behind.
 ///
 /// `x<y`, inline, is `<math xmlns="http://www.w3.org/1998/Math/MathML" display="inline"><mi>x</mi><mo>&lt;</mo><mi>y</mi></math>`.
-#[tactic(auto, unfolding(crate::specs::Rendering::IsRendering))]
+#[tactic(auto, unfolding(crate::specs::Rendering::IsRendering, crate::specs::Rendering::IsFormulaRefusal))]
 pub fn latex_to_mathml(
     alloc: Global,
     latex: &str,
@@ -57,8 +58,7 @@ pub fn latex_to_mathml(
 ) -> Result<String, LatexError>
     ensures rendering { IfOk result (λ markup.
         IsRendering latex.now display (string_bytes markup)) }
-    ensures refusal { IfErr result (λ error.
-        IfSome (refusal_of error) (IsFormulaRefusal latex.now)) }
+    ensures refusal { IfRefused result (IsFormulaRefusal latex.now) }
 {
     let tokens = lexer::tokens(alloc, latex)?;
     let nodes = parse::formula(alloc, tokens)?;

@@ -1,7 +1,7 @@
 //! One run of the program, from its input to its output.
-ghost use Rattle.std.specs.Prelude.{◌≡◌, ℕ, List, IfErr, IfOk, IfSome, IsFalse, IsTrue, string_bytes};
+ghost use Rattle.std.specs.Prelude.{◌≡◌, ℕ, List, IfErr, IfOk, IsFalse, IsTrue, string_bytes};
 ghost use Rattle.std.specs.Io.KnownBytes.{Consumes};
-ghost use Rattle.latex2mathml.specs.Refusal.{refusal_of};
+ghost use Rattle.latex2mathml.specs.Refusal.{IfRefused};
 ghost use Rattle.latex2mathml.specs.Rendering.{IsFormulaRefusal};
 ghost use Rattle.latex2mathml_app.specs.Run.{IsLine, IsMade, IsReadFault, IsRun, display_of};
 
@@ -78,8 +78,7 @@ fn make<S: Source>(alloc: Global, job: Job, source: &mut S) -> Result<String, Fi
 /// The markup of a formula, and a line feed.
 fn line(alloc: Global, latex: &str, display: DisplayStyle) -> Result<String, LatexError>
     ensures line { IfOk result (λ line. IsLine latex.now display (string_bytes line)) }
-    ensures refusal { IfErr result (λ error.
-        IfSome (refusal_of error) (IsFormulaRefusal latex.now)) }
+    ensures refusal { IfRefused result (IsFormulaRefusal latex.now) }
 {
     let mut markup = latex_to_mathml(alloc, latex, display)?;
     markup.push('\n')?;

@@ -231,3 +231,24 @@ fn serves_a_refusal(rt: HostRuntime) -> Result<(), Fail> {
     );
     Ok(())
 }
+
+#[test]
+fn serves_scripts(rt: HostRuntime) -> Result<(), Fail> {
+    let (status, output, _) = served(&rt, &["inline"], b"x_{a}^{b}\n")?;
+    let line =
+        "<math xmlns=\"http://www.w3.org/1998/Math/MathML\" display=\"inline\"><msub><mi>x</mi><msup><mi>a</mi><mi>b</mi></msup></msub></math>\n";
+    assert!(rt; status == 0);
+    assert!(rt; output.as_slice() == line.as_bytes());
+    Ok(())
+}
+
+#[test]
+fn serves_an_open_group(rt: HostRuntime) -> Result<(), Fail> {
+    let (status, output, errors) = served(&rt, &["block"], b"{a b")?;
+    let line =
+        "LaTeX2MathML Error: The token \"RBrace\" is expected, but the token \"EOF\" is found.\"\n";
+    assert!(rt; status == 1);
+    assert!(rt; output.is_empty());
+    assert!(rt; errors.as_slice() == line.as_bytes());
+    Ok(())
+}

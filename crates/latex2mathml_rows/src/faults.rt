@@ -1,19 +1,58 @@
 //! The texts of refusals and faults.
 
+use latex2mathml::token::Token;
 use latex2mathml::{FileFault, LatexError, WriteCause};
+use std::alloc::{AllocError, Global};
 use std::test::Fail;
+
+/// Whether the refusal has this text, and its copy equals it.
+fn says(alloc: Global, refusal: &LatexError, text: &str) -> Result<bool, AllocError> {
+    let said = refusal.to_string(alloc)?;
+    let copy = refusal.clone(alloc)?;
+    Ok(said.as_str() == text && copy == *refusal)
+}
+
+fn unexpected(expected: Token, got: Token) -> LatexError {
+    LatexError::UnexpectedToken { expected, got }
+}
 
 #[test]
 fn refusals(rt: HostRuntime) -> Result<(), Fail> {
     let alloc = rt.alloc();
-    let refusal = LatexError::OutOfMemory;
-    assert_eq!(rt;
-        refusal.to_string(alloc)?.as_str(),
-        "Memory could not be found."
+    assert!(rt;
+        says(
+            alloc,
+            &LatexError::OutOfMemory,
+            "Memory could not be found."
+        )?
     );
-    let copy = refusal.clone(alloc)?;
-    assert!(rt; copy == refusal);
+    let open = unexpected(Token::RBrace, Token::EOF);
+    assert!(rt;
+        says(
+            alloc,
+            &open,
+            "The token \"RBrace\" is expected, but the token \"EOF\" is found.\""
+        )?
+    );
+    let number = Token::Number(String::from_str(alloc, "1")?);
+    let bracket = unexpected(Token::Paren(""), number);
+    assert!(rt;
+        says(
+            alloc,
+            &bracket,
+            "The token \"Paren(\"\")\" is expected, but the token \"Number(\"1\")\" is found.\""
+        )?
+    );
     Ok(())
+}
+
+#[test]
+fn different_refusals_differ(rt: HostRuntime) {
+    let open = unexpected(Token::RBrace, Token::EOF);
+    assert!(rt; open != LatexError::OutOfMemory);
+    assert!(rt; open != unexpected(Token::RBrace, Token::LBrace));
+    assert!(rt; open != unexpected(Token::LBrace, Token::EOF));
+    assert!(rt; open == unexpected(Token::RBrace, Token::EOF));
 }
 
 #[test]

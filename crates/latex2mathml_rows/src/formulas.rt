@@ -1,6 +1,7 @@
 //! Formulas, and the contents of their `math` element.
 
-use latex2mathml::{DisplayStyle, latex_to_mathml};
+use latex2mathml::token::Token;
+use latex2mathml::{DisplayStyle, LatexError, latex_to_mathml};
 use std::alloc::{AllocError, Global};
 use std::test::Fail;
 
@@ -168,22 +169,94 @@ fn commands_without_a_meaning(rt: HostRuntime) -> Result<(), Fail> {
     Ok(())
 }
 
-/// Signs and braces that have no effect on their neighbours yet.
 #[test]
-fn signs(rt: HostRuntime) -> Result<(), Fail> {
+fn scripts(rt: HostRuntime) -> Result<(), Fail> {
     for (formula, contents) in [
+        ("x_a", "<msub><mi>x</mi><mi>a</mi></msub>"),
+        ("x^2", "<msup><mi>x</mi><mn>2</mn></msup>"),
+        ("x ^ 2", "<msup><mi>x</mi><mn>2</mn></msup>"),
         (
-            "x^2",
-            "<mi>x</mi><mtext>[PARSE ERROR: Undefined(\"Circumflex\")]</mtext><mn>2</mn>",
+            "x_{a}^{b}",
+            "<msub><mi>x</mi><msup><mi>a</mi><mi>b</mi></msup></msub>",
         ),
         (
-            "x_2",
-            "<mi>x</mi><mtext>[PARSE ERROR: Undefined(\"Underscore\")]</mtext><mn>2</mn>",
+            "a_b^c_d",
+            "<msub><mi>a</mi><msup><mi>b</mi><msub><mi>c</mi><mi>d</mi></msub></msup></msub>",
         ),
-        ("{", "<mtext>[PARSE ERROR: Undefined(\"LBrace\")]</mtext>"),
-        ("f'", "<mi>f</mi><mo>'</mo>"),
+        (
+            "x^",
+            "<msup><mi>x</mi><mtext>[PARSE ERROR: Undefined(\"EOF\")]</mtext></msup>",
+        ),
+        (
+            "_a",
+            "<mtext>[PARSE ERROR: Undefined(\"Underscore\")]</mtext><mi>a</mi>",
+        ),
+        (
+            "^",
+            "<mtext>[PARSE ERROR: Undefined(\"Circumflex\")]</mtext>",
+        ),
+        (
+            "𝑥^\\😀",
+            "<msup><mi mathvariant=\"normal\">𝑥</mi><mtext>[PARSE ERROR: Undefined(\"Command(\\\"😀\\\")\")]</mtext></msup>",
+        ),
     ] {
         assert!(rt; has(rt.alloc(), formula, contents)?, "{formula}");
+    }
+    Ok(())
+}
+
+#[test]
+fn primes(rt: HostRuntime) -> Result<(), Fail> {
+    for (formula, contents) in [
+        ("f'", "<msup><mi>f</mi><mo>′</mo></msup>"),
+        ("f''", "<msup><mi>f</mi><mo>′</mo></msup><mo>'</mo>"),
+        ("f ' '", "<msup><mi>f</mi><mo>′</mo></msup><mo>'</mo>"),
+        (
+            "f'^2",
+            "<msup><msup><mi>f</mi><mo>′</mo></msup><mn>2</mn></msup>",
+        ),
+        ("''", "<msup><mo>'</mo><mo>′</mo></msup>"),
+        ("x^'", "<msup><mi>x</mi><mo>'</mo></msup>"),
+    ] {
+        assert!(rt; has(rt.alloc(), formula, contents)?, "{formula}");
+    }
+    Ok(())
+}
+
+#[test]
+fn groups(rt: HostRuntime) -> Result<(), Fail> {
+    for (formula, contents) in [
+        ("{}", "<mrow></mrow>"),
+        ("{x}", "<mi>x</mi>"),
+        ("{{x}}", "<mi>x</mi>"),
+        ("{a b}", "<mrow><mi>a</mi><mi>b</mi></mrow>"),
+        (
+            "{a{b c}}'",
+            "<msup><mrow><mi>a</mi><mrow><mi>b</mi><mi>c</mi></mrow></mrow><mo>′</mo></msup>",
+        ),
+        ("{}^{}", "<msup><mrow></mrow><mrow></mrow></msup>"),
+    ] {
+        assert!(rt; has(rt.alloc(), formula, contents)?, "{formula}");
+    }
+    Ok(())
+}
+
+/// Whether the formula is refused because a group is still open where it ends.
+fn is_left_open(alloc: Global, formula: &str) -> bool {
+    match latex_to_mathml(alloc, formula, DisplayStyle::Inline) {
+        Ok(_) => false,
+        Err(refusal) => {
+            let expected = Token::RBrace;
+            let got = Token::EOF;
+            refusal == LatexError::UnexpectedToken { expected, got }
+        }
+    }
+}
+
+#[test]
+fn open_groups(rt: HostRuntime) -> Result<(), Fail> {
+    for formula in ["{", "{a b", "{x_}", "{{x}", "{x^", "a_{b'"] {
+        assert!(rt; is_left_open(rt.alloc(), formula), "{formula}");
     }
     Ok(())
 }

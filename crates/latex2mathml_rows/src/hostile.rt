@@ -78,6 +78,39 @@ fn much_white_space(rt: HostRuntime) -> Result<(), Fail> {
     Ok(())
 }
 
+/// The middle between so many copies of a text and so many copies of another.
+fn nested(
+    alloc: Global,
+    before: &str,
+    middle: &str,
+    after: &str,
+    depth: usize,
+) -> Result<String, AllocError> {
+    let mut text = repeated(alloc, before, depth)?;
+    text.push_str(middle)?;
+    let close = repeated(alloc, after, depth)?;
+    text.push_str(close.as_str())?;
+    Ok(text)
+}
+
+const DEEP: usize = 300;
+
+#[test]
+fn deep_groups(rt: HostRuntime) -> Result<(), Fail> {
+    let formula = nested(rt.alloc(), "{", "x", "}", DEEP)?;
+    assert!(rt; has(rt.alloc(), formula.as_str(), "<mi>x</mi>")?);
+    Ok(())
+}
+
+#[test]
+fn deep_scripts(rt: HostRuntime) -> Result<(), Fail> {
+    let alloc = rt.alloc();
+    let formula = nested(alloc, "a^", "x", "", DEEP)?;
+    let contents = nested(alloc, "<msup><mi>a</mi>", "<mi>x</mi>", "</msup>", DEEP)?;
+    assert!(rt; has(alloc, formula.as_str(), contents.as_str())?);
+    Ok(())
+}
+
 /// A formula is a function of its text: asked twice, it answers the same.
 #[test]
 fn answers_again(rt: HostRuntime) -> Result<(), Fail> {

@@ -41,6 +41,36 @@ fn each_kind_prints(rt: HostRuntime) -> Result<(), Fail> {
     Ok(())
 }
 
+fn boxed(alloc: Global, node: Node) -> Result<Box<Node>, AllocError> {
+    Ok(Box::new(alloc, node)?)
+}
+
+fn subscript(alloc: Global, target: Node, sub: Node) -> Result<Node, AllocError> {
+    Ok(Node::Subscript(boxed(alloc, target)?, boxed(alloc, sub)?))
+}
+
+fn superscript(alloc: Global, target: Node, sup: Node) -> Result<Node, AllocError> {
+    Ok(Node::Superscript(boxed(alloc, target)?, boxed(alloc, sup)?))
+}
+
+fn pair(alloc: Global, a: Node, b: Node) -> Result<Node, AllocError> {
+    Ok(Node::Row(vec![in alloc; a, b]?))
+}
+
+#[test]
+fn scripts_and_rows_print(rt: HostRuntime) -> Result<(), Fail> {
+    let alloc = rt.alloc();
+    let sub = subscript(alloc, Node::Operator('+'), Node::Operator('<'))?;
+    assert!(rt; prints(alloc, &sub, "<msub><mo>+</mo><mo>&lt;</mo></msub>")?);
+    let sup = superscript(alloc, Node::Operator('+'), Node::Operator('<'))?;
+    assert!(rt; prints(alloc, &sup, "<msup><mo>+</mo><mo>&lt;</mo></msup>")?);
+    let row = pair(alloc, Node::Operator('+'), Node::Operator('-'))?;
+    assert!(rt; prints(alloc, &row, "<mrow><mo>+</mo><mo>-</mo></mrow>")?);
+    let empty = Node::Row(Vec::new(alloc));
+    assert!(rt; prints(alloc, &empty, "<mrow></mrow>")?);
+    Ok(())
+}
+
 #[test]
 fn undefined_prints(rt: HostRuntime) -> Result<(), Fail> {
     let alloc = rt.alloc();
@@ -102,6 +132,13 @@ fn samples(alloc: Global) -> Result<Vec<Node>, Fail> {
         Node::Letter('y', Variant::Italic),
         Node::Operator('+'),
         Node::Operator('-'),
+        subscript(alloc, Node::Operator('+'), Node::Operator('-'))?,
+        subscript(alloc, Node::Operator('-'), Node::Operator('+'))?,
+        superscript(alloc, Node::Operator('+'), Node::Operator('-'))?,
+        superscript(alloc, Node::Operator('+'), Node::Operator('+'))?,
+        Node::Row(Vec::new(alloc)),
+        pair(alloc, Node::Operator('+'), Node::Operator('-'))?,
+        pair(alloc, Node::Operator('+'), Node::Ampersand)?,
         Node::OtherOperator("("),
         Node::OtherOperator(")"),
         Node::Ampersand,

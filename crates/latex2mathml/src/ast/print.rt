@@ -6,7 +6,7 @@ ghost use Rattle.std.specs.List.{flat_map};
 ghost use Rattle.latex2mathml.specs.Attributes.{variant_text};
 ghost use Rattle.latex2mathml.specs.Escape.{content, content_char, quoted, quoted_byte};
 ghost use Rattle.latex2mathml.specs.Print.{error_print, operator_print, print, prints};
-ghost use Rattle.latex2mathml.specs.Tree.{tree, trees};
+ghost use Rattle.latex2mathml.specs.Tree.{row, tree, trees};
 
 use crate::ast::Node;
 use crate::attribute::Variant;
@@ -33,6 +33,7 @@ impl fmt::Display for Nodes<'_> {
     }
 }
 
+#[cycle(print)]
 fn write_all<W: fmt::Write>(nodes: &[Node], f: &mut fmt::Formatter<W>) -> fmt::Result
     ensures { WritesOnOk W.write_str_gives f.old result (prints (trees nodes.now)) f.new }
 {
@@ -42,6 +43,7 @@ fn write_all<W: fmt::Write>(nodes: &[Node], f: &mut fmt::Formatter<W>) -> fmt::R
     Ok(())
 }
 
+#[cycle(print)]
 fn write_node<W: fmt::Write>(node: &Node, f: &mut fmt::Formatter<W>) -> fmt::Result
     ensures { WritesOnOk W.write_str_gives f.old result (print (tree node.now)) f.new }
 {
@@ -50,10 +52,40 @@ fn write_node<W: fmt::Write>(node: &Node, f: &mut fmt::Formatter<W>) -> fmt::Res
         Node::Letter(c, Variant::Italic) => write_char("<mi>", *c, "</mi>", f),
         Node::Letter(c, variant) => write_letter(*c, *variant, "</mi>", f),
         Node::Operator(c) => write_operator(*c, f),
+        Node::Subscript(target, sub) => write_two("<msub>", target, sub, "</msub>", f),
+        Node::Superscript(target, sup) => write_two("<msup>", target, sup, "</msup>", f),
+        Node::Row(members) => write_row(members, f),
         Node::OtherOperator(text) => write_text("<mo>", text, "</mo>", f),
         Node::Ampersand => f.write_str("<mtext>[PARSE ERROR: Ampersand]</mtext>"),
         Node::Undefined(text) => write_undefined(text, f),
     }
+}
+
+/// Writes two nodes, one after the other, between two tags.
+#[cycle(print)]
+fn write_two<W: fmt::Write>(
+    before: &str,
+    a: &Node,
+    b: &Node,
+    after: &str,
+    f: &mut fmt::Formatter<W>,
+) -> fmt::Result
+    ensures { WritesOnOk W.write_str_gives f.old result
+        (before.now ++ (print (tree a.now) ++ (print (tree b.now) ++ after.now))) f.new }
+{
+    f.write_str(before)?;
+    write_node(a, f)?;
+    write_node(b, f)?;
+    f.write_str(after)
+}
+
+#[cycle(print)]
+fn write_row<W: fmt::Write>(members: &[Node], f: &mut fmt::Formatter<W>) -> fmt::Result
+    ensures { WritesOnOk W.write_str_gives f.old result (print (row (trees members.now))) f.new }
+{
+    f.write_str("<mrow>")?;
+    write_all(members, f)?;
+    f.write_str("</mrow>")
 }
 
 /// Writes a text as contents, between two tags.

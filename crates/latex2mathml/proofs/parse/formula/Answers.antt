@@ -1,13 +1,18 @@
-use Rattle.std.proofs.Common.{rules}
-use Rattle.std.proofs.lemmas.Iterator.Adapters.{YieldsList-from_vec}
-use Rattle.std.proofs.lemmas.Iterator.Consumers.{YieldsList-end}
-use Rattle.latex2mathml.proofs.Parsing.{one_more_pushed, all_yielded}
+use Rattle.std.proofs.Common.{refl}
+use Rattle.latex2mathml.specs.Grammar.{Reading, Refuses}
+use Rattle.latex2mathml.proofs.Parsing.{one_more, one_refused, passed_on, no_end, all_read, all_gone, nothing_read}
 use Rattle.latex2mathml.proofs.parse.formula.Goals as goal
 
-pub loop-token-preserved : goal.loop-token-preserved
-loop-token-preserved c = one_more_pushed _ _ _ _ _ c.loop-token.invariant c.in_ok-node.ensures c.in_ok-push.ensures.items
+pub nodes-init : goal.nodes-init
+nodes-init c = nothing_read _ _ _ c.new-tokens.ensures c.new-nodes.ensures.items
 
-pub returns : goal.returns
-returns c =
-    let all = YieldsList-end (YieldsList-from_vec c.args.tokens.items (search rules) (search rules)) c.loop-token.yielded c.loop-token.token-iterator c.loop-token.yielded_by _ c.next.new.self c.in-None.is c.next.ensures.steps in
-    all_yielded _ _ _ all.0 c.loop-token.invariant
+pub nodes-preserved : goal.nodes-preserved
+nodes-preserved c = one_more _ _ _ c.nodes.invariant c.nodes-test.ensures (no_end _) refl c.in_ok-node.ensures.read c.in_ok-push.ensures.items
+
+pub returns-in_err-node-clause-refused : goal.returns-in_err-node-clause-refused
+unfolding Refuses
+returns-in_err-node-clause-refused c = passed_on _ _ _ c.from_residual.result c.from_residual.ensures.1 c.in_err-node.ensures.refused (λ r d. one_refused _ c.nodes.invariant c.nodes-test.ensures (no_end _) refl d)
+
+pub returns-clause-read : goal.returns-clause-read
+unfolding Reading
+returns-clause-read c = all_read _ c.nodes.invariant (all_gone c.nodes-test.ensures)
