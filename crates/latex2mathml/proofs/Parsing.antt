@@ -1,5 +1,5 @@
 -- The steps of the grammar, at the facts that the parser's functions know.
-use Rattle.std.proofs.Common.{◌≡◌, ◌≢◌, List, [], ◌∷◌, ◌++◌, length, map, Option, Some, None, Result, Ok, Err, refl, sym, ap, subst, ◌∙◌, append_assoc, append-nil}
+use Rattle.std.proofs.Common.{◌≡◌, ◌≢◌, List, [], ◌∷◌, ◌++◌, map, Option, Some, None, Result, Ok, Err, refl, sym, ap, subst, ◌∙◌, append_assoc, append-nil}
 use Rattle.std.proofs.lemmas.List.{map-append}
 use Rattle.std.specs.Prelude.{IfSome, IsErrAnd}
 use Rattle.latex2mathml.specs.Grammar.{Reads, ReadsRow, ReadsAll, Row, Outcome, Read, Refused, core, node, row, gives, reads_sign, first, row_gives, sign_missing, core_at_end, core_begun, formula_ends, never_closed, member_read, later_refused, member_refused}

@@ -1,4 +1,4 @@
-use Rattle.std.proofs.Common.{◌≡◌, ◌<◌, length, refl, arith}
+use Rattle.std.proofs.Common.{refl, arith}
 use Rattle.latex2mathml.proofs.Members.{same_lengths, same_at, same_more}
 use Rattle.latex2mathml.proofs.ast.+same.Goals as goal
 

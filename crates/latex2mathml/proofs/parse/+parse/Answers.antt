@@ -1,7 +1,7 @@
 -- Each answer is the derivation of what was read or refused, read off the row of the grammar.
-use Rattle.std.proofs.Common.{arith, ap, refl, length}
+use Rattle.std.proofs.Common.{arith, ap, length}
 use Rattle.std.proofs.lemmas.Result.{IfOk-weaker}
-use Rattle.latex2mathml.specs.Grammar.{Read, Refused, row_gives, part_read, part_refused, members_read, members_refused, sign_stands, single_read, node_read, group_ends, never_closed}
+use Rattle.latex2mathml.specs.Grammar.{row_gives, part_read, part_refused, members_read, members_refused, sign_stands, single_read, node_read, group_ends}
 use Rattle.latex2mathml.proofs.Parsing.{passed_on, returned, begun, begun_at_end, plainly, given, unsigned, one_more, one_refused, still_open, all_read, other_end}
 use Rattle.latex2mathml.specs.Tok.{LBrace, tok}
 use Rattle.latex2mathml.proofs.parse.+parse.Goals as goal
