@@ -1,13 +1,16 @@
 pub mod Begins
 pub mod Escapes
+pub mod Lookups
 pub mod Members
 pub mod Numbers
+pub mod Order
 pub mod Parsing
 pub mod Prints
 pub mod Runs
 pub mod Sliced
-pub mod Slices
+pub mod Spellings
 pub mod StreamLemmas
 pub mod Tokenizing
 pub mod Total
 pub mod Unique
+pub mod Widths

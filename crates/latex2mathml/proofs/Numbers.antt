@@ -28,7 +28,7 @@ periods-parts : (front part : List ℕ) → Each is_ascii_digit front → Each i
 periods-parts [] part f g = rw (periods-digits part g) refl
 periods-parts (d ∷ ds) part f g = rw (digit_no_period d f.0) (periods-parts ds part f.1 g)
 
-true_false : true ≡ false → ⊥
+pub true_false : true ≡ false → ⊥
 true_false h = cc
 
 -- where a text begins with a digit, its run of digits is not empty

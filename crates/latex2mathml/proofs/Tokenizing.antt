@@ -23,7 +23,7 @@ none_left text rest ts so_far space = subst (HasTokens None text) (append-nil ts
 
 -- a slice that spells a token is not empty
 not_empty : (alone : Bool) (w : List ℕ) (next : Option ℕ) (t : Tok) → SpellsAt alone w next t → 1 ≤ length w
-not_empty alone w next t (character c longer dark e f) = subst (λ v. 1 ≤ length v) (sym e) (omega arith)
+not_empty alone w next t (character c longer no_space e f) = subst (λ v. 1 ≤ length v) (sym e) (omega arith)
 not_empty alone w next t (colon stops e f) = subst (λ v. 1 ≤ length v) (sym e) (omega arith)
 not_empty alone w next t (colon_equals e f) = subst (λ v. 1 ≤ length v) (sym e) (omega arith)
 not_empty alone w next t (number a n f) = subst (λ v. 1 ≤ length v) (sym n.begins.2) (omega arith)

@@ -213,3 +213,6 @@ some_outcome l =
     sided : (o : Outcome (List Tree)) → ReadsAll None l o → ((xs : List Tree) × ReadsAll None l (Read xs [])) ⊎ ((r : Refusal) × ReadsAll None l (Refused r))
     sided (Read xs f) d = inl (xs, subst (λ k. ReadsAll None l (Read xs k)) (nothing_left refl d) d)
     sided (Refused r) d = inr (r, d)
+
+pub some_taken : (s : Sort) (t : Tok) (l f : List Tok) (x : Tree) → Reads s (t ∷ l) (Read x f) → length f ≤ length l
+some_taken s t l f x d = let fewer : length f ≤ length (t ∷ l) - 1 = shrinks d in omega (arith, fewer)

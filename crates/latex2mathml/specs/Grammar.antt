@@ -2,9 +2,9 @@
 -- a core; three small relations say how rows are read, and they are the same for every row.
 use Rattle.std.specs.Prelude.{◌≡◌, ◌≢◌, ℕ, Bool, true, false, List, [], ◌∷◌, Option, Some, None}
 use Rattle.latex2mathml.specs.Refusal.{Refusal, UnexpectedToken}
-use Rattle.latex2mathml.specs.Tok.{Tok, EOF, Ampersand, Paren, LBrace, RBrace, Underscore, Circumflex, Letter, Number, Operator}
+use Rattle.latex2mathml.specs.Tok.{Tok, EOF, Ampersand, Paren, LBrace, RBrace, NewLine, Underscore, Circumflex, Letter, Number, Operator, Space, Function}
 use Rattle.latex2mathml.specs.TokenText.{token_text}
-use Rattle.latex2mathml.specs.Tree.{Tree, number, letter, operator, other_operator, subscript, superscript, ampersand, undefined, no_trees, trees_of, row as row_tree}
+use Rattle.latex2mathml.specs.Tree.{Tree, number, letter, operator, function, space, other_operator, subscript, superscript, ampersand, new_line, undefined, no_trees, trees_of, row as row_tree}
 
 -- what a part of a row may be: a core, a single, which is a core with what stands directly behind it, or a node, which
 -- is a single with its scripts
@@ -13,7 +13,8 @@ pub data Sort : Type 0 where
   single : Sort
   node : Sort
 
--- A row: its parts from left to right, and at their end a tree or a refusal.
+-- A row: its parts from left to right, and at their end a tree or a refusal. No row refuses, takes or sees a token, or
+-- takes letters yet: those kinds are for rows to come.
 pub data Row : Type 0 where
   -- nothing more is read, and this is the tree
   gives : Tree → Row
@@ -45,6 +46,9 @@ row (Letter c variant) = gives (letter c variant)
 row (Operator c) = gives (operator c)
 row (Paren text) = gives (other_operator text)
 row Ampersand = gives ampersand
+row (Space width) = gives (space width)
+row (Function name) = gives (function name)
+row NewLine = gives new_line
 row LBrace = reads_members RBrace (λ xs. gives (grouped xs))
 row t = gives (undefined (token_text t))
 

@@ -7,9 +7,11 @@ pub mod Faults
 pub mod Grammar
 pub mod Laws
 pub mod Lexing
+pub mod Ordered
 pub mod Print
 pub mod Refusal
 pub mod Rendering
+pub mod Rows
 pub mod Same
 pub mod Slices
 pub mod Spelling

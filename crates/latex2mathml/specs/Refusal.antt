@@ -5,6 +5,7 @@ use Rattle.latex2mathml.specs.TokenText.{token_text}
 use Rattle.latex2mathml.specs.declared.error.LatexError.{LatexError}
 use Rattle.latex2mathml.specs.declared.error.LatexError.TheVariants as error
 
+-- The last three have no error of the code yet.
 pub data Refusal : Type 0 where
   -- the token that is expected, and the one that was found
   UnexpectedToken : Tok → Tok → Refusal

@@ -1,6 +1,6 @@
 -- Trees of formulas: what nodes are, as values. A text is its bytes, and a character its code point.
-use Rattle.std.specs.Prelude.{ℕ, ℤ, Bool, List, [], ◌∷◌, string_bytes, map}
-use Rattle.std.specs.Prelude.{Option}
+use Rattle.std.specs.Prelude.{ℕ, ℤ, Bool, List, [], ◌∷◌, string_bytes, map, Option, Some, None, option_map, Box}
+use Rattle.std.specs.declared.alloc.Global.{Global}
 use Rattle.latex2mathml.specs.declared.DisplayStyle.{DisplayStyle}
 use Rattle.latex2mathml.specs.declared.attribute.Variant.{Variant}
 use Rattle.latex2mathml.specs.declared.attribute.Accent.{Accent}
@@ -60,21 +60,36 @@ abbrev pub trees_of : List Tree → Trees
 trees_of [] = no_trees
 trees_of (x ∷ xs) = more_trees x (trees_of xs)
 
+-- a function, where what it is applied to may be missing
+abbrev pub function_tree : List ℕ → Option Tree → Tree
+function_tree name None = function name
+function_tree name (Some x) = applied name x
+
+abbrev pub unboxed : Option (Box Tree Global) → Option Tree
+unboxed = option_map (λ x. x.value)
+
 -- one level of a node of the code, where each node within is already seen as its tree
 abbrev pub tree_step : Node-F Tree → Tree
 tree_step (Node-F.Number digits) = number (string_bytes digits)
 tree_step (Node-F.Letter c variant) = letter c variant
 tree_step (Node-F.Operator c) = operator c
+tree_step (Node-F.Function name argument) = function_tree (string_bytes name) (unboxed argument)
+tree_step (Node-F.Space width) = space width
 tree_step (Node-F.Subscript target sub) = subscript target.value sub.value
 tree_step (Node-F.Superscript target sup) = superscript target.value sup.value
 tree_step (Node-F.Row members) = row (trees_of members.items)
 tree_step (Node-F.OtherOperator text) = other_operator text.now
 tree_step Node-F.Ampersand = ampersand
+tree_step Node-F.NewLine = new_line
 tree_step (Node-F.Undefined text) = undefined (string_bytes text)
 
 -- the tree of a node of the code
 abbrev pub tree : Node → Tree
 tree = fold-Node Tree tree_step
+
+-- the tree of a node that may be missing
+abbrev pub optional_tree : Option (Box Node Global) → Option Tree
+optional_tree = option_map (λ x. tree x.value)
 
 abbrev pub trees : List Node → Trees
 trees nodes = trees_of (map tree nodes)

@@ -1,10 +1,15 @@
 -- The width of a space, in ems, from its eighteenths: rounded to the nearest thousandth.
-use Rattle.std.specs.Prelude.{ℕ, suc, ℤ, pos, negsuc, ◌+◌, ◌*◌, ◌/◌, ◌%◌, List, [], ◌∷◌, ◌++◌, if◌then◌else◌, ◌==◌}
+use Rattle.std.specs.Prelude.{ℕ, suc, ℤ, pos, negsuc, ◌+◌, ◌*◌, ◌/◌, ◌%◌, ◌<◌, List, [], ◌∷◌, ◌++◌, if◌then◌else◌, ◌==◌}
 use Rattle.std.specs.Fmt.{decimal}
 
--- the whole number nearest to n * 500 / 9, the thousandths of an em in n eighteenths; no tie can arise
+-- the thousandths of an em in n eighteenths, rounded to the nearest
 abbrev pub thousandths : ℕ → ℕ
 thousandths n = (n * 1000 + 9) / 18
+
+-- t thousandths are less than half a thousandth away from n eighteenths. So no other number is as near, and no tie
+-- can arise.
+abbrev pub IsNearest : ℕ → ℕ → Type 0
+IsNearest n t = (18 * t < 1000 * n + 9) × (1000 * n < 18 * t + 9)
 
 -- the three last digits of a number
 abbrev pub three_digits : ℕ → List ℕ

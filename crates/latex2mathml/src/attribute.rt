@@ -72,6 +72,7 @@ pub enum LineThickness {
     Thin,
     Medium,
     Thick,
+    /// A number without a unit: so many times the medium thickness. At 0 there is no line.
     Length(u8),
 }
 

@@ -22,7 +22,7 @@ pub enum LatexError {
 }
 
 impl LatexError {
-    /// An error with the same contents.
+    /// An error with the same contents, or an `Err` where memory for the texts of its tokens is not found.
     pub fn clone(&self, alloc: Global) -> Result<LatexError, AllocError>
         ensures { IfOk result (λ copy. refusal_of copy ≡ refusal_of self.now) }
     {
@@ -56,7 +56,7 @@ impl PartialEq for LatexError {
     }
 }
 
-/// Prints the text of the refusal.
+/// Prints the text of the refusal, such as `Memory could not be found.`
 impl fmt::Display for LatexError {
     ghost output = { λ error. Some (error_text (refusal_of error)) };
 
@@ -113,7 +113,7 @@ pub enum FileFault {
     Write { written: usize, cause: WriteCause },
 }
 
-/// Prints the text of the fault.
+/// Prints the text of the fault, such as `The output stopped after 3 bytes.`, or that of the refusal.
 impl fmt::Display for FileFault {
     ghost output = { λ fault. Some (fault_text fault) };
 

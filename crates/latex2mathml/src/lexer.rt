@@ -1,5 +1,5 @@
 //! Text to tokens. A run of characters is found by a search, so nothing here recurses.
-ghost use Rattle.std.specs.Prelude.{◌≡◌, ◌∷◌, [], Bool, false, List, None, IfOk, IfSome, MatchOption, if◌then◌else◌, map};
+ghost use Rattle.std.specs.Prelude.{◌≡◌, ◌∷◌, [], Bool, false, None, IfOk, IfSome, MatchOption, if◌then◌else◌, map};
 ghost use Rattle.std.specs.Char.{is_ascii_alphabetic, is_ascii_digit};
 ghost use Rattle.std.specs.Str.{chars, encode_utf8_all, IsUtf8};
 ghost use Rattle.std.specs.String.{string_bytes};
@@ -10,6 +10,8 @@ ghost use Rattle.latex2mathml.specs.Tok.{tok};
 ghost use Rattle.latex2mathml.specs.declared.attribute.Variant.TheVariants.{Italic, Normal};
 
 mod characters;
+#[cfg(test)]
+mod tests;
 
 use crate::attribute::Variant;
 use crate::token::Token;
@@ -53,7 +55,7 @@ fn token_at<'a>(
     after: &'a str,
 ) -> Result<(Token, &'a str), AllocError>
     requires starts { chars text.now ≡ c ∷ chars after.now }
-    requires dark { is_space c ≡ false }
+    requires no_space { is_space c ≡ false }
     ensures token { IfOk result (λ step.
         BeginsWith false (chars text.now) (tok step.0) (chars step.1.now)) }
     ensures utf8 { IfOk result (λ step. IsUtf8 step.1.now) }

@@ -46,8 +46,11 @@ impl fmt::Display for DisplayStyle {
 /// The `math` element of a formula.
 ///
 /// A character or a command that has no meaning is no refusal: it stands in the markup as
-/// `<mtext>[PARSE ERROR: ..]</mtext>`. The only error is [`LatexError::OutOfMemory`], where an allocation was refused.
-/// An `Err` leaves nothing behind.
+/// `<mtext>[PARSE ERROR: ..]</mtext>`. [`LatexError::UnexpectedToken`] comes where a group is open at the end of the
+/// text, and [`LatexError::OutOfMemory`] where an allocation was refused. An `Err` leaves nothing behind.
+///
+/// Reading and printing recurse as deep as braces and scripts stand one in the other, so the machine's stack bounds the
+/// nesting.
 ///
 /// `x<y`, inline, is `<math xmlns="http://www.w3.org/1998/Math/MathML" display="inline"><mi>x</mi><mo>&lt;</mo><mi>y</mi></math>`.
 #[tactic(auto, unfolding(crate::specs::Rendering::IsRendering, crate::specs::Rendering::IsFormulaRefusal))]

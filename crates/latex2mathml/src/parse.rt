@@ -129,6 +129,9 @@ fn plain(alloc: Global, token: Token) -> Result<Node, AllocError>
         Token::Operator(c) => Ok(Node::Operator(c)),
         Token::Paren(text) => Ok(Node::OtherOperator(text)),
         Token::Ampersand => Ok(Node::Ampersand),
+        Token::Space(width) => Ok(Node::Space(width)),
+        Token::Function(name) => Ok(Node::Function(String::from_str(alloc, name)?, None)),
+        Token::NewLine => Ok(Node::NewLine),
         other => marked(alloc, &other),
     }
 }

@@ -11,8 +11,10 @@ pub trait Source {
     /// The bytes that the calls give from here on, where they are known.
     ghost remaining: { Self → Option (List ℕ) };
 
+    /// Whether a call has answered `None`.
     ghost has_failed: { Self → Bool };
 
+    /// Whether a call has moved no byte, though some were due.
     ghost has_ended: { Self → Bool };
 
     /// Puts bytes at the start of the room and answers how many, or `None` where the source fails.
@@ -35,8 +37,10 @@ pub trait Sink {
     /// The bytes that it took, where they are known.
     ghost taken: { Self → Option (List ℕ) };
 
+    /// Whether a call has answered `None`.
     ghost has_failed: { Self → Bool };
 
+    /// Whether a call has moved no byte, though some were due.
     ghost has_ended: { Self → Bool };
 
     /// Takes the first of the bytes and answers how many, or `None` where the sink fails.
@@ -59,7 +63,9 @@ pub trait Sink {
 #[derive(Debug, Drop)]
 pub struct Stream<T> {
     pub inner: T,
+    /// Whether a call has answered `None`.
     pub failed: bool,
+    /// Whether a call has moved no byte, though some were due.
     pub ended: bool,
 }
 

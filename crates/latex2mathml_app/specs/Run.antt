@@ -49,4 +49,4 @@ IsRun job bytes in_failed in_ended old new failed ended (Ok _) =
     IsFalse in_failed × IsTrue in_ended × IsFalse failed × IsFalse ended × ((line : List ℕ) × IsProduct job bytes line × Appends old new line)
 IsRun job bytes in_failed in_ended old new failed ended (Err (Write written cause)) =
     IsFalse in_failed × IsTrue in_ended × ((line : List ℕ) × IsProduct job bytes line × Stops (Write written cause) line old new failed ended)
-IsRun job bytes in_failed in_ended old new failed ended (Err fault) = IsMissed bytes in_failed in_ended fault × Keeps old new
+IsRun job bytes in_failed in_ended old new failed ended (Err fault) = IsMissed bytes in_failed in_ended fault × Keeps old new × IsFalse failed × IsFalse ended

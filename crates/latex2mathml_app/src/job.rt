@@ -1,6 +1,6 @@
 //! One run of the program, from its input to its output.
 ghost use Rattle.std.specs.Prelude.{◌≡◌, ℕ, List, IfErr, IfOk, IsFalse, IsTrue, string_bytes};
-ghost use Rattle.std.specs.Io.KnownBytes.{Consumes};
+ghost use Rattle.std.specs.Io.KnownBytes.{Consumes, IsAtEnd};
 ghost use Rattle.latex2mathml.specs.Refusal.{IfRefused};
 ghost use Rattle.latex2mathml.specs.Rendering.{IsFormulaRefusal};
 ghost use Rattle.latex2mathml_app.specs.Run.{IsLine, IsMade, IsReadFault, IsRun, display_of};
@@ -37,8 +37,9 @@ const ROOM: usize = 4096;
 ///
 /// The answer is the markup of the formula and a line feed. The input is read until it gives no more. It is
 /// [`FileFault::Read`] where the input failed, [`FileFault::NotText`] where its bytes are not UTF-8, and
-/// [`FileFault::Refused`] where the formula is refused or memory is not found; the output has then taken nothing. After
-/// [`FileFault::Write`] it took the first bytes of the answer, as many as the fault says.
+/// [`FileFault::Refused`] where the formula is refused or memory is not found; the output was then not asked and can go
+/// on. Where the input failed, or memory was not found while it was read, it was read in part. After
+/// [`FileFault::Write`] the output took the first bytes of the answer, as many as the fault says.
 pub fn run<R: Source, W: Sink>(
     alloc: Global,
     job: Job,
@@ -49,10 +50,12 @@ pub fn run<R: Source, W: Sink>(
     requires input_unended { IsFalse (R.has_ended input.old) }
     requires output_unfailed { IsFalse (W.has_failed output.old) }
     requires output_unended { IsFalse (W.has_ended output.old) }
-    ensures { (bytes : List ℕ) × Consumes (R.remaining input.old) (R.remaining input.new) bytes
+    ensures outcome { (bytes : List ℕ)
+        × Consumes (R.remaining input.old) (R.remaining input.new) bytes
         × IsRun job bytes (R.has_failed input.new) (R.has_ended input.new)
         (W.taken output.old) (W.taken output.new)
         (W.has_failed output.new) (W.has_ended output.new) result }
+    ensures all_read { IsTrue (R.has_ended input.new) → IsAtEnd (R.remaining input.new) }
 {
     let line = make(alloc, job, input)?;
     write_document(output, line.as_str())
@@ -62,8 +65,10 @@ pub fn run<R: Source, W: Sink>(
 fn make<S: Source>(alloc: Global, job: Job, source: &mut S) -> Result<String, FileFault>
     requires unfailed { IsFalse (S.has_failed source.old) }
     requires unended { IsFalse (S.has_ended source.old) }
-    ensures { (bytes : List ℕ) × Consumes (S.remaining source.old) (S.remaining source.new) bytes
+    ensures made { (bytes : List ℕ)
+        × Consumes (S.remaining source.old) (S.remaining source.new) bytes
         × IsMade job bytes (S.has_failed source.new) (S.has_ended source.new) result }
+    ensures all_read { IsTrue (S.has_ended source.new) → IsAtEnd (S.remaining source.new) }
 {
     let bytes = read_whole(alloc, source)?;
     let Ok(text) = String::from_utf8(bytes) else {
@@ -95,6 +100,7 @@ fn read_whole<S: Source>(alloc: Global, source: &mut S) -> Result<Vec<u8>, FileF
     ensures fault { IfErr result (λ fault.
         ((bytes : List ℕ) × Consumes (S.remaining source.old) (S.remaining source.new) bytes)
         × IsReadFault fault (S.has_failed source.new)) }
+    ensures all_read { IsTrue (S.has_ended source.new) → IsAtEnd (S.remaining source.new) }
 {
     let mut bytes = Vec::new(alloc);
     let mut room = [0u8; ROOM];

@@ -156,12 +156,168 @@ fn commands_without_a_meaning(rt: HostRuntime) -> Result<(), Fail> {
             "<mi>a</mi><mtext>[PARSE ERROR: Undefined(\"Command(\\\"\n\\\")\")]</mtext><mi>b</mi>",
         ),
         (
+            "a\\\n",
+            "<mi>a</mi><mtext>[PARSE ERROR: Undefined(\"Command(\\\"\n\\\")\")]</mtext>",
+        ),
+        (
+            "\\\t",
+            "<mtext>[PARSE ERROR: Undefined(\"Command(\\\"\t\\\")\")]</mtext>",
+        ),
+        (
+            "\\\r",
+            "<mtext>[PARSE ERROR: Undefined(\"Command(\\\"\r\\\")\")]</mtext>",
+        ),
+        (
+            "\\bigotimes",
+            "<mtext>[PARSE ERROR: Undefined(\"Command(\\\"bigotimes\\\")\")]</mtext>",
+        ),
+        (
             "a\\",
             "<mi>a</mi><mtext>[PARSE ERROR: Undefined(\"Command(\\\"\\\")\")]</mtext>",
         ),
         (
             "\\",
             "<mtext>[PARSE ERROR: Undefined(\"Command(\\\"\\\")\")]</mtext>",
+        ),
+    ] {
+        assert!(rt; has(rt.alloc(), formula, contents)?, "{formula}");
+    }
+    Ok(())
+}
+
+#[test]
+fn spaces(rt: HostRuntime) -> Result<(), Fail> {
+    for (formula, contents) in [
+        (
+            "\\!\\,\\:\\;\\ x",
+            "<mspace width=\"-0.167em\"/><mspace width=\"0.167em\"/><mspace width=\"0.222em\"/><mspace width=\"0.278em\"/><mspace width=\"1em\"/><mi>x</mi>",
+        ),
+        ("\\quad", "<mspace width=\"1em\"/>"),
+        ("\\qquad", "<mspace width=\"2em\"/>"),
+        ("a\\ ", "<mi>a</mi><mspace width=\"1em\"/>"),
+        ("x\\ y", "<mi>x</mi><mspace width=\"1em\"/><mi>y</mi>"),
+        ("\\ 1", "<mspace width=\"1em\"/><mn>1</mn>"),
+    ] {
+        assert!(rt; has(rt.alloc(), formula, contents)?, "{formula}");
+    }
+    Ok(())
+}
+
+#[test]
+fn characters_by_command(rt: HostRuntime) -> Result<(), Fail> {
+    for (formula, contents) in [
+        ("\\alpha", "<mi>α</mi>"),
+        ("\\alpha1", "<mi>α</mi><mn>1</mn>"),
+        ("\\alphaé", "<mi>α</mi><mi mathvariant=\"normal\">é</mi>"),
+        ("\\alpha\\beta", "<mi>α</mi><mi>β</mi>"),
+        ("\\phi/\\varphi", "<mi>ϕ</mi><mo>/</mo><mi>φ</mi>"),
+        (
+            "x = 3+\\alpha",
+            "<mi>x</mi><mo>=</mo><mn>3</mn><mo>+</mo><mi>α</mi>",
+        ),
+        (
+            "g_{\\mu\\nu}",
+            "<msub><mi>g</mi><mrow><mi>μ</mi><mi>ν</mi></mrow></msub>",
+        ),
+        (
+            "\\&\\lt",
+            "<mi mathvariant=\"normal\">&amp;</mi><mo>&lt;</mo>",
+        ),
+        ("\\$", "<mi mathvariant=\"normal\">$</mi>"),
+        (
+            "\\a\\A",
+            "<mi mathvariant=\"normal\">\u{e5}</mi><mi mathvariant=\"normal\">\u{c5}</mi>",
+        ),
+        ("\\partial", "<mo mathvariant=\"italic\">∂</mo>"),
+        ("\\|", "<mo>\u{2225}</mo>"),
+        ("\\{\\}", "<mo>{</mo><mo>}</mo>"),
+        ("\\langle x", "<mo>\u{27e8}</mo><mi>x</mi>"),
+    ] {
+        assert!(rt; has(rt.alloc(), formula, contents)?, "{formula}");
+    }
+    Ok(())
+}
+
+#[test]
+fn functions(rt: HostRuntime) -> Result<(), Fail> {
+    for (formula, contents) in [
+        ("\\sin x", "<mi>sin</mi><mi>x</mi>"),
+        ("\\wp", "<mi>℘</mi>"),
+        ("\\sin^2 x", "<msup><mi>sin</mi><mn>2</mn></msup><mi>x</mi>"),
+        ("\\exp'", "<msup><mi>exp</mi><mo>′</mo></msup>"),
+    ] {
+        assert!(rt; has(rt.alloc(), formula, contents)?, "{formula}");
+    }
+    Ok(())
+}
+
+#[test]
+fn new_lines(rt: HostRuntime) -> Result<(), Fail> {
+    for (formula, contents) in [
+        ("\\\\", "<mtext>[PARSE ERROR: NewLine]</mtext>"),
+        (
+            "{a\\\\b}",
+            "<mrow><mi>a</mi><mtext>[PARSE ERROR: NewLine]</mtext><mi>b</mi></mrow>",
+        ),
+        (
+            "\\\\\\",
+            "<mtext>[PARSE ERROR: NewLine]</mtext><mtext>[PARSE ERROR: Undefined(\"Command(\\\"\\\")\")]</mtext>",
+        ),
+    ] {
+        assert!(rt; has(rt.alloc(), formula, contents)?, "{formula}");
+    }
+    Ok(())
+}
+
+/// Whether the formula is a token marked as an error, where a backslash stands before each quotation mark of its text.
+fn is_marked(alloc: Global, formula: &str, text: &str) -> Result<bool, Fail> {
+    let contents = format!(in alloc; "<mtext>[PARSE ERROR: Undefined(\"{text}\")]</mtext>")?;
+    has(alloc, formula, contents.as_str())
+}
+
+#[test]
+fn marked_tokens(rt: HostRuntime) -> Result<(), Fail> {
+    for (formula, text) in [
+        ("\\text", "Text"),
+        ("\\sqrt", "Sqrt"),
+        ("\\frac", "Frac"),
+        ("\\left", "Left"),
+        ("\\right", "Right"),
+        ("\\middle", "Middle"),
+        ("\\begin", "Begin"),
+        ("\\end", "End"),
+        ("\\binom", "Binom(None)"),
+        ("\\tbinom", "Binom(Some(Inline))"),
+        ("\\dbinom", "Binom(Some(Block))"),
+        ("\\overset", "Overset"),
+        ("\\underset", "Underset"),
+        ("\\operatorname", "OperatorName"),
+        ("\\slashed", "Slashed"),
+        ("\\mathbf", "Style(Bold)"),
+        ("\\bigl", "Big(\\\"1.2em\\\")"),
+        ("\\overbrace", "Overbrace('\u{23de}')"),
+        ("\\underbrace", "Underbrace('\u{23df}')"),
+        ("\\limsup", "Lim(\\\"lim sup\\\")"),
+        ("\\int", "Integral('∫')"),
+        ("\\sum", "BigOp('∑')"),
+        ("\\hat", "Over('^', True)"),
+        ("\\underline", "Under('_', True)"),
+    ] {
+        assert!(rt; is_marked(rt.alloc(), formula, text)?, "{formula}");
+    }
+    Ok(())
+}
+
+#[test]
+fn marked_tokens_beside_others(rt: HostRuntime) -> Result<(), Fail> {
+    for (formula, contents) in [
+        (
+            "\\hat'",
+            "<msup><mtext>[PARSE ERROR: Undefined(\"Over('^', True)\")]</mtext><mo>′</mo></msup>",
+        ),
+        (
+            "\\sqrt12",
+            "<mtext>[PARSE ERROR: Undefined(\"Sqrt\")]</mtext><mn>12</mn>",
         ),
     ] {
         assert!(rt; has(rt.alloc(), formula, contents)?, "{formula}");

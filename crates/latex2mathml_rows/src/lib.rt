@@ -16,4 +16,6 @@ mod nodes;
 #[cfg(test)]
 mod streams;
 #[cfg(test)]
+mod table;
+#[cfg(test)]
 mod tokens;

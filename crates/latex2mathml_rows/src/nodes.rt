@@ -38,6 +38,13 @@ fn each_kind_prints(rt: HostRuntime) -> Result<(), Fail> {
             "<mtext>[PARSE ERROR: Ampersand]</mtext>"
         )?
     );
+    assert!(rt;
+        prints(
+            alloc,
+            &Node::NewLine,
+            "<mtext>[PARSE ERROR: NewLine]</mtext>"
+        )?
+    );
     Ok(())
 }
 
@@ -55,6 +62,65 @@ fn superscript(alloc: Global, target: Node, sup: Node) -> Result<Node, AllocErro
 
 fn pair(alloc: Global, a: Node, b: Node) -> Result<Node, AllocError> {
     Ok(Node::Row(vec![in alloc; a, b]?))
+}
+
+fn function(alloc: Global, name: &str) -> Result<Node, AllocError> {
+    Ok(Node::Function(String::from_str(alloc, name)?, None))
+}
+
+fn applied(alloc: Global, name: &str, argument: Node) -> Result<Node, AllocError> {
+    let name = String::from_str(alloc, name)?;
+    Ok(Node::Function(name, Some(boxed(alloc, argument)?)))
+}
+
+#[test]
+fn functions_print(rt: HostRuntime) -> Result<(), Fail> {
+    let alloc = rt.alloc();
+    assert!(rt; prints(alloc, &function(alloc, "sin")?, "<mi>sin</mi>")?);
+    assert!(rt; prints(alloc, &function(alloc, "")?, "<mi></mi>")?);
+    assert!(rt;
+        prints(
+            alloc,
+            &function(alloc, "a<b>&\"")?,
+            "<mi>a&lt;b&gt;&amp;\"</mi>"
+        )?
+    );
+    let sine = applied(alloc, "sin", Node::Letter('x', Variant::Italic))?;
+    assert!(rt; prints(alloc, &sine, "<mi>sin</mi><mo>&#x2061;</mo><mi>x</mi>")?);
+    let marks = applied(alloc, "a<b", Node::Operator('<'))?;
+    assert!(rt;
+        prints(
+            alloc,
+            &marks,
+            "<mi>a&lt;b</mi><mo>&#x2061;</mo><mo>&lt;</mo>"
+        )?
+    );
+    Ok(())
+}
+
+#[test]
+fn spaces_print(rt: HostRuntime) -> Result<(), Fail> {
+    for (width, markup) in [
+        (-3, "<mspace width=\"-0.167em\"/>"),
+        (0, "<mspace width=\"0em\"/>"),
+        (1, "<mspace width=\"0.056em\"/>"),
+        (2, "<mspace width=\"0.111em\"/>"),
+        (3, "<mspace width=\"0.167em\"/>"),
+        (4, "<mspace width=\"0.222em\"/>"),
+        (5, "<mspace width=\"0.278em\"/>"),
+        (9, "<mspace width=\"0.5em\"/>"),
+        (10, "<mspace width=\"0.556em\"/>"),
+        (18, "<mspace width=\"1em\"/>"),
+        (19, "<mspace width=\"1.056em\"/>"),
+        (36, "<mspace width=\"2em\"/>"),
+        (-1, "<mspace width=\"-0.056em\"/>"),
+        (-18, "<mspace width=\"-1em\"/>"),
+        (i32::MAX, "<mspace width=\"119304647.056em\"/>"),
+        (i32::MIN, "<mspace width=\"-119304647.111em\"/>"),
+    ] {
+        assert!(rt; prints(rt.alloc(), &Node::Space(width), markup)?, "{width}");
+    }
+    Ok(())
 }
 
 #[test]
@@ -122,8 +188,36 @@ fn operators_print(rt: HostRuntime) -> Result<(), Fail> {
     Ok(())
 }
 
+/// Spaces, functions and the end of a row, all of them different.
+fn more_samples(alloc: Global) -> Result<Vec<Node>, AllocError> {
+    let sine = applied(alloc, "sin", Node::Letter('x', Variant::Italic))?;
+    let other = applied(alloc, "sin", Node::Letter('y', Variant::Italic))?;
+    let cosine = applied(alloc, "cos", Node::Letter('x', Variant::Italic))?;
+    let bare = function(alloc, "sin")?;
+    let other_bare = function(alloc, "cos")?;
+    Ok(vec![in alloc;
+        sine,
+        other,
+        cosine,
+        bare,
+        other_bare,
+        Node::Space(0),
+        Node::Space(18),
+        Node::Space(-18),
+        Node::NewLine,
+    ]?)
+}
+
 /// One node of each kind, and beside each one that differs in its contents alone.
 fn samples(alloc: Global) -> Result<Vec<Node>, Fail> {
+    let mut samples = more_samples(alloc)?;
+    for sample in first_samples(alloc)? {
+        samples.push(sample)?;
+    }
+    Ok(samples)
+}
+
+fn first_samples(alloc: Global) -> Result<Vec<Node>, Fail> {
     Ok(vec![in alloc;
         number(alloc, "1")?,
         number(alloc, "2")?,

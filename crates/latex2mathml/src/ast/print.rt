@@ -1,12 +1,13 @@
 //! Nodes to markup. Each part is written where it belongs; no text is made on the way.
-ghost use Rattle.std.specs.Prelude.{Some, ◌++◌, codes};
+ghost use Rattle.std.specs.Prelude.{◌≡◌, Some, ◌++◌, codes, unsigned_abs};
 ghost use Rattle.std.specs.Char.{encode_utf8};
 ghost use Rattle.std.specs.Fmt.{WritesOnOk};
 ghost use Rattle.std.specs.List.{flat_map};
 ghost use Rattle.latex2mathml.specs.Attributes.{variant_text};
 ghost use Rattle.latex2mathml.specs.Escape.{content, content_char, quoted, quoted_byte};
 ghost use Rattle.latex2mathml.specs.Print.{error_print, operator_print, print, prints};
-ghost use Rattle.latex2mathml.specs.Tree.{row, tree, trees};
+ghost use Rattle.latex2mathml.specs.Tree.{applied, row, tree, trees};
+ghost use Rattle.latex2mathml.specs.Width.{IsNearest, thousandths, thousandths_text, width_text};
 
 use crate::ast::Node;
 use crate::attribute::Variant;
@@ -52,11 +53,15 @@ fn write_node<W: fmt::Write>(node: &Node, f: &mut fmt::Formatter<W>) -> fmt::Res
         Node::Letter(c, Variant::Italic) => write_char("<mi>", *c, "</mi>", f),
         Node::Letter(c, variant) => write_letter(*c, *variant, "</mi>", f),
         Node::Operator(c) => write_operator(*c, f),
+        Node::Function(name, None) => write_text("<mi>", name, "</mi>", f),
+        Node::Function(name, Some(x)) => write_applied(name, x, f),
+        Node::Space(width) => write_space(*width, f),
         Node::Subscript(target, sub) => write_two("<msub>", target, sub, "</msub>", f),
         Node::Superscript(target, sup) => write_two("<msup>", target, sup, "</msup>", f),
         Node::Row(members) => write_row(members, f),
         Node::OtherOperator(text) => write_text("<mo>", text, "</mo>", f),
         Node::Ampersand => f.write_str("<mtext>[PARSE ERROR: Ampersand]</mtext>"),
+        Node::NewLine => f.write_str("<mtext>[PARSE ERROR: NewLine]</mtext>"),
         Node::Undefined(text) => write_undefined(text, f),
     }
 }
@@ -79,6 +84,18 @@ fn write_two<W: fmt::Write>(
     f.write_str(after)
 }
 
+/// Writes the name of a function and what it is applied to.
+#[cycle(print)]
+fn write_applied<W: fmt::Write>(name: &str, x: &Node, f: &mut fmt::Formatter<W>) -> fmt::Result
+    ensures { WritesOnOk W.write_str_gives f.old result (print (applied name.now (tree x.now)))
+        f.new }
+{
+    f.write_str("<mi>")?;
+    write_content(name, f)?;
+    f.write_str("</mi><mo>&#x2061;</mo>")?;
+    write_node(x, f)
+}
+
 #[cycle(print)]
 fn write_row<W: fmt::Write>(members: &[Node], f: &mut fmt::Formatter<W>) -> fmt::Result
     ensures { WritesOnOk W.write_str_gives f.old result (print (row (trees members.now))) f.new }
@@ -86,6 +103,47 @@ fn write_row<W: fmt::Write>(members: &[Node], f: &mut fmt::Formatter<W>) -> fmt:
     f.write_str("<mrow>")?;
     write_all(members, f)?;
     f.write_str("</mrow>")
+}
+
+/// Writes a space whose width is in eighteenths of an em.
+fn write_space<W: fmt::Write>(width: i32, f: &mut fmt::Formatter<W>) -> fmt::Result
+    ensures { WritesOnOk W.write_str_gives f.old result
+        (codes "<mspace width=\"" ++ (width_text width ++ codes "em\"/>")) f.new }
+{
+    f.write_str("<mspace width=\"")?;
+    if width < 0 {
+        f.write_str("-")?;
+    }
+    write_thousandths(thousandths_of(width), f)?;
+    f.write_str("em\"/>")
+}
+
+/// The thousandths that are nearest to a number of eighteenths, without its sign.
+fn thousandths_of(width: i32) -> u64
+    ensures value { result ≡ thousandths (unsigned_abs width) }
+    ensures nearest { IsNearest (unsigned_abs width) result }
+{
+    (u64::from(width.unsigned_abs()) * 1000 + 9) / 18
+}
+
+/// Writes a number of thousandths as a decimal fraction, without zeros at its end.
+fn write_thousandths<W: fmt::Write>(number: u64, f: &mut fmt::Formatter<W>) -> fmt::Result
+    ensures { WritesOnOk W.write_str_gives f.old result (thousandths_text number) f.new }
+{
+    let whole = number / 1000;
+    write!(f, "{whole}")?;
+    let a = number % 1000 / 100 % 10;
+    let b = number % 1000 / 10 % 10;
+    let c = number % 1000 % 10;
+    if c != 0 {
+        write!(f, ".{a}{b}{c}")
+    } else if b != 0 {
+        write!(f, ".{a}{b}")
+    } else if a != 0 {
+        write!(f, ".{a}")
+    } else {
+        Ok(())
+    }
 }
 
 /// Writes a text as contents, between two tags.

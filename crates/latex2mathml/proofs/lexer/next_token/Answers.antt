@@ -1,4 +1,4 @@
-use Rattle.latex2mathml.proofs.Slices.{step_after_space, only_space}
+use Rattle.latex2mathml.proofs.Spellings.{step_after_space, only_space}
 use Rattle.latex2mathml.proofs.lexer.next_token.Goals as goal
 
 pub returns-in_ok-step-in-Some-clause-token : goal.returns-in_ok-step-in-Some-clause-token

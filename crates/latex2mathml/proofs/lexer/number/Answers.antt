@@ -1,5 +1,5 @@
 use Rattle.std.proofs.Common.{refl}
-use Rattle.latex2mathml.proofs.Slices.{whole_number, number_with_period, pushed}
+use Rattle.latex2mathml.proofs.Spellings.{whole_number, number_with_period, pushed}
 use Rattle.latex2mathml.proofs.lexer.number.Goals as goal
 
 pub returns-in_ok-push_str-in-Some-clause-token : goal.returns-in_ok-push_str-in-Some-clause-token

@@ -1,5 +1,5 @@
 use Rattle.std.proofs.Common.{refl, false}
-use Rattle.latex2mathml.proofs.Slices.{after_backslash, colon_with_equals, lone_colon, one_character, not_longer}
+use Rattle.latex2mathml.proofs.Spellings.{after_backslash, colon_with_equals, lone_colon, one_character, not_longer}
 use Rattle.latex2mathml.proofs.lexer.token_at.Goals as goal
 
 pub returns-then-c-eq92-clause-token : goal.returns-then-c-eq92-clause-token
@@ -12,4 +12,4 @@ pub returns-in-None-clause-token : goal.returns-in-None-clause-token
 returns-in-None-clause-token c = lone_colon _ _ c.args.c _ _ c.requires.starts c.if-c-eq58.true c.in-None.ensures.first refl
 
 pub returns-clause-token : goal.returns-clause-token
-returns-clause-token c = one_character _ _ c.args.c _ _ c.requires.starts (not_longer c.args.c (cc) c.if-c-eq92.false c.if-c-eq58.false) c.requires.dark (cc)
+returns-clause-token c = one_character _ _ c.args.c _ _ c.requires.starts (not_longer c.args.c (cc) c.if-c-eq92.false c.if-c-eq58.false) c.requires.no_space (cc)

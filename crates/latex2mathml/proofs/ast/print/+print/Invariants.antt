@@ -21,3 +21,6 @@ decreases-write_all g l = 4 * goal.size-write_all g l + 2
 
 abbrev pub decreases-write_row : goal.decreases-write_row
 decreases-write_row g l = 4 * goal.size-write_row g l + 3
+
+abbrev pub decreases-write_applied : goal.decreases-write_applied
+decreases-write_applied g l = 4 * size-Node l.x.now + 2

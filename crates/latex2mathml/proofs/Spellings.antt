@@ -9,10 +9,7 @@ use Rattle.latex2mathml.specs.Commands.{command_token}
 use Rattle.latex2mathml.specs.Lexing.{Begins, BeginsWith, IsStep}
 use Rattle.latex2mathml.specs.Spelling.{is_period, is_equals_sign, begins_longer, character_token, character, colon, colon_equals, number, symbol_command, letter_command, lone_backslash}
 use Rattle.latex2mathml.specs.Tok.{Tok, Number, Command, Paren, Operator}
-use Rattle.latex2mathml.proofs.Numbers.{number_whole, number_parts}
-
-true_false : true ≡ false → ⊥
-true_false h = cc
+use Rattle.latex2mathml.proofs.Numbers.{number_whole, number_parts, true_false}
 
 empty_length : (cs bs : List ℕ) → encode_utf8_all cs ≡ bs → is_empty cs ≡ (length bs == 0)
 empty_length [] bs e = rw (sym e) refl
@@ -82,5 +79,5 @@ pub only_space : (text space start : List ℕ) → IsRun is_space text space sta
 only_space text space start run e = subst (Each is_space) (sym (run.0 ∙ ap (λ s. space ++ s) e ∙ append-nil space)) run.1
 
 -- what stands behind the longest run of white space is none
-pub dark_start : (text space start : List ℕ) (c : ℕ) (after : List ℕ) → IsRun is_space text space start → start ≡ c ∷ after → is_space c ≡ false
-dark_start text space start c after run e = subst (λ s. Stops is_space (head s)) e run.2
+pub no_space_first : (text space start : List ℕ) (c : ℕ) (after : List ℕ) → IsRun is_space text space start → start ≡ c ∷ after → is_space c ≡ false
+no_space_first text space start c after run e = subst (λ s. Stops is_space (head s)) e run.2
