@@ -1,7 +1,7 @@
 -- Each list of tokens has an outcome.
 use Rattle.std.proofs.Common.{ℕ, zero, suc, ◌-◌, ◌≤◌, ◌≡◌, ◌≢◌, ◌⊎◌, inl, inr, List, [], ◌∷◌, length, Option, Some, None, refl, sym, ap, subst, arith}
 use Rattle.latex2mathml.specs.Discreteness.{tok-discrete}
-use Rattle.latex2mathml.specs.Grammar.{Sort, core, single, node, Row, gives, refuses, reads_part, reads_members, reads_sign, takes_token, sees_token, takes_letters, row, primed, scripted, Outcome, Read, Refused, first_or_end, letter_of, AreLetters, Reads, core_at_end, core_begun, single_read, node_read, ReadsRow, row_gives, row_refuses, part_read, part_refused, members_read, members_refused, sign_stands, sign_missing, token_taken, token_at_end, token_seen, letters_taken, ReadsAll, formula_ends, group_ends, never_closed, member_read, later_refused, member_refused, Reading, Refuses}
+use Rattle.latex2mathml.specs.Grammar.{Sort, core, single, node, Rule, gives, refuses, reads_part, reads_members, reads_sign, takes_token, sees_token, takes_letters, rule, primed, scripted, Outcome, Read, Refused, first_or_end, letter_of, AreLetters, Reads, core_at_end, core_begun, single_read, node_read, ReadsRule, rule_gives, rule_refuses, part_read, part_refused, members_read, members_refused, sign_stands, sign_missing, token_taken, token_at_end, token_seen, letters_taken, ReadsAll, formula_ends, group_ends, never_closed, member_read, later_refused, member_refused, Reading, Refuses}
 use Rattle.latex2mathml.specs.Refusal.{Refusal}
 use Rattle.latex2mathml.specs.Tok.{Tok, EOF}
 use Rattle.latex2mathml.specs.Tree.{Tree}
@@ -28,28 +28,28 @@ mutual
   -- a core, a single or a node takes a token, where there is one
   shrinks : {s : Sort} {l : List Tok} {o : Outcome Tree} → Reads s l o → Within (length l - 1) o
   shrinks core_at_end = omega arith
-  shrinks (core_begun {o = o} d) = Within-≤ o (omega arith) (shrinks_row d)
-  shrinks (single_read (part_read {o = o} d ds)) = Within-≤ o (shrinks d) (shrinks_row ds)
+  shrinks (core_begun {o = o} d) = Within-≤ o (omega arith) (shrinks_rule d)
+  shrinks (single_read (part_read {o = o} d ds)) = Within-≤ o (shrinks d) (shrinks_rule ds)
   shrinks (single_read (part_refused d)) = tt
-  shrinks (node_read (part_read {o = o} d ds)) = Within-≤ o (shrinks d) (shrinks_row ds)
+  shrinks (node_read (part_read {o = o} d ds)) = Within-≤ o (shrinks d) (shrinks_rule ds)
   shrinks (node_read (part_refused d)) = tt
 
-  -- a row leaves no more tokens than it finds
-  shrinks_row : {r : Row} {l : List Tok} {o : Outcome Tree} → ReadsRow r l o → Within (length l) o
-  shrinks_row row_gives = omega arith
-  shrinks_row row_refuses = tt
-  shrinks_row (part_read {l = l} {m = m} {o = o} d ds) =
+  -- a rule leaves no more tokens than it finds
+  shrinks_rule : {r : Rule} {l : List Tok} {o : Outcome Tree} → ReadsRule r l o → Within (length l) o
+  shrinks_rule rule_gives = omega arith
+  shrinks_rule rule_refuses = tt
+  shrinks_rule (part_read {l = l} {m = m} {o = o} d ds) =
       let less : length m ≤ length l - 1 = shrinks d in
-      Within-≤ o (omega (arith, less)) (shrinks_row ds)
-  shrinks_row (part_refused d) = tt
-  shrinks_row (members_read {o = o} d ds) = Within-≤ o (shrinks_all d) (shrinks_row ds)
-  shrinks_row (members_refused d) = tt
-  shrinks_row (sign_stands {o = o} p d) = Within-≤ o (omega (arith, ap length p)) (shrinks_row d)
-  shrinks_row (sign_missing h d) = shrinks_row d
-  shrinks_row (token_taken {o = o} d) = Within-≤ o (omega arith) (shrinks_row d)
-  shrinks_row (token_at_end d) = shrinks_row d
-  shrinks_row (token_seen d) = shrinks_row d
-  shrinks_row (letters_taken cs {o = o} p d) = Within-≤ o (length-AreLetters cs _ _ p) (shrinks_row d)
+      Within-≤ o (omega (arith, less)) (shrinks_rule ds)
+  shrinks_rule (part_refused d) = tt
+  shrinks_rule (members_read {o = o} d ds) = Within-≤ o (shrinks_all d) (shrinks_rule ds)
+  shrinks_rule (members_refused d) = tt
+  shrinks_rule (sign_stands {o = o} p d) = Within-≤ o (omega (arith, ap length p)) (shrinks_rule d)
+  shrinks_rule (sign_missing h d) = shrinks_rule d
+  shrinks_rule (token_taken {o = o} d) = Within-≤ o (omega arith) (shrinks_rule d)
+  shrinks_rule (token_at_end d) = shrinks_rule d
+  shrinks_rule (token_seen d) = shrinks_rule d
+  shrinks_rule (letters_taken cs {o = o} p d) = Within-≤ o (length-AreLetters cs _ _ p) (shrinks_rule d)
 
   -- nodes side by side leave no more tokens than they find
   shrinks_all : {end : Option Tok} {l : List Tok} {o : Outcome (List Tree)} → ReadsAll end l o → Within (length l) o
@@ -69,7 +69,7 @@ record HasOutcomes (k : ℕ) : Type 0 where
   of_all : (end : Option Tok) (l : List Tok) → length l ≤ k → (o : Outcome (List Tree)) × ReadsAll end l o
 
 -- a part that has an outcome, and then what follows it
-part_total : {s : Sort} {then : Tree → Row} {l : List Tok} {k : ℕ} → length l - 1 ≤ k → ((x : Tree) (m : List Tok) → length m ≤ k → (o : Outcome Tree) × ReadsRow (then x) m o) → (o : Outcome Tree) → Reads s l o → (p : Outcome Tree) × ReadsRow (reads_part s then) l p
+part_total : {s : Sort} {then : Tree → Rule} {l : List Tok} {k : ℕ} → length l - 1 ≤ k → ((x : Tree) (m : List Tok) → length m ≤ k → (o : Outcome Tree) × ReadsRule (then x) m o) → (o : Outcome Tree) → Reads s l o → (p : Outcome Tree) × ReadsRule (reads_part s then) l p
 part_total h follow (Read x m) d =
     let w = shrinks d in
     let f = follow x m (omega (arith, w)) in
@@ -77,7 +77,7 @@ part_total h follow (Read x m) d =
 part_total h follow (Refused r) d = (Refused r, part_refused d)
 
 -- members that have an outcome, and then what follows them
-members_total : {end : Tok} {then : List Tree → Row} {l : List Tok} {k : ℕ} → length l ≤ k → ((xs : List Tree) (m : List Tok) → length m ≤ k → (o : Outcome Tree) × ReadsRow (then xs) m o) → (o : Outcome (List Tree)) → ReadsAll (Some end) l o → (p : Outcome Tree) × ReadsRow (reads_members end then) l p
+members_total : {end : Tok} {then : List Tree → Rule} {l : List Tok} {k : ℕ} → length l ≤ k → ((xs : List Tree) (m : List Tok) → length m ≤ k → (o : Outcome Tree) × ReadsRule (then xs) m o) → (o : Outcome (List Tree)) → ReadsAll (Some end) l o → (p : Outcome Tree) × ReadsRule (reads_members end then) l p
 members_total h follow (Read xs m) d =
     let w = shrinks_all d in
     let f = follow xs m (omega (arith, w)) in
@@ -100,46 +100,46 @@ run_of : (l : List Tok) → Run l
 run_of [] = record { letters = []; rest = []; are = (refl, refl) }
 run_of (t ∷ l) = longer_run (letter_of t) refl (run_of l)
 
--- a row has an outcome, where the parts have theirs
-row_total : (k : ℕ) → HasOutcomes k → (r : Row) (l : List Tok) → length l ≤ k → (o : Outcome Tree) × ReadsRow r l o
-row_total k has (gives x) l h = (Read x l, row_gives)
-row_total k has (refuses r) l h = (Refused r, row_refuses)
-row_total k has (reads_part s then) l h =
+-- a rule has an outcome, where the parts have theirs
+rule_total : (k : ℕ) → HasOutcomes k → (r : Rule) (l : List Tok) → length l ≤ k → (o : Outcome Tree) × ReadsRule r l o
+rule_total k has (gives x) l h = (Read x l, rule_gives)
+rule_total k has (refuses r) l h = (Refused r, rule_refuses)
+rule_total k has (reads_part s then) l h =
     let d = has.of_sort s l h in
-    part_total (omega arith) (λ x m fits. row_total k has (then x) m fits) d.0 d.1
-row_total k has (reads_members end then) l h =
+    part_total (omega arith) (λ x m fits. rule_total k has (then x) m fits) d.0 d.1
+rule_total k has (reads_members end then) l h =
     let d = has.of_all (Some end) l h in
-    members_total h (λ xs m fits. row_total k has (then xs) m fits) d.0 d.1
-row_total k has (reads_sign t a b) l h =
+    members_total h (λ xs m fits. rule_total k has (then xs) m fits) d.0 d.1
+rule_total k has (reads_sign t a b) l h =
     elim (begins l t) [
-      | inl found ↦ (let d = row_total k has a found.0 (omega (arith, ap length found.1)) in (d.0, sign_stands found.1 d.1))
-      | inr missing ↦ (let d = row_total k has b l h in (d.0, sign_missing missing d.1))
+      | inl found ↦ (let d = rule_total k has a found.0 (omega (arith, ap length found.1)) in (d.0, sign_stands found.1 d.1))
+      | inr missing ↦ (let d = rule_total k has b l h in (d.0, sign_missing missing d.1))
     ]
-row_total k has (takes_token then) [] h = let d = row_total k has (then EOF) [] h in (d.0, token_at_end d.1)
-row_total k has (takes_token then) (t ∷ l) h = let d = row_total k has (then t) l (omega arith) in (d.0, token_taken d.1)
-row_total k has (sees_token then) l h = let d = row_total k has (then (first_or_end l)) l h in (d.0, token_seen d.1)
-row_total k has (takes_letters then) l h =
+rule_total k has (takes_token then) [] h = let d = rule_total k has (then EOF) [] h in (d.0, token_at_end d.1)
+rule_total k has (takes_token then) (t ∷ l) h = let d = rule_total k has (then t) l (omega arith) in (d.0, token_taken d.1)
+rule_total k has (sees_token then) l h = let d = rule_total k has (then (first_or_end l)) l h in (d.0, token_seen d.1)
+rule_total k has (takes_letters then) l h =
     let run = run_of l in
-    let d = row_total k has (then run.letters) run.rest (omega (arith, length-AreLetters run.letters l run.rest run.are)) in
+    let d = rule_total k has (then run.letters) run.rest (omega (arith, length-AreLetters run.letters l run.rest run.are)) in
     (d.0, letters_taken run.letters run.are d.1)
 
 -- with one token more, a core has an outcome
 core_total : (k : ℕ) → HasOutcomes k → (l : List Tok) → length l ≤ suc k → (o : Outcome Tree) × Reads core l o
 core_total k has [] h = (_, core_at_end)
-core_total k has (t ∷ l) h = let d = row_total k has (row t) l (omega arith) in (d.0, core_begun d.1)
+core_total k has (t ∷ l) h = let d = rule_total k has (rule t) l (omega arith) in (d.0, core_begun d.1)
 
 -- so a single has one
 single_total : (k : ℕ) → HasOutcomes k → (l : List Tok) → length l ≤ suc k → (o : Outcome Tree) × Reads single l o
 single_total k has l h =
     let c = core_total k has l h in
-    let d = part_total (omega arith) (λ x m fits. row_total k has (primed x) m fits) c.0 c.1 in
+    let d = part_total (omega arith) (λ x m fits. rule_total k has (primed x) m fits) c.0 c.1 in
     (d.0, single_read d.1)
 
 -- so a node has one
 node_total : (k : ℕ) → HasOutcomes k → (l : List Tok) → length l ≤ suc k → (o : Outcome Tree) × Reads node l o
 node_total k has l h =
     let c = single_total k has l h in
-    let d = part_total (omega arith) (λ x m fits. row_total k has (scripted x) m fits) c.0 c.1 in
+    let d = part_total (omega arith) (λ x m fits. rule_total k has (scripted x) m fits) c.0 c.1 in
     (d.0, node_read d.1)
 
 -- so each of the three has one
@@ -173,11 +173,11 @@ all_total k has (Some end) (t ∷ l) h =
 
 -- where no token is left, a single is its core
 single_at_end : {x : Tree} → Reads core [] (Read x []) → Reads single [] (Read x [])
-single_at_end d = single_read (part_read d (sign_missing (λ e. cc) row_gives))
+single_at_end d = single_read (part_read d (sign_missing (λ e. cc) rule_gives))
 
 -- and a node is its single
 node_at_end : {x : Tree} → Reads single [] (Read x []) → Reads node [] (Read x [])
-node_at_end d = node_read (part_read d (sign_missing (λ e. cc) (sign_missing (λ e. cc) row_gives)))
+node_at_end d = node_read (part_read d (sign_missing (λ e. cc) (sign_missing (λ e. cc) rule_gives)))
 
 -- so where no token is left, there is an outcome
 sort_at_end : (s : Sort) (l : List Tok) → length l ≤ zero → (o : Outcome Tree) × Reads s l o

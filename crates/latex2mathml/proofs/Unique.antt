@@ -1,6 +1,6 @@
 -- Two outcomes of one list of tokens are one.
 use Rattle.std.proofs.Common.{◌≡◌, ◌≢◌, ◌∙◌, ℕ, List, [], ◌∷◌, Option, Some, None, refl, sym, ap, subst}
-use Rattle.latex2mathml.specs.Grammar.{Sort, Row, Outcome, Read, Refused, first, first_letter, letter_of, AreLetters, Reads, core_at_end, core_begun, single_read, node_read, ReadsRow, row_gives, row_refuses, part_read, part_refused, members_read, members_refused, sign_stands, sign_missing, token_taken, token_at_end, token_seen, letters_taken, ReadsAll, formula_ends, group_ends, never_closed, member_read, later_refused, member_refused}
+use Rattle.latex2mathml.specs.Grammar.{Sort, Rule, Outcome, Read, Refused, first, first_letter, letter_of, AreLetters, Reads, core_at_end, core_begun, single_read, node_read, ReadsRule, rule_gives, rule_refuses, part_read, part_refused, members_read, members_refused, sign_stands, sign_missing, token_taken, token_at_end, token_seen, letters_taken, ReadsAll, formula_ends, group_ends, never_closed, member_read, later_refused, member_refused}
 use Rattle.latex2mathml.specs.Refusal.{Refusal}
 use Rattle.latex2mathml.specs.Tok.{Tok}
 use Rattle.latex2mathml.specs.Tree.{Tree}
@@ -18,11 +18,11 @@ with_member : {x y : Tree} {m n f g : List Tok} {xs ys : List Tree} → Read x m
 with_member d e = cc
 
 -- what follows one outcome of a part also follows the other, which is the same
-moved_row : {A : Type 0} (then : A → Row) {x y : A} {m n : List Tok} {o : Outcome Tree} → Read x m ≡ Read y n → ReadsRow (then y) n o → ReadsRow (then x) m o
-moved_row then {x} {y} {m} {n} {o} e d =
+moved_rule : {A : Type 0} (then : A → Rule) {x y : A} {m n : List Tok} {o : Outcome Tree} → Read x m ≡ Read y n → ReadsRule (then y) n o → ReadsRule (then x) m o
+moved_rule then {x} {y} {m} {n} {o} e d =
     let p : y ≡ x = cc in
     let q : n ≡ m = cc in
-    subst (λ k. ReadsRow (then x) k o) q (subst (λ z. ReadsRow (then z) n o) p d)
+    subst (λ k. ReadsRule (then x) k o) q (subst (λ z. ReadsRule (then z) n o) p d)
 
 -- and so do the members behind a member
 moved_all : {end : Option Tok} {x y : Tree} {m n : List Tok} {o : Outcome (List Tree)} → Read x m ≡ Read y n → ReadsAll end n o → ReadsAll end m o
@@ -31,10 +31,10 @@ moved_all {end} {x} {y} {m} {n} {o} e d =
     subst (λ k. ReadsAll end k o) q d
 
 -- and what follows a sign
-moved_sign : {r : Row} {t : Tok} {l m n : List Tok} {o : Outcome Tree} → l ≡ t ∷ m → l ≡ t ∷ n → ReadsRow r n o → ReadsRow r m o
+moved_sign : {r : Rule} {t : Tok} {l m n : List Tok} {o : Outcome Tree} → l ≡ t ∷ m → l ≡ t ∷ n → ReadsRule r n o → ReadsRule r m o
 moved_sign {r} {m = m} {n = n} {o = o} p q d =
     let same : n ≡ m = cc in
-    subst (λ k. ReadsRow r k o) same d
+    subst (λ k. ReadsRule r k o) same d
 
 -- behind one end token stand the same tokens
 same_end : {t : Tok} {l m n : List Tok} → l ≡ t ∷ m → l ≡ t ∷ n → ◌≡◌ {A = Outcome (List Tree)} (Read [] m) (Read [] n)
@@ -66,30 +66,30 @@ mutual
   -- a core, a single or a node comes to one outcome
   one : {s : Sort} {l : List Tok} {o p : Outcome Tree} → Reads s l o → Reads s l p → o ≡ p
   one core_at_end core_at_end = refl
-  one (core_begun d) (core_begun e) = one_row d e
-  one (single_read d) (single_read e) = one_row d e
-  one (node_read d) (node_read e) = one_row d e
+  one (core_begun d) (core_begun e) = one_rule d e
+  one (single_read d) (single_read e) = one_rule d e
+  one (node_read d) (node_read e) = one_rule d e
 
-  -- a row comes to one outcome
-  one_row : {r : Row} {l : List Tok} {o p : Outcome Tree} → ReadsRow r l o → ReadsRow r l p → o ≡ p
-  one_row row_gives row_gives = refl
-  one_row row_refuses row_refuses = refl
-  one_row (part_read {then = then} d ds) (part_read e es) = one_row ds (moved_row then (one d e) es)
-  one_row (part_read d ds) (part_refused e) = absurd (not_refused (one d e))
-  one_row (part_refused d) (part_read e es) = absurd (not_refused (sym (one d e)))
-  one_row (part_refused d) (part_refused e) = one d e
-  one_row (members_read {then = then} d ds) (members_read e es) = one_row ds (moved_row then (one_all d e) es)
-  one_row (members_read d ds) (members_refused e) = absurd (not_refused (one_all d e))
-  one_row (members_refused d) (members_read e es) = absurd (not_refused (sym (one_all d e)))
-  one_row (members_refused d) (members_refused e) = ap Refused (Refused-inj (one_all d e))
-  one_row (sign_stands p d) (sign_stands q e) = one_row d (moved_sign p q e)
-  one_row (sign_stands p d) (sign_missing h e) = absurd (h (ap first p))
-  one_row (sign_missing h d) (sign_stands p e) = absurd (h (ap first p))
-  one_row (sign_missing h d) (sign_missing k e) = one_row d e
-  one_row (token_taken d) (token_taken e) = one_row d e
-  one_row (token_at_end d) (token_at_end e) = one_row d e
-  one_row (token_seen d) (token_seen e) = one_row d e
-  one_row (letters_taken cs {then = then} p d) (letters_taken ds q e) = one_row d (moved_row then (one_run cs ds _ _ _ p q) e)
+  -- a rule comes to one outcome
+  one_rule : {r : Rule} {l : List Tok} {o p : Outcome Tree} → ReadsRule r l o → ReadsRule r l p → o ≡ p
+  one_rule rule_gives rule_gives = refl
+  one_rule rule_refuses rule_refuses = refl
+  one_rule (part_read {then = then} d ds) (part_read e es) = one_rule ds (moved_rule then (one d e) es)
+  one_rule (part_read d ds) (part_refused e) = absurd (not_refused (one d e))
+  one_rule (part_refused d) (part_read e es) = absurd (not_refused (sym (one d e)))
+  one_rule (part_refused d) (part_refused e) = one d e
+  one_rule (members_read {then = then} d ds) (members_read e es) = one_rule ds (moved_rule then (one_all d e) es)
+  one_rule (members_read d ds) (members_refused e) = absurd (not_refused (one_all d e))
+  one_rule (members_refused d) (members_read e es) = absurd (not_refused (sym (one_all d e)))
+  one_rule (members_refused d) (members_refused e) = ap Refused (Refused-inj (one_all d e))
+  one_rule (sign_stands p d) (sign_stands q e) = one_rule d (moved_sign p q e)
+  one_rule (sign_stands p d) (sign_missing h e) = absurd (h (ap first p))
+  one_rule (sign_missing h d) (sign_stands p e) = absurd (h (ap first p))
+  one_rule (sign_missing h d) (sign_missing k e) = one_rule d e
+  one_rule (token_taken d) (token_taken e) = one_rule d e
+  one_rule (token_at_end d) (token_at_end e) = one_rule d e
+  one_rule (token_seen d) (token_seen e) = one_rule d e
+  one_rule (letters_taken cs {then = then} p d) (letters_taken ds q e) = one_rule d (moved_rule then (one_run cs ds _ _ _ p q) e)
 
   -- nodes side by side come to one outcome
   pub one_all : {end : Option Tok} {l : List Tok} {o p : Outcome (List Tree)} → ReadsAll end l o → ReadsAll end l p → o ≡ p

@@ -40,3 +40,6 @@ one_after_point n e f h = rw (decimal_digit (n / 100 % 10) (omega arith)) (sym (
 
 pub nearest : (n : ℕ) → IsNearest n (thousandths n)
 nearest n = (omega arith, omega arith)
+
+pub only_nearest : (n t : ℕ) → IsNearest n t → t ≡ thousandths n
+only_nearest n t h = omega (arith, h.0, h.1)

@@ -1,4 +1,5 @@
--- Tokens, trees and refusals can be told apart: of any two it is known whether they are one value.
+-- Tokens, trees and refusals can be told apart: of any two it is known whether they are one value. The numbers of the
+-- attributes serve that proof alone, and say nothing of the language.
 use Rattle.std.specs.Prelude.{◌≡◌, ℕ, zero, suc, ◌==◌, Bool, Option, refl, if◌then◌else◌}
 use mathlib.Core.Bool.{Bool-discrete}
 use mathlib.Core.HLevel.{Discrete}

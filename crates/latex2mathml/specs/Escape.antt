@@ -1,16 +1,22 @@
 -- How a text stands in markup, and how it stands in quotes. All that is escaped is ASCII, and no byte of another
 -- character is, so what holds of bytes holds of characters.
-use Rattle.std.specs.Prelude.{ℕ, List, [], ◌∷◌, ◌++◌, if◌then◌else◌, ◌==◌, codes}
+use Rattle.std.specs.Prelude.{ℕ, Bool, ◌||◌, List, [], ◌∷◌, ◌++◌, if◌then◌else◌, ◌==◌, codes}
 use Rattle.std.specs.List.{flat_map}
 use Rattle.std.specs.Char.{encode_utf8}
+use Rattle.std.specs.Str.{byte}
 
--- a byte of contents: & < > are escaped
+-- what contents do not hold as it is
+abbrev pub is_escaped : ℕ → Bool
+is_escaped c = c == byte "&" || c == byte "<" || c == byte ">"
+
+-- a byte of contents
 abbrev pub content_byte : ℕ → List ℕ
-content_byte b = if b == 38 then codes "&amp;" else (if b == 60 then codes "&lt;" else (if b == 62 then codes "&gt;" else b ∷ []))
+content_byte b =
+    if b == byte "&" then codes "&amp;" else (if b == byte "<" then codes "&lt;" else (if b == byte ">" then codes "&gt;" else b ∷ []))
 
 -- a byte of an attribute's value: the quotation mark is escaped as well
 abbrev pub value_byte : ℕ → List ℕ
-value_byte b = if b == 34 then codes "&quot;" else content_byte b
+value_byte b = if b == byte "\"" then codes "&quot;" else content_byte b
 
 -- a text as contents
 abbrev pub content : List ℕ → List ℕ
@@ -26,7 +32,7 @@ content_char c = content (encode_utf8 c)
 
 -- a byte of a text in quotes: a backslash stands before each quotation mark and each backslash
 abbrev pub quoted_byte : ℕ → List ℕ
-quoted_byte b = if b == 34 then 92 ∷ 34 ∷ [] else (if b == 92 then 92 ∷ 92 ∷ [] else b ∷ [])
+quoted_byte b = if b == byte "\"" then codes "\\\"" else (if b == byte "\\" then codes "\\\\" else b ∷ [])
 
 -- a text in quotes
 abbrev pub quoted : List ℕ → List ℕ
@@ -34,4 +40,5 @@ quoted text = codes "\"" ++ (flat_map quoted_byte text ++ codes "\"")
 
 -- a character in apostrophes, with a backslash before an apostrophe and before a backslash
 abbrev pub quoted_char : ℕ → List ℕ
-quoted_char c = if c == 39 then codes "'\\''" else (if c == 92 then codes "'\\\\'" else codes "'" ++ (encode_utf8 c ++ codes "'"))
+quoted_char c =
+    if c == byte "'" then codes "'\\''" else (if c == byte "\\" then codes "'\\\\'" else codes "'" ++ (encode_utf8 c ++ codes "'"))

@@ -1,8 +1,9 @@
--- Laws of the grammar: they hold of every list of tokens, and whatever the rows are.
-use Rattle.std.specs.Prelude.{◌≡◌, ◌≤◌, ◌⊎◌, List, ◌∷◌, ◌++◌, Some, length}
-use Rattle.latex2mathml.specs.Grammar.{Sort, core, single, node, grouped, Read, Reads, ReadsAll, Reading, Refuses}
+-- Laws of the grammar: they hold of every list of tokens, and whatever the rules are.
+use Rattle.std.specs.Prelude.{◌≡◌, ◌⊎◌, ◌↔◌, List, [], ◌++◌, Some}
+use Rattle.latex2mathml.specs.Grammar.{Sort, Rule, Read, Refused, Reads, ReadsRule, ReadsAll, Reading, Refuses}
 use Rattle.latex2mathml.specs.Refusal.{Refusal}
-use Rattle.latex2mathml.specs.Slices.{Core, Single, Node, Group}
+use Rattle.latex2mathml.specs.SliceRefusals.{PartRefuses, RuleRefuses, MembersRefuse, FormulaRefuses}
+use Rattle.latex2mathml.specs.Slices.{IsPart, AreParts, AreMembers, AreNodes}
 use Rattle.latex2mathml.specs.Tok.{Tok}
 use Rattle.latex2mathml.specs.Tree.{Tree}
 
@@ -17,10 +18,25 @@ pub record HasOneReading (l : List Tok) : Type 0 where
   -- what has a reading is not refused
   pub never_both : (xs : List Tree) (r : Refusal) → Reading l xs → Refuses l r → ⊥
 
--- what is read is a slice of the tokens, with the rest behind it, and the slice is not empty where a token is left
+-- what is read is a slice of the tokens, with the rest behind it
 pub record IsSliced : Type 0 where
-  pub cores : (l f : List Tok) (x : Tree) → Reads core l (Read x f) → (w : List Tok) × (l ≡ w ++ f) × Core w f x
-  pub singles : (l f : List Tok) (x : Tree) → Reads single l (Read x f) → (w : List Tok) × (l ≡ w ++ f) × Single w f x
-  pub nodes : (l f : List Tok) (x : Tree) → Reads node l (Read x f) → (w : List Tok) × (l ≡ w ++ f) × Node w f x
-  pub groups : (end : Tok) (l f : List Tok) (xs : List Tree) → ReadsAll (Some end) l (Read xs f) → (w : List Tok) × (l ≡ w ++ f) × Group end w f (grouped xs)
-  pub some_taken : (s : Sort) (t : Tok) (l f : List Tok) (x : Tree) → Reads s (t ∷ l) (Read x f) → length f ≤ length l
+  pub parts : (s : Sort) (l f : List Tok) (x : Tree) → Reads s l (Read x f) → (w : List Tok) × (l ≡ w ++ f) × IsPart s w f x
+  pub rules : (r : Rule) (l f : List Tok) (x : Tree) → ReadsRule r l (Read x f) → (w : List Tok) × (l ≡ w ++ f) × AreParts r w f x
+  pub groups : (end : Tok) (l f : List Tok) (xs : List Tree) → ReadsAll (Some end) l (Read xs f) → (w : List Tok) × (l ≡ w ++ f) × AreMembers end w f xs
+  -- the slice of a part is empty only where nothing is left, and that of a group, which has its end token, never
+  pub some_taken : (s : Sort) (f : List Tok) (x : Tree) → IsPart s [] f x → f ≡ []
+  pub end_taken : (end : Tok) (f : List Tok) (xs : List Tree) → ¬ (AreMembers end [] f xs)
+
+-- a slice is what the grammar over slices says exactly where it is read and the tokens behind it are left
+pub record IsReadBySlices : Type 0 where
+  pub parts : (s : Sort) (w f : List Tok) (x : Tree) → Reads s (w ++ f) (Read x f) ↔ IsPart s w f x
+  pub rules : (r : Rule) (w f : List Tok) (x : Tree) → ReadsRule r (w ++ f) (Read x f) ↔ AreParts r w f x
+  pub groups : (end : Tok) (w f : List Tok) (xs : List Tree) → ReadsAll (Some end) (w ++ f) (Read xs f) ↔ AreMembers end w f xs
+  pub formulas : (l : List Tok) (xs : List Tree) → Reading l xs ↔ AreNodes l xs
+
+-- tokens are refused exactly where the grammar over slices refuses them
+pub record IsRefusedBySlices : Type 0 where
+  pub parts : (s : Sort) (l : List Tok) (r : Refusal) → Reads s l (Refused r) ↔ PartRefuses s l r
+  pub rules : (r : Rule) (l : List Tok) (q : Refusal) → ReadsRule r l (Refused q) ↔ RuleRefuses r l q
+  pub groups : (end : Tok) (l : List Tok) (r : Refusal) → ReadsAll (Some end) l (Refused r) ↔ MembersRefuse end l r
+  pub formulas : (l : List Tok) (r : Refusal) → Refuses l r ↔ FormulaRefuses l r

@@ -14,10 +14,14 @@ abbrev pub letter_print : ℕ → Variant → List ℕ
 letter_print c Italic = codes "<mi>" ++ (content_char c ++ codes "</mi>")
 letter_print c variant = codes "<mi mathvariant=\"" ++ (variant_text variant ++ (codes "\">" ++ (content_char c ++ codes "</mi>")))
 
--- an operator; the sign of the partial derivative, U+2202, alone is italic
+-- the sign of the partial derivative
+abbrev pub partial_derivative : ℕ
+partial_derivative = 0x2202  -- ∂
+
+-- an operator; the sign of the partial derivative alone is italic
 abbrev pub operator_print : ℕ → List ℕ
 operator_print c =
-    if c == 8706 then codes "<mo mathvariant=\"italic\">" ++ (content_char 8706 ++ codes "</mo>") else codes "<mo>" ++ (content_char c ++ codes "</mo>")
+    if c == partial_derivative then codes "<mo mathvariant=\"italic\">" ++ (content_char partial_derivative ++ codes "</mo>") else codes "<mo>" ++ (content_char c ++ codes "</mo>")
 
 -- what could not be read, marked as an error
 abbrev pub error_print : List ℕ → List ℕ

@@ -1,11 +1,11 @@
 -- Why a formula or a document is refused, as values, and the texts of refusals.
-use Rattle.std.specs.Prelude.{ℕ, List, ◌++◌, Option, Some, None, IfErr, IfSome, Result, codes}
+use Rattle.std.specs.Prelude.{ℕ, List, ◌++◌, Option, Some, None, IfErr, IfSome, Result, codes, string_bytes}
 use Rattle.latex2mathml.specs.Tok.{Tok, tok}
 use Rattle.latex2mathml.specs.TokenText.{token_text}
 use Rattle.latex2mathml.specs.declared.error.LatexError.{LatexError}
 use Rattle.latex2mathml.specs.declared.error.LatexError.TheVariants as error
 
--- The last three have no error of the code yet.
+-- No formula is refused for its dollar signs: that is a refusal of a document.
 pub data Refusal : Type 0 where
   -- the token that is expected, and the one that was found
   UnexpectedToken : Tok → Tok → Refusal
@@ -18,6 +18,9 @@ pub data Refusal : Type 0 where
 -- the refusal that an error tells; want of memory refuses nothing
 abbrev pub refusal_of : LatexError → Option Refusal
 refusal_of (error.UnexpectedToken expected got) = Some (UnexpectedToken (tok expected) (tok got))
+refusal_of (error.MissingParensethis location got) = Some (MissingParensethis (tok location) (tok got))
+refusal_of (error.UnknownEnvironment name) = Some (UnknownEnvironment (string_bytes name))
+refusal_of error.InvalidNumberOfDollarSigns = Some InvalidNumberOfDollarSigns
 refusal_of error.OutOfMemory = None
 
 -- the fact of the refusal, where the answer is an error that tells one

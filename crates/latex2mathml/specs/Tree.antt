@@ -65,6 +65,11 @@ abbrev pub function_tree : List ℕ → Option Tree → Tree
 function_tree name None = function name
 function_tree name (Some x) = applied name x
 
+-- a root, where its degree may be missing
+abbrev pub root_tree : Option Tree → Tree → Tree
+root_tree None x = sqrt x
+root_tree (Some degree) x = root degree x
+
 abbrev pub unboxed : Option (Box Tree Global) → Option Tree
 unboxed = option_map (λ x. x.value)
 
@@ -77,10 +82,26 @@ tree_step (Node-F.Function name argument) = function_tree (string_bytes name) (u
 tree_step (Node-F.Space width) = space width
 tree_step (Node-F.Subscript target sub) = subscript target.value sub.value
 tree_step (Node-F.Superscript target sup) = superscript target.value sup.value
+tree_step (Node-F.SubSup target sub sup) = sub_sup target.value sub.value sup.value
+tree_step (Node-F.OverOp c accent x) = over_op c accent x.value
+tree_step (Node-F.UnderOp c accent x) = under_op c accent x.value
+tree_step (Node-F.Overset above target) = overset above.value target.value
+tree_step (Node-F.Underset below target) = underset below.value target.value
+tree_step (Node-F.Under target below) = under target.value below.value
+tree_step (Node-F.UnderOver target below above) = under_over target.value below.value above.value
+tree_step (Node-F.Sqrt degree x) = root_tree (unboxed degree) x.value
+tree_step (Node-F.Frac numerator denominator thickness) = frac numerator.value denominator.value thickness
 tree_step (Node-F.Row members) = row (trees_of members.items)
+tree_step (Node-F.Fenced opening close x) = fenced opening.now close.now x.value
+tree_step (Node-F.StrechedOp is_stretchy text) = stretched is_stretchy (string_bytes text)
 tree_step (Node-F.OtherOperator text) = other_operator text.now
+tree_step (Node-F.SizedParen size paren) = sized_paren size.now paren.now
+tree_step (Node-F.Text text) = words (string_bytes text)
+tree_step (Node-F.Matrix members align) = matrix (trees_of members.items) align
 tree_step Node-F.Ampersand = ampersand
 tree_step Node-F.NewLine = new_line
+tree_step (Node-F.Slashed x) = slashed x.value
+tree_step (Node-F.Style display x) = style display x.value
 tree_step (Node-F.Undefined text) = undefined (string_bytes text)
 
 -- the tree of a node of the code

@@ -1,13 +1,14 @@
 //! The trees of formulas.
-ghost use Rattle.std.specs.Prelude.{◌≡◌, ◌↔◌, IsTrue, IfOk, map};
-ghost use Rattle.latex2mathml.specs.Discreteness.{same_tree, tree-discrete};
-ghost use Rattle.latex2mathml.specs.Same.{same_laws};
-ghost use Rattle.latex2mathml.specs.Grammar.{grouped, prime_mark};
-ghost use Rattle.latex2mathml.specs.Tree.{optional_tree, tree, trees, subscript, superscript};
+ghost use Rattle.std.specs.Prelude.{◌≡◌, IfOk, map};
+ghost use Rattle.latex2mathml.specs.Tree.{optional_tree, tree};
 
+mod equality;
+mod make;
 pub(crate) mod print;
+mod style;
 
-use crate::attribute::Variant;
+use crate::DisplayStyle;
+use crate::attribute::{Accent, ColumnAlign, LineThickness, Variant};
 use std::alloc::{AllocError, Global};
 
 /// A part of a formula. Its `Display` prints the markup, and escapes texts and characters there.
@@ -27,15 +28,68 @@ pub enum Node {
     Subscript(Box<Node>, Box<Node>),
     /// What carries the script, and the script over it.
     Superscript(Box<Node>, Box<Node>),
+    /// What carries the scripts, the script under it and the script over it.
+    SubSup {
+        target: Box<Node>,
+        sub: Box<Node>,
+        sup: Box<Node>,
+    },
+    /// A sign over a node, and whether it is the node's accent.
+    OverOp(char, Accent, Box<Node>),
+    /// A sign under a node, and whether it is the node's accent.
+    UnderOp(char, Accent, Box<Node>),
+    /// A node with another over it.
+    Overset {
+        over: Box<Node>,
+        target: Box<Node>,
+    },
+    /// A node with another under it.
+    Underset {
+        under: Box<Node>,
+        target: Box<Node>,
+    },
+    /// What carries the limit, and the limit under it.
+    Under(Box<Node>, Box<Node>),
+    /// What carries the limits, the limit under it and the limit over it.
+    UnderOver {
+        target: Box<Node>,
+        under: Box<Node>,
+        over: Box<Node>,
+    },
+    /// The degree of a root, where it has one, and what the root is of.
+    Sqrt(Option<Box<Node>>, Box<Node>),
+    /// The numerator, the denominator, and the line between them.
+    Frac(Box<Node>, Box<Node>, LineThickness),
     /// Nodes side by side.
     Row(Vec<Node>),
+    /// A node between two fences, which grow with it.
+    Fenced {
+        opening: &'static str,
+        close: &'static str,
+        content: Box<Node>,
+    },
+    /// An operator that says whether it grows with what stands beside it.
+    StrechedOp(bool, String),
     /// An operator that is a text.
     OtherOperator(&'static str),
+    /// A parenthesis of a size of its own, such as `1.2em`.
+    SizedParen {
+        size: &'static str,
+        paren: &'static str,
+    },
+    /// Words of a text.
+    Text(String),
+    /// A table: the cells one after another, each ended by `Ampersand`, each row of the matrix ended by `NewLine`.
+    Matrix(Vec<Node>, ColumnAlign),
     /// The end of a cell, where a matrix has it as a member; elsewhere it is marked as an error.
     Ampersand,
     /// The end of a row of a matrix, where a matrix has it as a member; elsewhere it is marked as an
     /// error.
     NewLine,
+    /// A letter or an operator with a slash through it. Any other node shows no slash.
+    Slashed(Box<Node>),
+    /// A node set as in a block or as in a line of text, where that is known.
+    Style(Option<DisplayStyle>, Box<Node>),
     /// The text of a token that has no meaning where it stands. It is marked as an error.
     Undefined(String),
 }
@@ -61,44 +115,62 @@ impl Node {
             Node::Superscript(target, sup) => {
                 Ok(Node::Superscript(clone_boxed(target, alloc)?, clone_boxed(sup, alloc)?))
             }
+            Node::SubSup { target, sub, sup } => Ok(Node::SubSup {
+                target: clone_boxed(target, alloc)?,
+                sub: clone_boxed(sub, alloc)?,
+                sup: clone_boxed(sup, alloc)?,
+            }),
+            Node::OverOp(c, accent, x) => Ok(Node::OverOp(*c, *accent, clone_boxed(x, alloc)?)),
+            Node::UnderOp(c, accent, x) => Ok(Node::UnderOp(*c, *accent, clone_boxed(x, alloc)?)),
+            Node::Overset { over, target } => Ok(Node::Overset {
+                over: clone_boxed(over, alloc)?,
+                target: clone_boxed(target, alloc)?,
+            }),
+            Node::Underset { under, target } => Ok(Node::Underset {
+                under: clone_boxed(under, alloc)?,
+                target: clone_boxed(target, alloc)?,
+            }),
+            Node::Under(target, under) => {
+                Ok(Node::Under(clone_boxed(target, alloc)?, clone_boxed(under, alloc)?))
+            }
+            Node::UnderOver {
+                target,
+                under,
+                over,
+            } => Ok(Node::UnderOver {
+                target: clone_boxed(target, alloc)?,
+                under: clone_boxed(under, alloc)?,
+                over: clone_boxed(over, alloc)?,
+            }),
+            Node::Sqrt(degree, x) => {
+                Ok(Node::Sqrt(clone_optional(degree, alloc)?, clone_boxed(x, alloc)?))
+            }
+            Node::Frac(a, b, thickness) => {
+                Ok(Node::Frac(clone_boxed(a, alloc)?, clone_boxed(b, alloc)?, *thickness))
+            }
             Node::Row(members) => Ok(Node::Row(clone_all(members, alloc)?)),
+            Node::Fenced {
+                opening,
+                close,
+                content,
+            } => Ok(Node::Fenced {
+                opening,
+                close,
+                content: clone_boxed(content, alloc)?,
+            }),
+            Node::StrechedOp(is_stretchy, text) => {
+                Ok(Node::StrechedOp(*is_stretchy, String::from_str(alloc, text)?))
+            }
             Node::OtherOperator(text) => Ok(Node::OtherOperator(text)),
+            Node::SizedParen { size, paren } => Ok(Node::SizedParen { size, paren }),
+            Node::Text(text) => Ok(Node::Text(String::from_str(alloc, text)?)),
+            Node::Matrix(members, align) => Ok(Node::Matrix(clone_all(members, alloc)?, *align)),
             Node::Ampersand => Ok(Node::Ampersand),
             Node::NewLine => Ok(Node::NewLine),
+            Node::Slashed(x) => Ok(Node::Slashed(clone_boxed(x, alloc)?)),
+            Node::Style(display, x) => Ok(Node::Style(*display, clone_boxed(x, alloc)?)),
             Node::Undefined(text) => Ok(Node::Undefined(String::from_str(alloc, text)?)),
         }
-    }
-
-    /// The members of a group as one node: one member is itself, none or several are a row.
-    pub(crate) fn of_group(mut members: Vec<Node>) -> Node
-        ensures { tree result ≡ grouped (map tree members.items) }
-    {
-        if members.len() == 1 {
-            if let Some(member) = members.pop() {
-                return member;
-            }
-        }
-        Node::Row(members)
-    }
-
-    /// A node with a prime.
-    pub(crate) fn primed(alloc: Global, target: Node) -> Result<Node, AllocError>
-        ensures { IfOk result (λ node. tree node ≡ superscript (tree target) prime_mark) }
-    {
-        let prime = Node::Operator('′');
-        Ok(Node::Superscript(Box::new(alloc, target)?, Box::new(alloc, prime)?))
-    }
-
-    pub(crate) fn subscript(alloc: Global, target: Node, sub: Node) -> Result<Node, AllocError>
-        ensures { IfOk result (λ node. tree node ≡ subscript (tree target) (tree sub)) }
-    {
-        Ok(Node::Subscript(Box::new(alloc, target)?, Box::new(alloc, sub)?))
-    }
-
-    pub(crate) fn superscript(alloc: Global, target: Node, sup: Node) -> Result<Node, AllocError>
-        ensures { IfOk result (λ node. tree node ≡ superscript (tree target) (tree sup)) }
-    {
-        Ok(Node::Superscript(Box::new(alloc, target)?, Box::new(alloc, sup)?))
     }
 }
 
@@ -129,59 +201,4 @@ fn clone_all(nodes: &[Node], alloc: Global) -> Result<Vec<Node>, AllocError>
         copies.push(node.clone(alloc)?)?;
     }
     Ok(copies)
-}
-
-/// Two nodes are equal where their contents are. Written out, and not derived, so that the contract
-/// says so.
-impl PartialEq for Node {
-    ghost eq = { λ a b. same_tree (tree a) (tree b) };
-
-    ghost laws = { same_laws tree-discrete tree };
-
-    fn eq(&self, other: &Node) -> bool
-        ensures answer { result ≡ same_tree (tree self.now) (tree other.now) }
-        ensures contents { IsTrue result ↔ (tree self.now ≡ tree other.now) }
-    {
-        same_contents(self, other)
-    }
-}
-
-#[cycle(same)]
-fn same_contents(a: &Node, b: &Node) -> bool
-    ensures { IsTrue result ↔ (tree a.now ≡ tree b.now) }
-{
-    match a {
-        Node::Number(digits) => matches!(b, Node::Number(other) if digits == other),
-        Node::Letter(c, variant) =>
-            matches!(b, Node::Letter(d, other) if c == d && variant == other),
-        Node::Operator(c) => matches!(b, Node::Operator(d) if c == d),
-        Node::Function(name, None) => matches!(b, Node::Function(other, None) if name == other),
-        Node::Function(name, Some(x)) =>
-            matches!(b, Node::Function(other, Some(y)) if name == other && same_contents(x, y)),
-        Node::Space(width) => matches!(b, Node::Space(other) if width == other),
-        Node::Subscript(target, sub) =>
-            matches!(b, Node::Subscript(base, other) if same_contents(target, base) && same_contents(sub, other)),
-        Node::Superscript(target, sup) =>
-            matches!(b, Node::Superscript(base, other) if same_contents(target, base) && same_contents(sup, other)),
-        Node::Row(members) => matches!(b, Node::Row(others) if same_members(members, others)),
-        Node::OtherOperator(text) => matches!(b, Node::OtherOperator(other) if text == other),
-        Node::Ampersand => matches!(b, Node::Ampersand),
-        Node::NewLine => matches!(b, Node::NewLine),
-        Node::Undefined(text) => matches!(b, Node::Undefined(other) if text == other),
-    }
-}
-
-#[cycle(same)]
-fn same_members(a: &[Node], b: &[Node]) -> bool
-    ensures { IsTrue result ↔ (trees a.now ≡ trees b.now) }
-{
-    if a.len() != b.len() {
-        return false;
-    }
-    for i in 0..a.len() {
-        if !same_contents(&a[i], &b[i]) {
-            return false;
-        }
-    }
-    true
 }

@@ -17,6 +17,12 @@ use std::fmt;
 pub enum LatexError {
     /// A token is expected, and another is found: a group is still open where the formula ends.
     UnexpectedToken { expected: Token, got: Token },
+    /// A parenthesis is missing after a token, and another token is found.
+    MissingParensethis { location: Token, got: Token },
+    /// The name of an environment that there is not.
+    UnknownEnvironment(String),
+    /// The dollar signs of a document do not mark off formulas.
+    InvalidNumberOfDollarSigns,
     /// Memory could not be found. It may stand in place of any other answer.
     OutOfMemory,
 }
@@ -31,6 +37,16 @@ impl LatexError {
                 expected: expected.clone(alloc)?,
                 got: got.clone(alloc)?,
             }),
+            LatexError::MissingParensethis { location, got } => Ok(
+                LatexError::MissingParensethis {
+                    location: location.clone(alloc)?,
+                    got: got.clone(alloc)?,
+                },
+            ),
+            LatexError::UnknownEnvironment(name) => {
+                Ok(LatexError::UnknownEnvironment(String::from_str(alloc, name)?))
+            }
+            LatexError::InvalidNumberOfDollarSigns => Ok(LatexError::InvalidNumberOfDollarSigns),
             LatexError::OutOfMemory => Ok(LatexError::OutOfMemory),
         }
     }
@@ -51,6 +67,16 @@ impl PartialEq for LatexError {
                 other,
                 LatexError::UnexpectedToken { expected: token, got: found } if expected == token && got == found
             ),
+            LatexError::MissingParensethis { location, got } => matches!(
+                other,
+                LatexError::MissingParensethis { location: token, got: found } if location == token && got == found
+            ),
+            LatexError::UnknownEnvironment(name) =>
+                matches!(other, LatexError::UnknownEnvironment(text) if name == text),
+            LatexError::InvalidNumberOfDollarSigns => matches!(
+                other,
+                LatexError::InvalidNumberOfDollarSigns
+            ),
             LatexError::OutOfMemory => matches!(other, LatexError::OutOfMemory),
         }
     }
@@ -68,6 +94,18 @@ impl fmt::Display for LatexError {
                 TokenText(expected),
                 TokenText(got)
             ),
+            LatexError::MissingParensethis { location, got } => write!(
+                f,
+                "There must be a parenthesis after \"{}\", but not found. Insted, \"{}\" is found.",
+                TokenText(location),
+                TokenText(got)
+            ),
+            LatexError::UnknownEnvironment(name) => {
+                write!(f, "An unknown environment \"{name}\" is found")
+            }
+            LatexError::InvalidNumberOfDollarSigns => {
+                f.write_str("The number of dollar sings found is invalid.")
+            }
             LatexError::OutOfMemory => f.write_str("Memory could not be found."),
         }
     }

@@ -1,7 +1,7 @@
 //! Where bytes come from and go to, one call at a time.
 ghost use Rattle.std.specs.Prelude.{◌≡◌, ◌≤◌, ℕ, List, Bool, Option, length, take, is_none, IsFalse, IsTrue, IfErr, IfSome, MatchOption, OnOk};
 ghost use Rattle.std.specs.Io.KnownBytes.{Appends, Consumes, IsAtEnd, Keeps};
-ghost use Rattle.latex2mathml.specs.Streams.{Stops, meets_end};
+ghost use Rattle.latex2mathml.specs.Streams.{IsStopped, meets_end};
 
 use crate::error::{FileFault, WriteCause};
 use std::io::{Read, Write};
@@ -123,9 +123,12 @@ pub fn write_document<S: Sink>(writer: &mut S, text: &str) -> Result<(), FileFau
     ensures taken { OnOk result (Appends (S.taken writer.old) (S.taken writer.new) text.now) }
     ensures ready { OnOk result
         (IsFalse (S.has_failed writer.new) × IsFalse (S.has_ended writer.new)) }
-    ensures stopped { IfErr result (λ fault.
-        Stops fault text.now (S.taken writer.old) (S.taken writer.new)
-        (S.has_failed writer.new) (S.has_ended writer.new)) }
+    ensures stopped { IfErr result (λ fault. IsStopped fault text.now (record {
+      old = S.taken writer.old;
+      new = S.taken writer.new;
+      failed = S.has_failed writer.new;
+      ended = S.has_ended writer.new;
+    })) }
 {
     let bytes = text.as_bytes();
     let mut written = 0;

@@ -1,6 +1,6 @@
 //! Tokens, and the tokens of commands.
-ghost use Rattle.std.specs.Prelude.{◌≡◌, ◌↔◌, IsOk, IsSome, IsTrue, IfOk};
-ghost use Rattle.latex2mathml.specs.Commands.{command_rows, command_token, row_token};
+ghost use Rattle.std.specs.Prelude.{◌≡◌, ◌≤◌, ◌↔◌, IsOk, IsSome, IsTrue, IfOk};
+ghost use Rattle.latex2mathml.specs.Commands.{command_entries, command_token, entry_token};
 ghost use Rattle.latex2mathml.specs.Discreteness.{same_tok, tok-discrete};
 ghost use Rattle.latex2mathml.specs.Same.{same_laws};
 ghost use Rattle.latex2mathml.specs.Tok.{tok};
@@ -101,14 +101,30 @@ impl Token {
     ///
     /// A name that the command table has takes no memory and is always `Ok`. Any other is a
     /// [`Token::Command`] of itself, and an `Err` where memory for that name is not found, which leaves nothing behind.
-    #[tactic(auto, unfolding(crate::specs::Commands::command_token))]
     pub fn from_command(alloc: Global, command: &str) -> Result<Token, AllocError>
         ensures token { IfOk result (λ token. tok token ≡ command_token command.now) }
-        ensures in_table { IsSome (row_token command_rows command.now) → IsOk result }
+        ensures in_table { IsSome (entry_token command_entries command.now) → IsOk result }
     {
-        let (row, _) = look_up(command);
-        match row {
-            Some(row) => Ok(row.meaning.token()),
+        let mut compared = 0;
+        Token::from_command_counted(alloc, command, &mut compared)
+    }
+
+    /// The same, with how many names of the command table were compared, also where there is an `Err`.
+    #[tactic(auto, unfolding(crate::specs::Commands::command_token))]
+    pub(crate) fn from_command_counted(
+        alloc: Global,
+        command: &str,
+        compared: &mut u128,
+    ) -> Result<Token, AllocError>
+        ensures token { IfOk result (λ token. tok token ≡ command_token command.now) }
+        ensures in_table { IsSome (entry_token command_entries command.now) → IsOk result }
+        ensures at_least { 1 ≤ compared.new }
+        ensures at_most { compared.new ≤ 9 }
+    {
+        let (entry, comparisons) = look_up(command);
+        *compared = comparisons;
+        match entry {
+            Some(entry) => Ok(entry.meaning.token()),
             None => Ok(Token::Command(String::from_str(alloc, command)?)),
         }
     }

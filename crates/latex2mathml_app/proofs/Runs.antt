@@ -1,21 +1,28 @@
 -- Where nothing was made of the bytes read, the output was not asked.
-use Rattle.std.proofs.Common.{◌≡◌, ℕ, Bool, List, Option, Result, Ok, Err, IsFalse, sym, subst}
+use Rattle.std.proofs.Common.{◌≡◌, ℕ, List, Result, Ok, Err, sym, subst}
 use Rattle.std.proofs.KnownBytes.{Keeps-refl}
 use Rattle.std.specs.Io.KnownBytes.{Keeps}
 use Rattle.std.specs.Prelude.{IsErrAnd}
+use Rattle.latex2mathml.specs.Streams.{CanGoOn, Input, Output}
 use Rattle.latex2mathml.specs.declared.error.FileFault.{FileFault}
 use Rattle.latex2mathml.specs.declared.error.FileFault.TheVariants.{Read, NotText, Refused, Write}
-use Rattle.latex2mathml_app.specs.Run.{IsMissed, IsRun}
+use Rattle.latex2mathml_app.specs.Run.{IsMissed, IsOutcomeOn, conversion_of}
 use Rattle.latex2mathml_app.specs.declared.job.Job.{Job}
 
-missed : (job : Job) (bytes : List ℕ) (in_failed in_ended : Bool) (old new : Option (List ℕ)) (failed ended : Bool) (fault : FileFault) → IsMissed bytes in_failed in_ended fault → Keeps old new → IsFalse failed → IsFalse ended → IsRun job bytes in_failed in_ended old new failed ended (Err fault)
-missed job bytes in_failed in_ended old new failed ended Read is keeps unfailed unended = (is, keeps, unfailed, unended)
-missed job bytes in_failed in_ended old new failed ended NotText is keeps unfailed unended = (is, keeps, unfailed, unended)
-missed job bytes in_failed in_ended old new failed ended (Refused error) is keeps unfailed unended = (is, keeps, unfailed, unended)
-missed job bytes in_failed in_ended old new failed ended (Write written cause) is keeps unfailed unended = absurd is
+missed : (job : Job) (bytes : List ℕ) (input : Input) (output : Output) (fault : FileFault)
+    → IsMissed (conversion_of job) bytes input fault → CanGoOn output → Keeps output.old output.new
+    → IsOutcomeOn bytes job input output (Err fault)
+missed job bytes input output Read is ready keeps = (is, ready, keeps)
+missed job bytes input output NotText is ready keeps = (is, ready, keeps)
+missed job bytes input output (Refused error) is ready keeps = (is, ready, keeps)
+missed job bytes input output (Write written cause) is ready keeps = absurd is
 
 -- and that holds of the fault that a `?` passes on
-pub missed_by : (job : Job) (bytes : List ℕ) (in_failed in_ended : Bool) (taken : Option (List ℕ)) (failed ended : Bool) (fault : FileFault) (result : Result Unit FileFault) → IsErrAnd result (λ e. e ≡ fault) → IsMissed bytes in_failed in_ended fault → IsFalse failed → IsFalse ended → IsRun job bytes in_failed in_ended taken taken failed ended result
-missed_by job bytes in_failed in_ended taken failed ended fault (Ok done) h is unfailed unended = elim h [ ]
-missed_by job bytes in_failed in_ended taken failed ended fault (Err e) h is unfailed unended =
-    missed job bytes in_failed in_ended taken taken failed ended e (subst (IsMissed bytes in_failed in_ended) (sym h) is) (Keeps-refl taken) unfailed unended
+pub missed_by : (job : Job) (bytes : List ℕ) (input : Input) (output : Output) (fault : FileFault)
+    (result : Result Unit FileFault) → IsErrAnd result (λ e. e ≡ fault)
+    → IsMissed (conversion_of job) bytes input fault → CanGoOn output → output.new ≡ output.old
+    → IsOutcomeOn bytes job input output result
+missed_by job bytes input output fault (Ok done) h is ready same = elim h [ ]
+missed_by job bytes input output fault (Err e) h is ready same =
+    missed job bytes input output e (subst (IsMissed (conversion_of job) bytes input) (sym h) is) ready
+    (subst (λ new. Keeps output.old new) (sym same) (Keeps-refl output.old))

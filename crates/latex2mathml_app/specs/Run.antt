@@ -1,28 +1,50 @@
--- What a run of the program makes of the bytes that it read, and how it may end.
-use Rattle.std.specs.Prelude.{◌≡◌, ◌⊎◌, ℕ, List, [], ◌∷◌, ◌++◌, Bool, Option, None, Result, Ok, Err, IfSome, IsFalse, IsTrue, IsUtf8, String, string_bytes}
-use Rattle.std.specs.Io.KnownBytes.{Appends, Keeps}
+-- What a run of the program makes of the bytes that it read, and what it may come to.
+use Rattle.std.specs.Prelude.{◌≡◌, ℕ, List, ◌++◌, Bool, None, Result, Ok, Err, IfSome, IsFalse, IsTrue, IsUtf8, String, codes, string_bytes}
+use Rattle.std.specs.Io.KnownBytes.{Appends, Consumes, Keeps}
 use Rattle.std.specs.declared.alloc.Global.{Global}
-use Rattle.latex2mathml.specs.Refusal.{refusal_of}
+use Rattle.latex2mathml.specs.Documents.{IsAnswer, IsRefusal}
+use Rattle.latex2mathml.specs.Refusal.{Refusal, refusal_of}
 use Rattle.latex2mathml.specs.Rendering.{IsFormulaRefusal, IsRendering}
-use Rattle.latex2mathml.specs.Streams.{Stops}
+use Rattle.latex2mathml.specs.Streams.{CanGoOn, Input, IsStopped, Output}
 use Rattle.latex2mathml.specs.declared.DisplayStyle.{DisplayStyle}
 use Rattle.latex2mathml.specs.declared.DisplayStyle.TheVariants as display
 use Rattle.latex2mathml.specs.declared.error.FileFault.{FileFault}
 use Rattle.latex2mathml.specs.declared.error.FileFault.TheVariants.{Read, NotText, Refused, Write}
 use Rattle.latex2mathml_app.specs.declared.job.Job.{Job}
-use Rattle.latex2mathml_app.specs.declared.job.Job.TheVariants.{Inline, Block}
-
-abbrev pub display_of : Job → DisplayStyle
-display_of Inline = display.Inline
-display_of Block = display.Block
+use Rattle.latex2mathml_app.specs.declared.job.Job.TheVariants.{Inline, Block, Document}
 
 -- the markup of the formula, and a line feed
-abbrev pub IsLine : List ℕ → DisplayStyle → List ℕ → Type 0
-IsLine bytes display line = (markup : List ℕ) × IsRendering bytes display markup × (line ≡ markup ++ 10 ∷ [])
+abbrev pub IsLine : DisplayStyle → List ℕ → List ℕ → Type 0
+IsLine display text line =
+    (markup : List ℕ)
+    × IsRendering text display markup
+    × (line ≡ markup ++ codes "\n")
 
--- what the job makes of the bytes read
+-- what is made of a text, and how a text is refused
+pub record Conversion : Type 1 where
+  pub makes : List ℕ → List ℕ → Type 0
+  pub refuses : List ℕ → Refusal → Type 0
+
+-- a formula is set so, in a line
+abbrev pub formula_conversion : DisplayStyle → Conversion
+formula_conversion display = record { makes = IsLine display; refuses = IsFormulaRefusal }
+
+-- a document becomes its answer, and nothing is added
+abbrev pub document_conversion : Conversion
+document_conversion = record { makes = IsAnswer; refuses = IsRefusal }
+
+abbrev pub conversion_of : Job → Conversion
+conversion_of Inline = formula_conversion display.Inline
+conversion_of Block = formula_conversion display.Block
+conversion_of Document = document_conversion
+
+-- what the job makes of the bytes read, which are a text
 abbrev pub IsProduct : Job → List ℕ → List ℕ → Type 0
-IsProduct job bytes line = IsLine bytes (display_of job) line
+IsProduct job bytes answer = IsUtf8 bytes × (conversion_of job).makes bytes answer
+
+-- the input gave all that it has
+abbrev pub IsWhole : Input → Type 0
+IsWhole input = IsFalse input.failed × IsTrue input.ended
 
 -- why the input was not read to its end, where the input tells whether it has failed
 abbrev pub IsReadFault : FileFault → Bool → Type 0
@@ -30,23 +52,48 @@ IsReadFault Read failed = IsTrue failed
 IsReadFault (Refused error) failed = IsFalse failed × (refusal_of error ≡ None)
 IsReadFault _ failed = ⊥
 
--- why nothing was made of the bytes read, where the input tells whether it has failed and whether it has ended
-abbrev pub IsMissed : List ℕ → Bool → Bool → FileFault → Type 0
-IsMissed bytes failed ended Read = IsTrue failed
-IsMissed bytes failed ended NotText = IsFalse failed × IsTrue ended × (¬ IsUtf8 bytes)
-IsMissed bytes failed ended (Refused error) = IsFalse failed × ((refusal_of error ≡ None) ⊎ (IsTrue ended × IfSome (refusal_of error) (IsFormulaRefusal bytes)))
-IsMissed bytes failed ended _ = ⊥
+-- why nothing was made of the bytes read
+abbrev pub IsMissed : Conversion → List ℕ → Input → FileFault → Type 0
+IsMissed conversion bytes input Read = IsTrue input.failed
+IsMissed conversion bytes input NotText = IsWhole input × (¬ IsUtf8 bytes)
+IsMissed conversion bytes input (Refused error) =
+    IsFalse input.failed
+    × IfSome (refusal_of error) (λ refusal.
+    IsWhole input × IsUtf8 bytes × conversion.refuses bytes refusal)
+IsMissed conversion bytes input _ = ⊥
 
 -- what was made of the bytes read, or why nothing was
-abbrev pub IsMade : Job → List ℕ → Bool → Bool → Result (String Global) FileFault → Type 0
-IsMade job bytes failed ended (Ok line) = IsFalse failed × IsTrue ended × IsProduct job bytes (string_bytes line)
-IsMade job bytes failed ended (Err fault) = IsMissed bytes failed ended fault
+abbrev pub IsMadeOf : Conversion → List ℕ → Input → Result (String Global) FileFault → Type 0
+IsMadeOf conversion bytes input (Ok answer) =
+    IsWhole input
+    × IsUtf8 bytes
+    × conversion.makes bytes (string_bytes answer)
+IsMadeOf conversion bytes input (Err fault) = IsMissed conversion bytes input fault
 
--- how a run of the job on the bytes read may end. The input tells whether it has failed and whether it has ended, and
--- the output what it took before and after, and whether it has failed and whether it has ended.
-abbrev pub IsRun : Job → List ℕ → Bool → Bool → Option (List ℕ) → Option (List ℕ) → Bool → Bool → Result Unit FileFault → Type 0
-IsRun job bytes in_failed in_ended old new failed ended (Ok _) =
-    IsFalse in_failed × IsTrue in_ended × IsFalse failed × IsFalse ended × ((line : List ℕ) × IsProduct job bytes line × Appends old new line)
-IsRun job bytes in_failed in_ended old new failed ended (Err (Write written cause)) =
-    IsFalse in_failed × IsTrue in_ended × ((line : List ℕ) × IsProduct job bytes line × Stops (Write written cause) line old new failed ended)
-IsRun job bytes in_failed in_ended old new failed ended (Err fault) = IsMissed bytes in_failed in_ended fault × Keeps old new × IsFalse failed × IsFalse ended
+-- what was made of the input, or why nothing was
+abbrev pub IsMade : Conversion → Input → Result (String Global) FileFault → Type 0
+IsMade conversion input result =
+    (bytes : List ℕ)
+    × Consumes input.old input.new bytes
+    × IsMadeOf conversion bytes input result
+
+-- what a run of the job on the bytes read may come to
+abbrev pub IsOutcomeOn : List ℕ → Job → Input → Output → Result Unit FileFault → Type 0
+IsOutcomeOn bytes job input output (Ok _) =
+    IsWhole input
+    × CanGoOn output
+    × ((answer : List ℕ) × IsProduct job bytes answer × Appends output.old output.new answer)
+IsOutcomeOn bytes job input output (Err (Write written cause)) =
+    IsWhole input
+    × ((answer : List ℕ) × IsProduct job bytes answer × IsStopped (Write written cause) answer output)
+IsOutcomeOn bytes job input output (Err fault) =
+    IsMissed (conversion_of job) bytes input fault
+    × CanGoOn output
+    × Keeps output.old output.new
+
+-- what a run of the job may come to
+abbrev pub IsOutcome : Job → Input → Output → Result Unit FileFault → Type 0
+IsOutcome job input output result =
+    (bytes : List ℕ)
+    × Consumes input.old input.new bytes
+    × IsOutcomeOn bytes job input output result

@@ -3,10 +3,11 @@ ghost use Rattle.std.specs.Prelude.{◌≡◌, ℕ, List, IfErr, IfOk, IsFalse, 
 ghost use Rattle.std.specs.Io.KnownBytes.{Consumes, IsAtEnd};
 ghost use Rattle.latex2mathml.specs.Refusal.{IfRefused};
 ghost use Rattle.latex2mathml.specs.Rendering.{IsFormulaRefusal};
-ghost use Rattle.latex2mathml_app.specs.Run.{IsLine, IsMade, IsReadFault, IsRun, display_of};
+ghost use Rattle.latex2mathml_app.specs.Run.{IsLine, IsMade, IsOutcome, IsReadFault, conversion_of, document_conversion, formula_conversion};
 
 use latex2mathml::{
-    DisplayStyle, FileFault, LatexError, Sink, Source, latex_to_mathml, write_document,
+    DisplayStyle, FileFault, LatexError, Reading, Sink, Source, latex_to_mathml, read_document,
+    write_document,
 };
 use std::alloc::Global;
 
@@ -17,17 +18,8 @@ pub enum Job {
     Inline,
     /// One formula, set in a block of its own.
     Block,
-}
-
-impl Job {
-    fn display(self) -> DisplayStyle
-        ensures { result ≡ display_of self }
-    {
-        match self {
-            Job::Inline => DisplayStyle::Inline,
-            Job::Block => DisplayStyle::Block,
-        }
-    }
+    /// A document: prose, with formulas between dollar signs.
+    Document,
 }
 
 /// How many bytes are asked for at once.
@@ -35,11 +27,11 @@ const ROOM: usize = 4096;
 
 /// Converts all of the input, and puts out the whole answer or nothing of it.
 ///
-/// The answer is the markup of the formula and a line feed. The input is read until it gives no more. It is
-/// [`FileFault::Read`] where the input failed, [`FileFault::NotText`] where its bytes are not UTF-8, and
-/// [`FileFault::Refused`] where the formula is refused or memory is not found; the output was then not asked and can go
-/// on. Where the input failed, or memory was not found while it was read, it was read in part. After
-/// [`FileFault::Write`] the output took the first bytes of the answer, as many as the fault says.
+/// The answer is the markup of the formula and a line feed, or that of the document and nothing else. The input is read
+/// until it gives no more. It is [`FileFault::Read`] where the input failed, [`FileFault::NotText`] where its bytes are
+/// not UTF-8, and [`FileFault::Refused`] where the formula or the document is refused or memory is not found; then the
+/// output was not asked and can go on. Where the input failed, or memory was not found while it was read, it was read in
+/// part. After [`FileFault::Write`] the output took the first bytes of the answer, as many as the fault says.
 pub fn run<R: Source, W: Sink>(
     alloc: Global,
     job: Job,
@@ -50,39 +42,99 @@ pub fn run<R: Source, W: Sink>(
     requires input_unended { IsFalse (R.has_ended input.old) }
     requires output_unfailed { IsFalse (W.has_failed output.old) }
     requires output_unended { IsFalse (W.has_ended output.old) }
-    ensures outcome { (bytes : List ℕ)
-        × Consumes (R.remaining input.old) (R.remaining input.new) bytes
-        × IsRun job bytes (R.has_failed input.new) (R.has_ended input.new)
-        (W.taken output.old) (W.taken output.new)
-        (W.has_failed output.new) (W.has_ended output.new) result }
+    ensures outcome { IsOutcome job
+        (record {
+          old = R.remaining input.old;
+          new = R.remaining input.new;
+          failed = R.has_failed input.new;
+          ended = R.has_ended input.new;
+        })
+        (record {
+          old = W.taken output.old;
+          new = W.taken output.new;
+          failed = W.has_failed output.new;
+          ended = W.has_ended output.new;
+        })
+        result }
     ensures all_read { IsTrue (R.has_ended input.new) → IsAtEnd (R.remaining input.new) }
 {
-    let line = make(alloc, job, input)?;
-    write_document(output, line.as_str())
+    let answer = make(alloc, job, input)?;
+    write_document(output, answer.as_str())
 }
 
-/// The line that the job makes of what the source gives.
+/// What the job makes of all that the source gives.
 fn make<S: Source>(alloc: Global, job: Job, source: &mut S) -> Result<String, FileFault>
     requires unfailed { IsFalse (S.has_failed source.old) }
     requires unended { IsFalse (S.has_ended source.old) }
-    ensures made { (bytes : List ℕ)
-        × Consumes (S.remaining source.old) (S.remaining source.new) bytes
-        × IsMade job bytes (S.has_failed source.new) (S.has_ended source.new) result }
+    ensures made { IsMade (conversion_of job)
+        (record {
+          old = S.remaining source.old;
+          new = S.remaining source.new;
+          failed = S.has_failed source.new;
+          ended = S.has_ended source.new;
+        })
+        result }
+    ensures all_read { IsTrue (S.has_ended source.new) → IsAtEnd (S.remaining source.new) }
+{
+    match job {
+        Job::Inline => line_made(alloc, DisplayStyle::Inline, source),
+        Job::Block => line_made(alloc, DisplayStyle::Block, source),
+        Job::Document => answer_made(alloc, source),
+    }
+}
+
+/// The markup of the formula that the source gives, and a line feed.
+fn line_made<S: Source>(
+    alloc: Global,
+    display: DisplayStyle,
+    source: &mut S,
+) -> Result<String, FileFault>
+    requires unfailed { IsFalse (S.has_failed source.old) }
+    requires unended { IsFalse (S.has_ended source.old) }
+    ensures made { IsMade (formula_conversion display)
+        (record {
+          old = S.remaining source.old;
+          new = S.remaining source.new;
+          failed = S.has_failed source.new;
+          ended = S.has_ended source.new;
+        })
+        result }
     ensures all_read { IsTrue (S.has_ended source.new) → IsAtEnd (S.remaining source.new) }
 {
     let bytes = read_whole(alloc, source)?;
     let Ok(text) = String::from_utf8(bytes) else {
         return Err(FileFault::NotText);
     };
-    match line(alloc, text.as_str(), job.display()) {
+    match line(alloc, text.as_str(), display) {
         Ok(line) => Ok(line),
         Err(refusal) => Err(FileFault::Refused(refusal)),
     }
 }
 
+/// The answer of the document that the source gives.
+fn answer_made<S: Source>(alloc: Global, source: &mut S) -> Result<String, FileFault>
+    requires unfailed { IsFalse (S.has_failed source.old) }
+    requires unended { IsFalse (S.has_ended source.old) }
+    ensures made { IsMade document_conversion
+        (record {
+          old = S.remaining source.old;
+          new = S.remaining source.new;
+          failed = S.has_failed source.new;
+          ended = S.has_ended source.new;
+        })
+        result }
+    ensures all_read { IsTrue (S.has_ended source.new) → IsAtEnd (S.remaining source.new) }
+{
+    match read_document(alloc, source) {
+        Ok(Reading::Changed(answer)) => Ok(answer),
+        Ok(Reading::Unchanged(text)) => Ok(text),
+        Err(fault) => Err(fault),
+    }
+}
+
 /// The markup of a formula, and a line feed.
 fn line(alloc: Global, latex: &str, display: DisplayStyle) -> Result<String, LatexError>
-    ensures line { IfOk result (λ line. IsLine latex.now display (string_bytes line)) }
+    ensures line { IfOk result (λ line. IsLine display latex.now (string_bytes line)) }
     ensures refusal { IfRefused result (IsFormulaRefusal latex.now) }
 {
     let mut markup = latex_to_mathml(alloc, latex, display)?;

@@ -1,5 +1,8 @@
-//! Converts a formula on standard input to MathML on standard output.
+//! Converts a formula or a document on standard input to MathML on standard output.
 #![tactic(auto)]
+
+ghost use Rattle.std.specs.Prelude.{◌≡◌, IfErr};
+ghost use Rattle.std.specs.IoError.{error_kind};
 
 mod job;
 mod serve;
@@ -10,7 +13,9 @@ use std::process::ExitCode;
 use std::{env, io};
 
 /// The words after the program's name. Where one of them is no text there are none.
-fn words(rt: &HostRuntime) -> io::Result<Vec<String>> {
+fn words(rt: &HostRuntime) -> io::Result<Vec<String>>
+    ensures { IfErr result (λ fault. error_kind fault ≡ ErrorKind.OutOfMemory) }
+{
     let words = env::args(rt);
     match words {
         Ok(words) => Ok(words.skip(1).collect(rt.alloc())?),

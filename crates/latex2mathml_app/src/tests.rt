@@ -3,24 +3,26 @@ ghost use Rattle.std.specs.Prelude.{IsFalse};
 
 use crate::job::{Job, run};
 use crate::serve::serve;
-use latex2mathml::{FileFault, Stream, WriteCause};
+use latex2mathml::token::Token;
+use latex2mathml::{FileFault, LatexError, Stream, WriteCause};
 use std::alloc::{AllocError, Global};
 use std::io;
 use std::io::{Read, Write};
 use std::test::Fail;
 
-/// Gives so many bytes a call, and fails after so many calls.
+/// Gives so many bytes a call, and fails with such an error after so many calls.
 #[derive(Drop)]
 struct Reader<'a> {
     bytes: &'a [u8],
     step: usize,
     calls_left: usize,
+    error: io::ErrorKind,
 }
 
 impl Read for Reader<'_> {
     fn read(&mut self, room: &mut [u8]) -> io::Result<usize> {
         if self.calls_left == 0 {
-            return Err(io::Error::from(io::ErrorKind::Other));
+            return Err(io::Error::from(self.error));
         }
         self.calls_left -= 1;
         let count = self.step.min(room.len()).min(self.bytes.len());
@@ -30,17 +32,21 @@ impl Read for Reader<'_> {
     }
 }
 
-/// Takes one byte a call, and fails after so many calls.
+/// Takes one byte a call, and after so many calls fails with such an error, or takes none where there is no error.
 #[derive(Drop)]
 struct Writer {
     held: Vec<u8>,
     calls_left: usize,
+    error: Option<io::ErrorKind>,
 }
 
 impl Write for Writer {
     fn write(&mut self, bytes: &[u8]) -> io::Result<usize> {
         if self.calls_left == 0 {
-            return Err(io::Error::from(io::ErrorKind::Other));
+            return match self.error {
+                Some(error) => Err(io::Error::from(error)),
+                None => Ok(0),
+            };
         }
         self.calls_left -= 1;
         let count = bytes.len().min(1);
@@ -50,6 +56,25 @@ impl Write for Writer {
 
     fn flush(&mut self) -> io::Result<()> {
         Ok(())
+    }
+}
+
+/// A writer that fails after so many bytes.
+fn failing(alloc: Global, calls: usize) -> Writer {
+    Writer {
+        held: Vec::new(alloc),
+        calls_left: calls,
+        error: Some(io::ErrorKind::Other),
+    }
+}
+
+/// A reader that gives one byte a call and fails after so many calls.
+fn by_bytes(bytes: &[u8], calls: usize) -> Reader<'_> {
+    Reader {
+        bytes,
+        step: 1,
+        calls_left: calls,
+        error: io::ErrorKind::Other,
     }
 }
 
@@ -70,6 +95,13 @@ const INLINE: &str =
 const BLOCK: &str =
     "<math xmlns=\"http://www.w3.org/1998/Math/MathML\" display=\"block\"><mi>x</mi><mo>&lt;</mo><mi>y</mi></math>\n";
 
+const DOCUMENT: &str = "$E = m c^2$ is";
+
+const ANSWER: &str =
+    "<math xmlns=\"http://www.w3.org/1998/Math/MathML\" display=\"inline\"><mi>E</mi><mo>=</mo><mi>m</mi><msup><mi>c</mi><mn>2</mn></msup></math> is";
+
+const LONG_AGO: usize = 1000;
+
 /// What the output holds after a run whose input gives one byte a call and fails after so many calls, and how the run
 /// ended.
 fn read_by_bytes(
@@ -78,11 +110,7 @@ fn read_by_bytes(
     bytes: &[u8],
     calls: usize,
 ) -> (Vec<u8>, Result<(), FileFault>) {
-    let mut input = stream(Reader {
-        bytes,
-        step: 1,
-        calls_left: calls,
-    });
+    let mut input = stream(by_bytes(bytes, calls));
     let mut output = stream(Vec::new(alloc));
     let ended = run(alloc, job, &mut input, &mut output);
     (output.inner, ended)
@@ -97,10 +125,7 @@ fn written_by_bytes(
     calls: usize,
 ) -> (Vec<u8>, Result<(), FileFault>) {
     let mut input = stream(bytes);
-    let mut output = stream(Writer {
-        held: Vec::new(alloc),
-        calls_left: calls,
-    });
+    let mut output = stream(failing(alloc, calls));
     let ended = run(alloc, job, &mut input, &mut output);
     (output.inner.held, ended)
 }
@@ -115,7 +140,48 @@ fn runs(rt: HostRuntime) -> Result<(), Fail> {
     Ok(())
 }
 
-/// Nothing is written where the bytes are no text.
+/// The answer of a document is all that is written: no line feed stands behind it that the document has not.
+#[test]
+fn runs_documents(rt: HostRuntime) -> Result<(), Fail> {
+    for (document, answer) in [
+        ("", ""),
+        ("no sign", "no sign"),
+        ("x<y\n", "x<y\n"),
+        (DOCUMENT, ANSWER),
+        (
+            "é $x$ é",
+            "é <math xmlns=\"http://www.w3.org/1998/Math/MathML\" display=\"inline\"><mi>x</mi></math> é",
+        ),
+    ] {
+        let (held, ended) = read_by_bytes(rt.alloc(), Job::Document, document.as_bytes(), LONG_AGO);
+        assert!(rt; ended == Ok(()), "{document}");
+        assert!(rt; held.as_slice() == answer.as_bytes(), "{document}");
+    }
+    Ok(())
+}
+
+/// Nothing is written where the dollar signs do not pair, and nothing of what stands before a refused formula.
+#[test]
+fn refuses_documents(rt: HostRuntime) -> Result<(), Fail> {
+    let (held, ended) = read_by_bytes(rt.alloc(), Job::Document, b"$$$", LONG_AGO);
+    assert!(rt; ended == Err(FileFault::Refused(LatexError::InvalidNumberOfDollarSigns)));
+    assert!(rt; held.is_empty());
+    let (held, ended) = read_by_bytes(rt.alloc(), Job::Document, b"a $x$ ${x$", LONG_AGO);
+    let refusal = LatexError::UnexpectedToken {
+        expected: Token::RBrace,
+        got: Token::EOF,
+    };
+    assert!(rt; ended == Err(FileFault::Refused(refusal)));
+    assert!(rt; held.is_empty());
+    Ok(())
+}
+
+/// Whether the bytes are no text to the job, and nothing is written.
+fn are_no_text(alloc: Global, job: Job, bytes: &[u8]) -> bool {
+    let (held, ended) = read_by_bytes(alloc, job, bytes, LONG_AGO);
+    ended == Err(FileFault::NotText) && held.is_empty()
+}
+
 #[test]
 fn refuses_what_is_no_text(rt: HostRuntime) -> Result<(), Fail> {
     for bytes in [
@@ -123,9 +189,8 @@ fn refuses_what_is_no_text(rt: HostRuntime) -> Result<(), Fail> {
         b"$\xC3".as_slice(),
         b"\xED\xA0\x80".as_slice(),
     ] {
-        let (held, ended) = read_by_bytes(rt.alloc(), Job::Block, bytes, 9);
-        assert!(rt; ended == Err(FileFault::NotText));
-        assert!(rt; held.is_empty());
+        assert!(rt; are_no_text(rt.alloc(), Job::Block, bytes));
+        assert!(rt; are_no_text(rt.alloc(), Job::Document, bytes));
     }
     Ok(())
 }
@@ -141,6 +206,19 @@ fn input_fails(rt: HostRuntime) -> Result<(), Fail> {
     Ok(())
 }
 
+/// Nothing is written where the input fails, at whichever call; the last of them would have told the end.
+#[test]
+fn input_of_a_document_fails(rt: HostRuntime) -> Result<(), Fail> {
+    for calls in 0..15 {
+        let (held, ended) = read_by_bytes(rt.alloc(), Job::Document, DOCUMENT.as_bytes(), calls);
+        assert!(rt; ended == Err(FileFault::Read), "{calls}");
+        assert!(rt; held.is_empty(), "{calls}");
+    }
+    let (_, ended) = read_by_bytes(rt.alloc(), Job::Document, DOCUMENT.as_bytes(), 15);
+    assert!(rt; ended == Ok(()));
+    Ok(())
+}
+
 /// The beginning of the line is written where the output fails, at whichever call.
 #[test]
 fn output_fails(rt: HostRuntime) -> Result<(), Fail> {
@@ -153,6 +231,41 @@ fn output_fails(rt: HostRuntime) -> Result<(), Fail> {
         assert!(rt; ended == Err(fault), "{written}");
         assert!(rt;
             held.as_slice() == &INLINE.as_bytes()[..written],
+            "{written}"
+        );
+    }
+    Ok(())
+}
+
+/// Whether a run over a document, whose output stops so after so many bytes, tells this cause and put out the beginning
+/// of the answer.
+fn document_stops(
+    alloc: Global,
+    error: Option<io::ErrorKind>,
+    cause: WriteCause,
+    written: usize,
+) -> bool {
+    let mut input = stream(DOCUMENT.as_bytes());
+    let mut output = stream(Writer {
+        held: Vec::new(alloc),
+        calls_left: written,
+        error,
+    });
+    let ended = run(alloc, Job::Document, &mut input, &mut output);
+    ended == Err(FileFault::Write { written, cause })
+        && output.inner.held.as_slice() == &ANSWER.as_bytes()[..written.min(ANSWER.len())]
+}
+
+#[test]
+fn output_of_a_document_stops(rt: HostRuntime) -> Result<(), Fail> {
+    let error = Some(io::ErrorKind::Other);
+    for written in 0..ANSWER.len() {
+        assert!(rt;
+            document_stops(rt.alloc(), error, WriteCause::Failed, written),
+            "{written}"
+        );
+        assert!(rt;
+            document_stops(rt.alloc(), None, WriteCause::TookNothing, written),
             "{written}"
         );
     }
@@ -190,6 +303,25 @@ fn served(
     Ok((status, output.inner, errors.inner))
 }
 
+/// The status of these words over these streams. All three are then as `serve` left them.
+fn served_over(
+    rt: &HostRuntime,
+    words: &[&str],
+    input: &mut Stream<Reader<'_>>,
+    output: &mut Stream<Writer>,
+    errors: &mut Stream<Writer>,
+) -> Result<u8, AllocError>
+    requires input_unfailed { IsFalse input.old.failed }
+    requires input_unended { IsFalse input.old.ended }
+    requires output_unfailed { IsFalse output.old.failed }
+    requires output_unended { IsFalse output.old.ended }
+    requires errors_unfailed { IsFalse errors.old.failed }
+    requires errors_unended { IsFalse errors.old.ended }
+{
+    let words = texts(rt.alloc(), words)?;
+    Ok(serve(rt, rt.alloc(), words.as_slice(), input, output, errors))
+}
+
 const USAGE: &[u8] = b"usage: latex2mathml inline | block | document | html PATH\n";
 
 /// Whether these words are wrong: the usage line alone is put out, as an error.
@@ -204,8 +336,15 @@ fn refuses_wrong_words(rt: HostRuntime) -> Result<(), Fail> {
     assert!(rt; are_wrong(&rt, &[""])?);
     assert!(rt; are_wrong(&rt, &["Inline"])?);
     assert!(rt; are_wrong(&rt, &["inline "])?);
+    assert!(rt; are_wrong(&rt, &[" inline"])?);
+    assert!(rt; are_wrong(&rt, &["inlin"])?);
+    assert!(rt; are_wrong(&rt, &["inlines"])?);
+    assert!(rt; are_wrong(&rt, &["blocks"])?);
+    assert!(rt; are_wrong(&rt, &["block", ""])?);
     assert!(rt; are_wrong(&rt, &["inline", "block"])?);
-    assert!(rt; are_wrong(&rt, &["document"])?);
+    assert!(rt; are_wrong(&rt, &["documents"])?);
+    assert!(rt; are_wrong(&rt, &["Document"])?);
+    assert!(rt; are_wrong(&rt, &["document", "document"])?);
     assert!(rt; are_wrong(&rt, &["html", "."])?);
     Ok(())
 }
@@ -218,6 +357,25 @@ fn serves(rt: HostRuntime) -> Result<(), Fail> {
         assert!(rt; output.as_slice() == line.as_bytes(), "{word}");
         assert!(rt; errors.is_empty(), "{word}");
     }
+    Ok(())
+}
+
+#[test]
+fn serves_a_document(rt: HostRuntime) -> Result<(), Fail> {
+    let (status, output, errors) = served(&rt, &["document"], DOCUMENT.as_bytes())?;
+    assert!(rt; status == 0);
+    assert!(rt; output.as_slice() == ANSWER.as_bytes());
+    assert!(rt; errors.is_empty());
+    Ok(())
+}
+
+#[test]
+fn serves_a_refused_document(rt: HostRuntime) -> Result<(), Fail> {
+    let (status, output, errors) = served(&rt, &["document"], b"$$$")?;
+    let line = "LaTeX2MathML Error: The number of dollar sings found is invalid.\n";
+    assert!(rt; status == 1);
+    assert!(rt; output.is_empty());
+    assert!(rt; errors.as_slice() == line.as_bytes());
     Ok(())
 }
 
@@ -250,5 +408,195 @@ fn serves_an_open_group(rt: HostRuntime) -> Result<(), Fail> {
     assert!(rt; status == 1);
     assert!(rt; output.is_empty());
     assert!(rt; errors.as_slice() == line.as_bytes());
+    Ok(())
+}
+
+/// Whether wrong words leave the input and the output as they were, and `errors`, which fails after so many bytes, with
+/// the first bytes of the usage line.
+fn touches_nothing(rt: &HostRuntime, calls: usize) -> Result<bool, AllocError> {
+    let mut input = stream(by_bytes(b"x", LONG_AGO));
+    let mut output = stream(failing(rt.alloc(), LONG_AGO));
+    let mut errors = stream(failing(rt.alloc(), calls));
+    let status = served_over(rt, &["inlines"], &mut input, &mut output, &mut errors)?;
+    Ok(
+        status == 2
+            && input.inner.calls_left == LONG_AGO
+            && output.inner.calls_left == LONG_AGO
+            && errors.inner.held.as_slice() == &USAGE[..calls.min(USAGE.len())],
+    )
+}
+
+#[test]
+fn wrong_words_touch_nothing(rt: HostRuntime) -> Result<(), Fail> {
+    for calls in [0, 1, 10, 57, 58, 99] {
+        assert!(rt; touches_nothing(&rt, calls)?, "{calls}");
+    }
+    Ok(())
+}
+
+const UNREAD: &[u8] = b"LaTeX2MathML Error: The input could not be read.\n";
+
+/// Whether an input that fails so after so many calls is told by its line and status, and nothing is put out. The stream
+/// of errors fails after so many bytes.
+fn tells_a_failed_input(
+    rt: &HostRuntime,
+    word: &str,
+    error: io::ErrorKind,
+    calls: usize,
+    told: usize,
+) -> Result<bool, AllocError> {
+    let mut input = stream(Reader {
+        bytes: b"x<y",
+        step: 1,
+        calls_left: calls,
+        error,
+    });
+    let mut output = stream(failing(rt.alloc(), LONG_AGO));
+    let mut errors = stream(failing(rt.alloc(), told));
+    let status = served_over(rt, &[word], &mut input, &mut output, &mut errors)?;
+    Ok(
+        status == 1
+            && output.inner.held.is_empty()
+            && errors.inner.held.as_slice() == &UNREAD[..told.min(UNREAD.len())],
+    )
+}
+
+#[test]
+fn serves_a_failing_input(rt: HostRuntime) -> Result<(), Fail> {
+    for calls in 0..4 {
+        assert!(rt;
+            tells_a_failed_input(&rt, "inline", io::ErrorKind::Other, calls, LONG_AGO)?,
+            "{calls}"
+        );
+        assert!(rt;
+            tells_a_failed_input(&rt, "block", io::ErrorKind::Interrupted, calls, LONG_AGO)?,
+            "{calls}"
+        );
+        assert!(rt;
+            tells_a_failed_input(&rt, "document", io::ErrorKind::Interrupted, calls, LONG_AGO)?,
+            "{calls}"
+        );
+        assert!(rt;
+            tells_a_failed_input(&rt, "document", io::ErrorKind::UnexpectedEof, calls, 9)?,
+            "{calls}"
+        );
+    }
+    Ok(())
+}
+
+/// Whether an output that stops so after so many bytes is told by its line and status. The stream of errors fails after
+/// so many bytes.
+fn tells_a_stopped_output(
+    rt: &HostRuntime,
+    error: Option<io::ErrorKind>,
+    calls: usize,
+    told: usize,
+) -> Result<bool, AllocError> {
+    let alloc = rt.alloc();
+    let mut input = stream(by_bytes(b"x<y", LONG_AGO));
+    let mut output = stream(Writer {
+        held: Vec::new(alloc),
+        calls_left: calls,
+        error,
+    });
+    let mut errors = stream(failing(alloc, told));
+    let status = served_over(rt, &["inline"], &mut input, &mut output, &mut errors)?;
+    let line = format!(in alloc; "LaTeX2MathML Error: The output stopped after {calls} bytes.\n")?;
+    Ok(
+        status == 1
+            && output.inner.held.as_slice() == &INLINE.as_bytes()[..calls.min(INLINE.len())]
+            && errors.inner.held.as_slice() == &line.as_bytes()[..told.min(line.len())],
+    )
+}
+
+#[test]
+fn serves_a_stopped_output(rt: HostRuntime) -> Result<(), Fail> {
+    for calls in [0, 1, 60, INLINE.len() - 1] {
+        assert!(rt;
+            tells_a_stopped_output(&rt, None, calls, LONG_AGO)?,
+            "{calls}"
+        );
+        assert!(rt;
+            tells_a_stopped_output(&rt, Some(io::ErrorKind::Other), calls, LONG_AGO)?,
+            "{calls}"
+        );
+        assert!(rt;
+            tells_a_stopped_output(&rt, Some(io::ErrorKind::Interrupted), calls, 9)?,
+            "{calls}"
+        );
+    }
+    Ok(())
+}
+
+/// Whether an output that stops so after so many bytes of a document's answer is told by its line and status.
+fn tells_a_stopped_document(
+    rt: &HostRuntime,
+    error: Option<io::ErrorKind>,
+    calls: usize,
+) -> Result<bool, AllocError> {
+    let alloc = rt.alloc();
+    let mut input = stream(by_bytes(DOCUMENT.as_bytes(), LONG_AGO));
+    let mut output = stream(Writer {
+        held: Vec::new(alloc),
+        calls_left: calls,
+        error,
+    });
+    let mut errors = stream(failing(alloc, LONG_AGO));
+    let status = served_over(rt, &["document"], &mut input, &mut output, &mut errors)?;
+    let line = format!(in alloc; "LaTeX2MathML Error: The output stopped after {calls} bytes.\n")?;
+    Ok(
+        status == 1
+            && output.inner.held.as_slice() == &ANSWER.as_bytes()[..calls.min(ANSWER.len())]
+            && errors.inner.held.as_slice() == line.as_bytes(),
+    )
+}
+
+#[test]
+fn serves_a_stopped_document(rt: HostRuntime) -> Result<(), Fail> {
+    for calls in [0, 1, 60, ANSWER.len() - 1] {
+        assert!(rt; tells_a_stopped_document(&rt, None, calls)?, "{calls}");
+        assert!(rt;
+            tells_a_stopped_document(&rt, Some(io::ErrorKind::Other), calls)?,
+            "{calls}"
+        );
+    }
+    Ok(())
+}
+
+/// Whether a run over a number of so many digits puts out all of its line.
+fn runs_at(alloc: Global, size: usize) -> Result<bool, AllocError> {
+    let mut digits = String::new(alloc);
+    for _ in 0..size {
+        digits.push('7')?;
+    }
+    let line = format!(in alloc;
+        "<math xmlns=\"http://www.w3.org/1998/Math/MathML\" display=\"block\"><mn>{}</mn></math>\n",
+        digits.as_str()
+    )?;
+    let mut input = stream(digits.as_bytes());
+    let mut output = stream(Vec::new(alloc));
+    let ended = run(alloc, Job::Block, &mut input, &mut output);
+    Ok(ended == Ok(()) && output.inner.as_slice() == line.as_bytes())
+}
+
+/// Whether a run over a document of so many digits puts out the document.
+fn keeps_at(alloc: Global, size: usize) -> Result<bool, AllocError> {
+    let mut digits = String::new(alloc);
+    for _ in 0..size {
+        digits.push('7')?;
+    }
+    let mut input = stream(digits.as_bytes());
+    let mut output = stream(Vec::new(alloc));
+    let ended = run(alloc, Job::Document, &mut input, &mut output);
+    Ok(ended == Ok(()) && output.inner.as_slice() == digits.as_bytes())
+}
+
+/// Around the room that is asked for at once, and far past it.
+#[test]
+fn runs_at_each_size(rt: HostRuntime) -> Result<(), Fail> {
+    for size in [1, 4095, 4096, 4097, 8 << 20] {
+        assert!(rt; runs_at(rt.alloc(), size)?, "{size}");
+        assert!(rt; keeps_at(rt.alloc(), size)?, "{size}");
+    }
     Ok(())
 }

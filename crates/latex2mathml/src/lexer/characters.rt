@@ -1,7 +1,8 @@
 //! A text, character by character and run by run.
 ghost use Rattle.std.specs.Prelude.{◌≡◌, ◌∷◌, ◌==◌, [], IfSome, MatchOption};
 ghost use Rattle.std.specs.Str.{chars, IsUtf8};
-ghost use Rattle.latex2mathml.specs.Characters.{in_class, IsRun, Stops, head};
+ghost use Rattle.latex2mathml.specs.Characters.{Stops, head};
+ghost use Rattle.latex2mathml.specs.Lexing.{in_class, IsLongestRun};
 
 /// The characters that make runs.
 #[derive(Debug, Clone, Copy)]
@@ -50,7 +51,7 @@ pub(crate) fn after_char(text: &str, c: char) -> Option<&str>
 
 /// The longest run of characters of a class at the start of the text, and what follows it.
 pub(crate) fn split_run(class: Class, text: &str) -> (&str, &str)
-    ensures run { IsRun (in_class class)
+    ensures run { IsLongestRun (in_class class)
         (chars text.now) (chars result.0.now) (chars result.1.now) }
     ensures utf8 { IsUtf8 result.0.now × IsUtf8 result.1.now }
 {

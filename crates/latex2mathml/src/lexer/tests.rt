@@ -1,9 +1,23 @@
 //! The tokens of texts.
-use crate::attribute::Variant;
-use crate::lexer::tokens;
+use crate::DisplayStyle;
+use crate::attribute::{Accent, Variant};
+use crate::lexer::Lexer;
 use crate::token::Token;
 use std::alloc::{AllocError, Global};
 use std::test::Fail;
+
+/// The tokens of the text. No text has more of them than bytes.
+fn tokens(alloc: Global, text: &str) -> Result<Vec<Token>, AllocError> {
+    let mut lexer = Lexer::new(text);
+    let mut tokens = Vec::new(alloc);
+    for _ in 0..=text.len() {
+        match lexer.next(alloc)? {
+            Some(token) => tokens.push(token)?,
+            None => return Ok(tokens),
+        }
+    }
+    Ok(tokens)
+}
 
 /// Whether the text has exactly these tokens.
 fn has_tokens(alloc: Global, text: &str, wanted: &[Token]) -> Result<bool, AllocError> {
@@ -59,6 +73,41 @@ fn reads_a_space(alloc: Global) -> Result<bool, AllocError> {
     has_tokens(alloc, "\\ 1", &[Token::Space(18), number(alloc, "1")?])
 }
 
+fn takes_one_digit(alloc: Global) -> Result<bool, AllocError> {
+    has_tokens(
+        alloc,
+        "\\frac123",
+        &[Token::Frac, number(alloc, "1")?, number(alloc, "23")?],
+    )
+}
+
+fn takes_one_digit_of_a_binomial(alloc: Global) -> Result<bool, AllocError> {
+    let binomial = Token::Binom(Some(DisplayStyle::Inline));
+    has_tokens(
+        alloc,
+        "\\tbinom123",
+        &[binomial, number(alloc, "1")?, number(alloc, "23")?],
+    )
+}
+
+fn takes_one_digit_of_a_style(alloc: Global) -> Result<bool, AllocError> {
+    let style = Token::Style(Variant::Bold);
+    has_tokens(
+        alloc,
+        "\\mathbf12",
+        &[style, number(alloc, "1")?, number(alloc, "2")?],
+    )
+}
+
+fn takes_a_number_behind_a_space(alloc: Global) -> Result<bool, AllocError> {
+    has_tokens(alloc, "\\sqrt 12", &[Token::Sqrt, number(alloc, "12")?])
+}
+
+fn takes_a_number_behind_a_hat(alloc: Global) -> Result<bool, AllocError> {
+    let hat = Token::Over('^', Accent::True);
+    has_tokens(alloc, "\\hat12", &[hat, number(alloc, "12")?])
+}
+
 #[test]
 fn lexer_test(rt: HostRuntime) -> Result<(), Fail> {
     let alloc = rt.alloc();
@@ -71,5 +120,16 @@ fn lexer_test(rt: HostRuntime) -> Result<(), Fail> {
     assert!(rt; has_tokens(alloc, "\\alpha\\beta", &[letter('α'), letter('β')])?);
     assert!(rt; has_tokens(alloc, "x+y", &[letter('x'), operator('+'), letter('y')])?);
     assert!(rt; reads_a_space(alloc)?);
+    Ok(())
+}
+
+#[test]
+fn lone_digits(rt: HostRuntime) -> Result<(), Fail> {
+    let alloc = rt.alloc();
+    assert!(rt; takes_one_digit(alloc)?);
+    assert!(rt; takes_one_digit_of_a_binomial(alloc)?);
+    assert!(rt; takes_one_digit_of_a_style(alloc)?);
+    assert!(rt; takes_a_number_behind_a_space(alloc)?);
+    assert!(rt; takes_a_number_behind_a_hat(alloc)?);
     Ok(())
 }

@@ -1,16 +1,16 @@
-//! What a row of the command table stands for, without any memory of its own. A row holds no text but its name: other
-//! texts are named by enums, since a table with two texts a row is too large for the prover.
+//! What an entry of the command table stands for, without any memory of its own. An entry holds no text but its name: other
+//! texts are named by enums, since a table with two texts an entry is too large for the prover.
 ghost use Rattle.std.specs.Prelude.{◌≡◌};
-ghost use Rattle.latex2mathml.specs.Rows.{bare_token, bracket_text, function_text, limit_text, meaning_token, size_text};
+ghost use Rattle.latex2mathml.specs.Entries.{bare_token, bracket_text, function_text, limit_text, meaning_token, size_text};
 ghost use Rattle.latex2mathml.specs.Tok.{tok};
 
 use crate::DisplayStyle;
 use crate::attribute::{Accent, Variant};
 use crate::token::Token;
 
-/// A row of the command table: a command's name without its backslash, and what it stands for.
+/// An entry of the command table: a command's name without its backslash, and what it stands for.
 #[derive(Clone, Copy)]
-pub(crate) struct Row {
+pub(crate) struct Entry {
     pub(crate) name: &'static str,
     pub(crate) meaning: Meaning,
 }

@@ -1,13 +1,12 @@
-use Rattle.latex2mathml.specs.Grammar.{core, single, node}
-use Rattle.latex2mathml.proofs.Sliced.{slice, group_slice}
-use Rattle.latex2mathml.proofs.Total.{some_taken}
+use Rattle.latex2mathml.proofs.Sliced.{part_by_slices, part_found, rule_by_slices, rule_found, all_by_slices, members_found}
+use Rattle.latex2mathml.proofs.SlicesRead.{part_takes, members_take}
 use Rattle.latex2mathml.proofs.laws.sliced.Goals as goal
 
 pub returns : goal.returns
 returns c = record {
-  cores = slice core;
-  singles = slice single;
-  nodes = slice node;
-  groups = group_slice;
-  some_taken = some_taken;
+  parts = λ s l f x d. part_found (part_by_slices d);
+  rules = λ r l f x d. rule_found (rule_by_slices d);
+  groups = λ end l f xs d. members_found (all_by_slices d);
+  some_taken = λ s f x d. part_takes f d;
+  end_taken = λ end f xs d. members_take d;
 }

@@ -1,11 +1,15 @@
 use Rattle.std.proofs.Common.{rules, refl, append_assoc}
 use Rattle.std.proofs.Output.{has_written_append, has_written_of_eq}
-use Rattle.latex2mathml.proofs.Prints.{prints-more}
+use Rattle.latex2mathml.proofs.Prints.{prints-more, members-more}
 use Rattle.latex2mathml.proofs.ast.print.+print.Goals as goal
 
 pub write_all-loop-node-preserved : goal.write_all-loop-node-preserved
 write_all-loop-node-preserved g t c = λ plain.
     has_written_of_eq _ _ _ _ _ (prints-more c.args.nodes.now c.loop-node.node-index c.node-item.result c.loop-node-test.true c.node-item.is) (has_written_append _ _ _ _ _ _ (c.loop-node.invariant plain) (search rules))
+
+pub write_members-loop-node-preserved : goal.write_members-loop-node-preserved
+write_members-loop-node-preserved g t c = λ plain.
+    has_written_of_eq _ _ _ _ _ (members-more c.args.members.now c.loop-node.node-index c.node-item.result c.loop-node-test.true c.node-item.is) (has_written_append _ _ _ _ _ _ (c.loop-node.invariant plain) (search rules))
 
 pub write_applied-returns : goal.write_applied-returns
 write_applied-returns g t c = λ plain ok.

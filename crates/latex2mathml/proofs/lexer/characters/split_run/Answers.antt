@@ -1,7 +1,7 @@
 use Rattle.std.proofs.Common.{rules, not}
 use Rattle.std.proofs.lemmas.Fn.{always_returns_same}
 use Rattle.latex2mathml.proofs.Runs.{run_found, run_whole}
-use Rattle.latex2mathml.specs.Characters.{in_class}
+use Rattle.latex2mathml.specs.Lexing.{in_class}
 use Rattle.latex2mathml.proofs.lexer.characters.split_run.Goals as goal
 
 pub returns-in-Some-clause-run : goal.returns-in-Some-clause-run

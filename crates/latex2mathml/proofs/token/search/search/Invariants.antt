@@ -1,10 +1,10 @@
--- The rows that are left decide the look-up; there are ever fewer.
+-- The entries that are left decide the look-up; there are ever fewer.
 use Rattle.std.proofs.Common.{length}
 use Rattle.latex2mathml.proofs.Lookups.{Narrowed}
 use Rattle.latex2mathml.proofs.token.search.search.Given as goal
 
-abbrev pub invariant-loop-rows : goal.invariant-loop-rows
-invariant-loop-rows l = Narrowed l.table l.rows l.name l.comparisons
+abbrev pub invariant-loop-entries : goal.invariant-loop-entries
+invariant-loop-entries l = Narrowed l.table l.entries l.name l.comparisons
 
-abbrev pub decreases-loop-rows : goal.decreases-loop-rows
-decreases-loop-rows l = length l.rows
+abbrev pub decreases-loop-entries : goal.decreases-loop-entries
+decreases-loop-entries l = length l.entries

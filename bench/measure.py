@@ -1,0 +1,110 @@
+#!/usr/bin/env python3
+"""Measures the program, and beside it the Rust crate where its folder is given. README.md says what is printed."""
+
+import argparse
+import re
+import subprocess
+import sys
+import tempfile
+from dataclasses import dataclass
+from pathlib import Path
+
+import workloads
+
+sys.path.append(str(Path(__file__).resolve().parent.parent / "diff"))
+import program  # noqa: E402
+import rust_crate  # noqa: E402
+
+MEGABYTE = 1_000_000
+COUNTED = 300_000
+
+
+@dataclass(frozen=True)
+class Measure:
+    """One run: seconds of the processor, and the most memory that was held, in megabytes."""
+    seconds: float
+    memory: float
+
+
+def run(command, path):
+    """One run over a file, its output thrown away. GNU time starts it: it is small itself, so the memory of this
+    script is not counted."""
+    with open(path, "rb") as text:
+        ended = subprocess.run(["time", "-q", "-f", "%U %S %M", *command], stdin=text, stdout=subprocess.DEVNULL,
+                               stderr=subprocess.PIPE, check=True)
+    user, system, kilobytes = ended.stderr.split()[-3:]
+    return Measure(float(user) + float(system), float(kilobytes) * 1024 / MEGABYTE)
+
+
+def least(command, path, times):
+    """The least of some runs: what else the machine does only adds."""
+    measures = [run(command, path) for _ in range(times)]
+    return Measure(min(one.seconds for one in measures), min(one.memory for one in measures))
+
+
+def instructions(command, path):
+    """The instructions of one run, as valgrind counts them. They do not hang on what else the machine does."""
+    with open(path, "rb") as text:
+        ended = subprocess.run(["valgrind", "--tool=callgrind", "--callgrind-out-file=/dev/null", *command], stdin=text,
+                               stdout=subprocess.DEVNULL, stderr=subprocess.PIPE, check=True)
+    return int(re.search(rb"Collected : (\d+)", ended.stderr)[1])
+
+
+def ratio(ours, theirs):
+    return f"{ours / theirs:6.2f}" if theirs else "     -"
+
+
+def show_times(name, commands, path, times):
+    """One line: seconds, megabytes a second and memory of the program, and of the crate with the ratios."""
+    size = path.stat().st_size / MEGABYTE
+    measures = [least(command, path, times) for command in commands]
+    columns = [f"{one.seconds:8.2f} s {size / max(one.seconds, 0.01):8.1f} MB/s {one.memory:8.0f} MB"
+               for one in measures]
+    if len(measures) == 2:
+        ours, theirs = measures
+        columns.append(f"ratios {ratio(ours.seconds, theirs.seconds)} {ratio(ours.memory, theirs.memory)}")
+    print(f"{name:20} {size:5.1f} MB  " + "   ".join(columns), flush=True)
+
+
+def show_instructions(name, commands, path):
+    """One line: instructions of the program, also a byte of the text, and of the crate with the ratio."""
+    size = path.stat().st_size
+    counts = [instructions(command, path) for command in commands]
+    columns = [f"{count:14,} {count / size:8.0f} a byte" for count in counts]
+    if len(counts) == 2:
+        columns.append(f"ratio {ratio(*counts)}")
+    print(f"{name:20} {size / MEGABYTE:5.1f} MB  " + "   ".join(columns), flush=True)
+
+
+def arguments():
+    parser = argparse.ArgumentParser(description="Measures the program's time, memory and instructions.")
+    parser.add_argument("--crate", metavar="FOLDER", help="the folder of the Rust crate latex2mathml 0.2.3, to compare")
+    parser.add_argument("--megabytes", type=int, nargs="*", default=[1, 4, 16], metavar="N")
+    parser.add_argument("--times", type=int, default=3, metavar="N", help="how often each is run; the least counts")
+    parser.add_argument("--no-instructions", action="store_true", help="do without valgrind")
+    return parser.parse_args()
+
+
+def main():
+    chosen = arguments()
+    with tempfile.TemporaryDirectory() as folder:
+        programs = [program.built()]
+        if chosen.crate:
+            programs.append(rust_crate.build(chosen.crate, f"{folder}/driver"))
+        print("the program" + " and the crate" * (len(programs) - 1))
+        path = Path(folder) / "text"
+        measured = [load for load in workloads.workloads() if program.knows(programs[0], load[0])]
+        for word, name, text in measured:
+            for megabytes in chosen.megabytes:
+                path.write_text(text(megabytes * MEGABYTE), encoding="utf-8", newline="")
+                show_times(name, [[one, word] for one in programs], path, chosen.times)
+        if not chosen.no_instructions:
+            for word, name, text in measured:
+                path.write_text(text(COUNTED), encoding="utf-8", newline="")
+                show_instructions(name, [[one, word] for one in programs], path)
+        for word in {load[0] for load in workloads.workloads()} - {load[0] for load in measured}:
+            print(f"the program at hand does not know the word {word} yet")
+
+
+if __name__ == "__main__":
+    main()

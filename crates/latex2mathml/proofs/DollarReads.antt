@@ -1,0 +1,154 @@
+-- What is read of tokens without dollar signs is trees without them, and so a formula without one has no rendering
+-- with one. The productions are named in `free_rule` alone.
+use Rattle.std.proofs.Common.{◌≡◌, ℕ, true, List, [], ◌∷◌, Option, Some, None, refl, sym, subst}
+use Rattle.std.specs.Str.{IsUtf8, chars}
+use Rattle.latex2mathml.specs.DocumentLaws.{KeepsDollarFree}
+use Rattle.latex2mathml.specs.Dollars.{is_other, IsDollarFree}
+use Rattle.latex2mathml.specs.Grammar.{Sort, sized, Rule, gives, refuses, reads_part, reads_members, reads_sign, takes_token, sees_token, takes_letters, rule, grouped, primed, scripted, Outcome, Read, Refused, first_or_end, letter_of, AreLetters, Reads, core_at_end, core_begun, single_read, node_read, ReadsRule, rule_gives, rule_refuses, part_read, part_refused, members_read, members_refused, sign_stands, sign_missing, token_taken, token_at_end, token_seen, letters_taken, ReadsAll, formula_ends, group_ends, never_closed, member_read, later_refused, member_refused, Reading}
+use Rattle.latex2mathml.specs.Rendering.{IsRendering}
+use Rattle.latex2mathml.specs.Tok.{Tok, EOF, Ampersand, Paren, LBrace, NewLine, Frac, Binom, Overset, Underset, Overbrace, Underbrace, Sqrt, Integral, Lim, BigOp, Style, Big, Over, Under, Letter, Number, Operator, Space, Function}
+use Rattle.latex2mathml.specs.Style.{styled, all_styled}
+use Rattle.latex2mathml.specs.Tree.{Tree, Trees, letter, row, no_trees, more_trees, trees_of}
+use Rattle.latex2mathml.specs.declared.attribute.Variant.{Variant}
+use Rattle.latex2mathml.proofs.DollarTexts.{free_chars, free_more}
+use Rattle.latex2mathml.proofs.DollarTokens.{IsFree, AreFree, free_tokens, free_token_text}
+use Rattle.latex2mathml.proofs.DollarTrees.{IsFreeTree, AreFreeTrees, free_math}
+
+-- from parts and tokens without dollar signs the rule gives none but trees without them
+abbrev IsFreeRule : Rule → Type 0
+IsFreeRule (gives x) = IsFreeTree x
+IsFreeRule (refuses r) = Unit {0}
+IsFreeRule (reads_part s then) = (x : Tree) → IsFreeTree x → IsFreeRule (then x)
+IsFreeRule (reads_members end then) = (xs : List Tree) → AreFreeTrees (trees_of xs) → IsFreeRule (then xs)
+IsFreeRule (reads_sign t a b) = IsFreeRule a × IsFreeRule b
+IsFreeRule (takes_token then) = (t : Tok) → IsFree t → IsFreeRule (then t)
+IsFreeRule (sees_token then) = (t : Tok) → IsFree t → IsFreeRule (then t)
+IsFreeRule (takes_letters then) = (cs : List ℕ) → IsDollarFree cs → IsFreeRule (then cs)
+
+free_grouped : (xs : List Tree) → AreFreeTrees (trees_of xs) → IsFreeTree (grouped xs)
+free_grouped [] h = tt
+free_grouped (x ∷ []) h = h.0
+free_grouped (x ∷ y ∷ ys) h = h
+
+mutual
+  free_style : (v : Variant) (x : Tree) → IsFreeTree x → IsFreeTree (styled v x)
+  free_style v (letter c own) h = h
+  free_style v (row members) h = free_styles v members h
+  free_style v x h = h
+
+  free_styles : (v : Variant) (xs : Trees) → AreFreeTrees xs → AreFreeTrees (all_styled v xs)
+  free_styles v no_trees h = tt
+  free_styles v (more_trees x rest) h = (free_style v x h.0, free_styles v rest h.1)
+
+free_size : (size : List ℕ) (t : Tok) → IsDollarFree size → IsFree t → IsFreeRule (sized size t)
+free_size size (Paren text) h i = (h, i)
+free_size size t h i = tt
+
+-- each production
+free_rule : (t : Tok) → IsFree t → IsFreeRule (rule t)
+free_rule (Number digits) h = h
+free_rule (Letter c variant) h = h
+free_rule (Operator c) h = h
+free_rule (Paren text) h = h
+free_rule Ampersand h = tt
+free_rule (Space width) h = tt
+free_rule (Function name) h = h
+free_rule NewLine h = tt
+free_rule LBrace h = free_grouped
+free_rule Sqrt h = (λ xs i x k. (free_grouped xs i, k), λ x k. k)
+free_rule Frac h = λ x i y k. (i, k)
+free_rule (Binom None) h = λ x i y k. (refl, refl, (i, k))
+free_rule (Binom (Some display)) h = λ x i y k. ((refl, refl, (i, k)), tt)
+free_rule (Over c accent) h = λ x k. (h, k)
+free_rule (Under c accent) h = λ x k. (h, k)
+free_rule Overset h = λ x i y k. (i, k)
+free_rule Underset h = λ x i y k. (i, k)
+free_rule (Overbrace c) h = λ x i. (λ y k. ((k, h), i), (h, i))
+free_rule (Underbrace c) h = λ x i. (λ y k. ((k, h), i), (h, i))
+free_rule (BigOp c) h = (λ x i. (λ y k. (h, i, k), (h, i)), (λ y k. (λ x i. (h, i, k), (k, h)), h))
+free_rule (Integral c) h = (λ x i. (λ y k. (h, i, k), (h, i)), (λ y k. (λ x i. (h, i, k), (h, k)), h))
+free_rule (Lim name) h = (λ x i. (h, i), h)
+free_rule (Style variant) h = λ x k. free_style variant x k
+free_rule (Big size) h = λ t k. free_size size t h k
+free_rule t h = free_token_text t h
+
+-- what follows a core, and what follows a single
+free_primed : (x : Tree) → IsFreeTree x → IsFreeRule (primed x)
+free_primed x h = ((h, refl), h)
+
+free_scripted : (x : Tree) → IsFreeTree x → IsFreeRule (scripted x)
+free_scripted x h = (λ y k. (h, k), (λ y k. (h, k), h))
+
+-- what was read holds none, and no token that is left does
+abbrev IsFreeOutcome : Outcome Tree → Type 0
+IsFreeOutcome (Read x m) = IsFreeTree x × AreFree m
+IsFreeOutcome (Refused r) = Unit {0}
+
+abbrev AreFreeOutcome : Outcome (List Tree) → Type 0
+AreFreeOutcome (Read xs m) = AreFreeTrees (trees_of xs) × AreFree m
+AreFreeOutcome (Refused r) = Unit {0}
+
+free_next : (l : List Tok) → AreFree l → IsFree (first_or_end l)
+free_next [] h = refl
+free_next (t ∷ l) h = h.0
+
+free_letter : (t : Tok) (c : ℕ) → letter_of t ≡ Some c → IsFree t → is_other c ≡ true
+free_letter (Letter d variant) c e h = let same : d ≡ c = cc in subst (λ k. is_other k ≡ true) same h
+free_letter t c e h = absurd cc
+
+-- letters at the front, and what stands behind them
+free_letters : (cs : List ℕ) (l m : List Tok) → AreLetters cs l m → AreFree l → IsDollarFree cs × AreFree m
+free_letters [] l m d h = (refl, subst AreFree d.0 h)
+free_letters (c ∷ cs) l m d h =
+    let front : AreFree (d.0 ∷ d.1.0) = subst AreFree d.1.1 h in
+    let later = free_letters cs d.1.0 m d.1.3 front.1 in
+    (free_more c cs (free_letter d.0 c d.1.2 front.0) later.0, later.1)
+
+mutual
+  free_read : {s : Sort} {l : List Tok} {o : Outcome Tree} → Reads s l o → AreFree l → IsFreeOutcome o
+  free_read core_at_end h = (refl, tt)
+  free_read (core_begun {t = t} d) h = free_read_rule d (free_rule t h.0) h.1
+  free_read (single_read d) h = free_read_rule d free_primed h
+  free_read (node_read d) h = free_read_rule d free_scripted h
+
+  free_read_rule : {r : Rule} {l : List Tok} {o : Outcome Tree} → ReadsRule r l o → IsFreeRule r → AreFree l → IsFreeOutcome o
+  free_read_rule rule_gives f h = (f, h)
+  free_read_rule rule_refuses f h = tt
+  free_read_rule (part_read {m = m} {x = x} d ds) f h =
+      let part : IsFreeOutcome (Read x m) = free_read d h in
+      free_read_rule ds (f x part.0) part.1
+  free_read_rule (part_refused d) f h = tt
+  free_read_rule (members_read {m = m} {xs = xs} d ds) f h =
+      let members : AreFreeOutcome (Read xs m) = free_read_all d h in
+      free_read_rule ds (f xs members.0) members.1
+  free_read_rule (members_refused d) f h = tt
+  free_read_rule (sign_stands {t = t} {m = m} p d) f h =
+      let front : AreFree (t ∷ m) = subst AreFree p h in
+      free_read_rule d f.0 front.1
+  free_read_rule (sign_missing p d) f h = free_read_rule d f.1 h
+  free_read_rule (token_taken {t = t} d) f h = free_read_rule d (f t h.0) h.1
+  free_read_rule (token_at_end d) f h = free_read_rule d (f EOF refl) h
+  free_read_rule (token_seen {l = l} d) f h = free_read_rule d (f (first_or_end l) (free_next l h)) h
+  free_read_rule (letters_taken cs {l = l} {m = m} p d) f h =
+      let letters = free_letters cs l m p h in
+      free_read_rule d (f cs letters.0) letters.1
+
+  free_read_all : {end : Option Tok} {l : List Tok} {o : Outcome (List Tree)} → ReadsAll end l o → AreFree l → AreFreeOutcome o
+  free_read_all formula_ends h = (tt, tt)
+  free_read_all never_closed h = tt
+  free_read_all (group_ends {end = end} {m = m} p) h =
+      let front : AreFree (end ∷ m) = subst AreFree p h in
+      (tt, front.1)
+  free_read_all (member_read {m = m} {rest = rest} {x = x} {xs = xs} other d ds) h =
+      let one : IsFreeOutcome (Read x m) = free_read d h in
+      let later : AreFreeOutcome (Read xs rest) = free_read_all ds one.1 in
+      ((one.0, later.0), later.1)
+  free_read_all (later_refused other d ds) h = tt
+  free_read_all (member_refused other d) h = tt
+
+-- the law
+pub dollar_free : (text : List ℕ) → IsUtf8 text → KeepsDollarFree text
+unfolding IsRendering Reading
+dollar_free text u display markup d h =
+    let read : AreFreeOutcome (Read d.2.0 []) = free_read_all d.2.1 (free_tokens None (chars text) d.0 d.1 (free_chars text u h)) in
+    subst IsDollarFree (sym d.2.2) (free_math display d.2.0 read.0)

@@ -1,0 +1,41 @@
+-- Laws of documents, and of the formulas in them.
+use Rattle.std.specs.Prelude.{◌≡◌, ◌⊎◌, ℕ, List, ◌++◌}
+use Rattle.latex2mathml.specs.Documents.{Piece, IsCut, IsAnswer, IsRefusal}
+use Rattle.latex2mathml.specs.Dollars.{IsDollarFree}
+use Rattle.latex2mathml.specs.Refusal.{Refusal}
+use Rattle.latex2mathml.specs.Rendering.{IsRendering}
+use Rattle.latex2mathml.specs.declared.DisplayStyle.{DisplayStyle}
+
+-- where the formula holds no dollar sign, no rendering of it does
+abbrev pub KeepsDollarFree : List ℕ → Type 0
+KeepsDollarFree text = (style : DisplayStyle) (markup : List ℕ) → IsRendering text style markup → IsDollarFree text → IsDollarFree markup
+
+-- two cuts of the document are the same pieces
+abbrev pub HasOneCut : List ℕ → Type 0
+HasOneCut document = (pieces others : List Piece) → IsCut document pieces → IsCut document others → pieces ≡ others
+
+-- where both documents have answers, the documents joined have the answers joined
+abbrev pub JoinsAnswers : List ℕ → List ℕ → Type 0
+JoinsAnswers first second =
+    (answer after : List ℕ) → IsAnswer first answer → IsAnswer second after → IsAnswer (first ++ second) (answer ++ after)
+
+-- the text holds no dollar sign, is its own answer, and has no other
+pub record IsOwnAnswer (answer : List ℕ) : Type 0 where
+  pub dollar_free : IsDollarFree answer
+  pub own : IsAnswer answer answer
+  pub no_other : (other : List ℕ) → IsAnswer answer other → other ≡ answer
+
+-- each answer of the document is its own answer
+abbrev pub RepeatsAnswers : List ℕ → Type 0
+RepeatsAnswers document = (answer : List ℕ) → IsAnswer document answer → IsOwnAnswer answer
+
+-- the document has exactly one answer or exactly one refusal
+pub record HasOneOutcome (document : List ℕ) : Type 0 where
+  -- it has an answer or a refusal
+  pub some : ((answer : List ℕ) × IsAnswer document answer) ⊎ ((refusal : Refusal) × IsRefusal document refusal)
+  -- two answers are the same text
+  pub one_answer : (answer other : List ℕ) → IsAnswer document answer → IsAnswer document other → answer ≡ other
+  -- two refusals are the same refusal
+  pub one_refusal : (refusal other : Refusal) → IsRefusal document refusal → IsRefusal document other → refusal ≡ other
+  -- what has an answer is not refused
+  pub never_both : (answer : List ℕ) (refusal : Refusal) → IsAnswer document answer → IsRefusal document refusal → ⊥

@@ -1,0 +1,109 @@
+-- Documents: prose with formulas between dollar signs. From top to bottom this is what `replace` answers for one: it
+-- cuts the document into pieces, keeps the prose byte for byte, and puts the rendering of each formula, alone, in its
+-- place; or it refuses the document, for its dollar signs first, and then for its first refused formula.
+-- `replace` answers nothing else, unless memory is wanting, and each document has exactly one answer or exactly one
+-- refusal (`laws::one_outcome`).
+--
+-- A text is its bytes here.
+use Rattle.std.specs.Prelude.{◌≡◌, ◌≢◌, ◌⊎◌, ℕ, List, [], ◌∷◌, ◌++◌, codes}
+use Rattle.latex2mathml.specs.Dollars.{IsDollarFree}
+use Rattle.latex2mathml.specs.Refusal.{Refusal, InvalidNumberOfDollarSigns}
+use Rattle.latex2mathml.specs.Rendering.{IsFormulaRefusal, IsRendering}
+use Rattle.latex2mathml.specs.declared.DisplayStyle.TheVariants.{Block, Inline}
+
+-- The pieces.
+
+-- prose, a formula in a line of text, or a formula in a block of its own
+pub data Piece : Type 0 where
+  prose : List ℕ → Piece
+  inline : List ℕ → Piece
+  display : List ℕ → Piece
+
+-- how a piece stands in a document
+abbrev pub piece_text : Piece → List ℕ
+piece_text (prose text) = text
+piece_text (inline body) = codes "$" ++ (body ++ codes "$")
+piece_text (display body) = codes "$$" ++ (body ++ codes "$$")
+
+-- pieces one after another, with nothing between them
+abbrev pub spelling : List Piece → List ℕ
+spelling [] = []
+spelling (piece ∷ pieces) = piece_text piece ++ spelling pieces
+
+-- text in which no formula begins or ends
+abbrev pub IsPlain : List ℕ → Type 0
+IsPlain text = IsDollarFree text
+
+-- what may stand between dollar signs
+abbrev pub IsBody : List ℕ → Type 0
+IsBody text = (text ≢ []) × IsPlain text
+
+-- prose and bodies are plain, and not empty
+abbrev pub IsPiece : Piece → Type 0
+IsPiece (prose text) = (text ≢ []) × IsPlain text
+IsPiece (inline body) = IsBody body
+IsPiece (display body) = IsBody body
+
+-- the piece may stand before these: prose never stands beside prose
+abbrev pub MayFollow : Piece → List Piece → Type 0
+MayFollow (prose text) (prose next ∷ pieces) = ⊥
+MayFollow piece pieces = Unit {0}
+
+-- each is a piece that may stand before the ones behind it
+abbrev pub ArePieces : List Piece → Type 0
+ArePieces [] = Unit {0}
+ArePieces (piece ∷ pieces) = IsPiece piece × MayFollow piece pieces × ArePieces pieces
+
+-- the document is these pieces
+pub record IsCut (document : List ℕ) (pieces : List Piece) : Type 0 where
+  pub well_formed : ArePieces pieces
+  pub spelled : spelling pieces ≡ document
+
+-- the document has pieces: its dollar signs pair
+abbrev pub HasCut : List ℕ → Type 0
+HasCut document = (pieces : List Piece) × IsCut document pieces
+
+-- it has none
+abbrev pub HasNoCut : List ℕ → Type 0
+HasNoCut document = ¬ HasCut document
+
+-- The answer.
+
+-- what becomes of prose: it stays as it is
+abbrev pub ProseAnswer : List ℕ → List ℕ → Type 0
+ProseAnswer text answer = answer ≡ text
+
+-- what becomes of a piece: prose, or the `math` element of the body and of nothing else
+abbrev pub PieceAnswer : Piece → List ℕ → Type 0
+PieceAnswer (prose text) answer = ProseAnswer text answer
+PieceAnswer (inline body) answer = IsRendering body Inline answer
+PieceAnswer (display body) answer = IsRendering body Block answer
+
+-- what becomes of pieces: the answers one after another
+abbrev pub PiecesAnswer : List Piece → List ℕ → Type 0
+PiecesAnswer [] answer = answer ≡ []
+PiecesAnswer (piece ∷ pieces) answer =
+    (front : List ℕ) × (back : List ℕ) × PieceAnswer piece front × PiecesAnswer pieces back × (answer ≡ front ++ back)
+
+-- the answer of a document: that of its pieces
+unfoldable pub IsAnswer : List ℕ → List ℕ → Type 0
+IsAnswer document answer = (pieces : List Piece) × IsCut document pieces × PiecesAnswer pieces answer
+
+-- The refusal.
+
+-- the grammar refuses the piece's body; prose is never refused
+abbrev pub PieceRefuses : Piece → Refusal → Type 0
+PieceRefuses (prose text) refusal = ⊥
+PieceRefuses (inline body) refusal = IsFormulaRefusal body refusal
+PieceRefuses (display body) refusal = IsFormulaRefusal body refusal
+
+-- a piece is refused, and each piece before it has an answer
+abbrev pub FirstRefused : List Piece → Refusal → Type 0
+FirstRefused [] refusal = ⊥
+FirstRefused (piece ∷ pieces) refusal =
+    PieceRefuses piece refusal ⊎ (((answer : List ℕ) × PieceAnswer piece answer) × FirstRefused pieces refusal)
+
+-- the refusal of a document: its dollar signs do not pair; or they do, and it is that of the first refused formula
+unfoldable pub IsRefusal : List ℕ → Refusal → Type 0
+IsRefusal document refusal =
+    (HasNoCut document × (refusal ≡ InvalidNumberOfDollarSigns)) ⊎ ((pieces : List Piece) × IsCut document pieces × FirstRefused pieces refusal)

@@ -1,0 +1,58 @@
+-- What the cutter's functions answer, in the words of documents: the pieces, one at a time.
+use Rattle.std.specs.Prelude.{◌≡◌, ℕ, List, [], ◌∷◌, ◌++◌, Option, Some, None, Result, Ok, Err}
+use Rattle.latex2mathml.specs.Documents.{Piece, prose, inline, display, piece_text, spelling, IsPiece, IsCut, HasNoCut}
+use Rattle.latex2mathml.specs.Dollars.{dollar}
+use Rattle.latex2mathml.specs.declared.document.NoCut.{NoCut}
+use Rattle.latex2mathml.specs.declared.document.Piece as code
+use Rattle.latex2mathml.specs.declared.document.Piece.TheVariants.{Prose, Inline, Display}
+use Rattle.latex2mathml.specs.declared.document.Pieces.{Pieces}
+
+-- a piece of the code without its place in memory
+abbrev pub piece_of : code.Piece → Piece
+piece_of (Prose text) = prose text.now
+piece_of (Inline body) = inline body.now
+piece_of (Display body) = display body.now
+
+-- plain text before this rest can be no longer: the rest is nothing, or begins with a dollar sign
+abbrev pub EndsBefore : List ℕ → List ℕ → Type 0
+EndsBefore text [] = Unit {0}
+EndsBefore text (b ∷ rest) = b ≡ dollar
+
+-- the same, of prose; a formula ends with its dollar signs
+abbrev pub IsLongest : Piece → List ℕ → Type 0
+IsLongest (prose text) rest = EndsBefore text rest
+IsLongest piece rest = Unit {0}
+
+-- the text is this piece and then the rest
+pub record BeginsWith (text : List ℕ) (piece : Piece) (rest : List ℕ) : Type 0 where
+  pub is_piece : IsPiece piece
+  pub split : piece_text piece ++ rest ≡ text
+  pub longest : IsLongest piece rest
+
+-- a piece, or that the document has no cut
+abbrev pub Item : Type 0
+Item = Result code.Piece NoCut
+
+-- what a call gives: the piece at the front; or that what is left has no cut, and then nothing is left; or the end
+abbrev pub GivesPiece : Pieces → Option Item → Pieces → Type 0
+GivesPiece before None after = (before.rest.now ≡ []) × (after.rest.now ≡ [])
+GivesPiece before (Some (Ok piece)) after = BeginsWith before.rest.now (piece_of piece) after.rest.now
+GivesPiece before (Some (Err no_cut)) after = HasNoCut before.rest.now × (after.rest.now ≡ [])
+
+-- the pieces spell the document up to the rest, every cut of the document begins with them, and with them in front a
+-- cut of the rest is one of the document
+pub record IsFront (document : List ℕ) (given : List Piece) (rest : List ℕ) : Type 0 where
+  pub spelled : spelling given ++ rest ≡ document
+  pub goes_on : (later : List Piece) → IsCut rest later → IsCut document (given ++ later)
+  pub only : (pieces : List Piece) → IsCut document pieces → (later : List Piece) × (pieces ≡ given ++ later) × IsCut rest later
+
+-- what was given behind these pieces: pieces up to the rest, or at last that the document has no cut
+abbrev pub GivenBehind : List ℕ → List Piece → List Item → List ℕ → Type 0
+GivenBehind document before [] rest = IsFront document before rest
+GivenBehind document before (Ok piece ∷ given) rest = GivenBehind document (before ++ piece_of piece ∷ []) given rest
+GivenBehind document before (Err no_cut ∷ []) rest = HasNoCut document
+GivenBehind document before (Err no_cut ∷ item ∷ given) rest = ⊥
+
+-- what was given so far, with this rest left
+abbrev pub IsGiven : List ℕ → List Item → List ℕ → Type 0
+IsGiven document given rest = GivenBehind document [] given rest

@@ -1,0 +1,115 @@
+//! The pieces of a document: prose, and formulas between dollar signs.
+ghost use Rattle.std.specs.Prelude.{◌≡◌, ◌≢◌, ◌++◌, [], IfNone, IfSome, OnErr, OnOk};
+ghost use Rattle.latex2mathml.specs.Pieces.{BeginsWith, EndsBefore, piece_of};
+ghost use Rattle.latex2mathml.specs.Documents.{HasCut, HasNoCut, IsPlain};
+
+pub(crate) mod convert;
+
+/// A piece of a document, as a slice of it, without its dollar signs.
+#[derive(Debug, Clone, Copy)]
+pub(crate) enum Piece<'a> {
+    Prose(&'a str),
+    /// A formula in a line of text.
+    Inline(&'a str),
+    /// A formula in a block of its own.
+    Display(&'a str),
+}
+
+/// Says that a document has no cut into pieces.
+#[derive(Debug, Clone, Copy)]
+pub(crate) struct NoCut;
+
+/// The pieces of a document, one at a time. Where it has no cut, `NoCut` comes once, and nothing after it.
+#[derive(Debug, Drop)]
+pub(crate) struct Pieces<'a> {
+    rest: &'a str,
+}
+
+impl<'a> Pieces<'a> {
+    ghost use Rattle.std.specs.Prelude.{List};
+    ghost use Rattle.std.specs.Iterator.{Yields};
+    ghost use Rattle.latex2mathml.specs.Pieces.{GivesPiece, IsGiven, Item};
+
+    /// The pieces given so far spell the document up to the place.
+    pub(crate) fn new(document: &'a str) -> Self
+        ensures rest { result.rest.now ≡ document.now }
+        ensures so_far { (given : List Item) (place : _) →
+            Yields GivesPiece result given place → IsGiven document.now given place.rest.now }
+    {
+        Pieces { rest: document }
+    }
+}
+
+impl<'a> Iterator for Pieces<'a> {
+    ghost use Rattle.std.specs.Iterator.{at_most};
+    ghost use Rattle.std.specs.Prelude.{length};
+    ghost use Rattle.latex2mathml.specs.Pieces.{GivesPiece};
+
+    type Item = Result<Piece<'a>, NoCut>;
+
+    ghost next_gives = { GivesPiece };
+
+    ghost remaining = { λ pieces. at_most (length pieces.rest.now) };
+
+    fn next(&mut self) -> Option<Result<Piece<'a>, NoCut>> {
+        if self.rest.is_empty() {
+            return None;
+        }
+        match first_piece(self.rest) {
+            Some((piece, rest)) => {
+                self.rest = rest;
+                Some(Ok(piece))
+            }
+            None => {
+                self.rest = "";
+                Some(Err(NoCut))
+            }
+        }
+    }
+}
+
+/// The piece at the front of a text that is not empty, and the rest.
+fn first_piece(text: &str) -> Option<(Piece<'_>, &str)>
+    requires { text.now ≢ [] }
+    ensures piece { IfSome result (λ found. BeginsWith text.now (piece_of found.0) found.1.now) }
+    ensures none { IfNone result (HasNoCut text.now) }
+{
+    if let Some(inside) = text.strip_prefix("$$") {
+        let (body, end) = until_dollar(inside);
+        let rest = end.strip_prefix("$$")?;
+        if body.is_empty() {
+            return None;
+        }
+        Some((Piece::Display(body), rest))
+    } else if let Some(inside) = text.strip_prefix('$') {
+        let (body, end) = until_dollar(inside);
+        let rest = end.strip_prefix('$')?;
+        Some((Piece::Inline(body), rest))
+    } else {
+        let (prose, rest) = until_dollar(text);
+        Some((Piece::Prose(prose), rest))
+    }
+}
+
+/// The text up to its first dollar sign, and the text from there on.
+fn until_dollar(text: &str) -> (&str, &str)
+    ensures joined { result.0.now ++ result.1.now ≡ text.now }
+    ensures plain { IsPlain result.0.now }
+    ensures ends { EndsBefore result.0.now result.1.now }
+{
+    match text.find('$') {
+        Some(place) => text.split_at(place),
+        None => text.split_at(text.len()),
+    }
+}
+
+/// Goes through the pieces once, to see that the document has a cut.
+pub(crate) fn check_cut(document: &str) -> Result<(), NoCut>
+    ensures ok { OnOk result (HasCut document.now) }
+    ensures err { OnErr result (HasNoCut document.now) }
+{
+    for piece in Pieces::new(document) {
+        piece?;
+    }
+    Ok(())
+}

@@ -1,0 +1,67 @@
+//! Documents, piece by piece, to their answers.
+ghost use Rattle.std.specs.Prelude.{◌≡◌, ℕ, ◌++◌, List, IfOk, OnOk, string_bytes};
+ghost use Rattle.latex2mathml.specs.Pieces.{piece_of};
+ghost use Rattle.latex2mathml.specs.Documents.{IsAnswer, IsRefusal, PieceAnswer, PieceRefuses};
+ghost use Rattle.latex2mathml.specs.Refusal.{IfRefused};
+ghost use Rattle.latex2mathml.specs.Rendering.{IsFormulaRefusal, IsRendering};
+
+use crate::DisplayStyle;
+use crate::document::{NoCut, Piece, Pieces, check_cut};
+use crate::error::LatexError;
+use crate::formula::append_math;
+use crate::parse::frames::Frames;
+use crate::parse::tokens::Tokens;
+use std::alloc::Global;
+
+impl From<NoCut> for LatexError {
+    ghost use Rattle.latex2mathml.specs.declared.error.LatexError.TheVariants.{InvalidNumberOfDollarSigns};
+
+    ghost from_gives = { λ _ error. error ≡ InvalidNumberOfDollarSigns };
+
+    fn from(_no_cut: NoCut) -> LatexError {
+        LatexError::InvalidNumberOfDollarSigns
+    }
+}
+
+/// The answer of the document.
+pub(crate) fn converted(alloc: Global, document: &str) -> Result<String, LatexError>
+    ensures answer { IfOk result (λ answer. IsAnswer document.now (string_bytes answer)) }
+    ensures refusal { IfRefused result (IsRefusal document.now) }
+{
+    check_cut(document)?;
+    let mut answer = String::new(alloc);
+    for piece in Pieces::new(document) {
+        append_piece(alloc, &mut answer, piece?)?;
+    }
+    Ok(answer)
+}
+
+/// Puts what becomes of a piece behind the text.
+fn append_piece(alloc: Global, text: &mut String, piece: Piece<'_>) -> Result<(), LatexError>
+    ensures answer { OnOk result ((answer : List ℕ) × PieceAnswer (piece_of piece.entry) answer
+        × (string_bytes text.new ≡ string_bytes text.old ++ answer)) }
+    ensures refusal { IfRefused result (PieceRefuses (piece_of piece.entry)) }
+{
+    match piece {
+        Piece::Prose(prose) => text.push_str(prose)?,
+        Piece::Inline(body) => append_formula(alloc, text, body, DisplayStyle::Inline)?,
+        Piece::Display(body) => append_formula(alloc, text, body, DisplayStyle::Block)?,
+    }
+    Ok(())
+}
+
+/// Puts the markup of a formula behind the text.
+fn append_formula(
+    alloc: Global,
+    text: &mut String,
+    latex: &str,
+    display: DisplayStyle,
+) -> Result<(), LatexError>
+    ensures rendering { OnOk result ((markup : List ℕ) × IsRendering latex.now display markup
+        × (string_bytes text.new ≡ string_bytes text.old ++ markup)) }
+    ensures refusal { IfRefused result (IsFormulaRefusal latex.now) }
+{
+    let mut tokens = Tokens::new(latex);
+    let mut frames = Frames::new(alloc);
+    append_math(alloc, display, &mut tokens, &mut frames, text)
+}

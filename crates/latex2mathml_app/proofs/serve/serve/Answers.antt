@@ -1,0 +1,15 @@
+use Rattle.std.proofs.Common.{refl, rules}
+use Rattle.latex2mathml_app.specs.Serving.{WrongWords, Ran}
+use Rattle.latex2mathml_app.proofs.serve.serve.Goals as goal
+
+pub returns-in_default-clause-served : goal.returns-in_default-clause-served
+returns-in_default-clause-served g c =
+    WrongWords c.in_default.ensures.wrong refl c.put_usage.ensures.put.0 c.put_usage.ensures.put.1
+
+pub returns-in-Ok-clause-served : goal.returns-in-Ok-clause-served
+returns-in-Ok-clause-served g c =
+    Ran c.in-Some.job c.in-Some.ensures.asked c.run.result c.run.ensures.outcome (rw c.in-Ok.is (search rules))
+
+pub returns-in-Err-clause-served : goal.returns-in-Err-clause-served
+returns-in-Err-clause-served g c =
+    Ran c.in-Some.job c.in-Some.ensures.asked c.run.result c.run.ensures.outcome (rw c.in-Err.is (refl, c.put_fault.ensures.put))

@@ -1,0 +1,400 @@
+//! Documents, and what becomes of them.
+ghost use Rattle.std.specs.Prelude.{IsFalse};
+
+use crate::formulas::inline;
+use latex2mathml::token::Token;
+use latex2mathml::{FileFault, LatexError, Reading, Stream, laws, read_document, replace};
+use std::alloc::{AllocError, Global};
+use std::io;
+use std::io::Read;
+use std::test::Fail;
+
+/// A part of an answer: prose, or the contents of a `math` element.
+#[derive(Clone, Copy)]
+enum Part<'a> {
+    Prose(&'a str),
+    Inline(&'a str),
+    Block(&'a str),
+}
+
+fn block(alloc: Global, contents: &str) -> Result<String, AllocError> {
+    format!(in alloc;
+        "<math xmlns=\"http://www.w3.org/1998/Math/MathML\" display=\"block\">{contents}</math>"
+    )
+}
+
+fn text_of(alloc: Global, part: Part<'_>) -> Result<String, AllocError> {
+    match part {
+        Part::Prose(text) => String::from_str(alloc, text),
+        Part::Inline(contents) => inline(alloc, contents),
+        Part::Block(contents) => block(alloc, contents),
+    }
+}
+
+/// Whether the document has the answer of these parts, which is its own answer.
+fn becomes(alloc: Global, document: &str, parts: &[Part<'_>]) -> Result<bool, Fail> {
+    let mut expected = String::new(alloc);
+    for part in parts {
+        expected.push_str(text_of(alloc, *part)?.as_str())?;
+    }
+    let answer = replace(alloc, document)?;
+    let again = replace(alloc, answer.as_str())?;
+    Ok(answer == expected && again == expected)
+}
+
+#[test]
+fn formulas_alone(rt: HostRuntime) -> Result<(), Fail> {
+    let (a, b, c) = ("<mi>a</mi>", "<mi>b</mi>", "<mi>c</mi>");
+    let alloc = rt.alloc();
+    assert!(rt; becomes(alloc, "$a$", &[Part::Inline(a)])?);
+    assert!(rt; becomes(alloc, "$$a$$", &[Part::Block(a)])?);
+    assert!(rt; becomes(alloc, "$ $", &[Part::Inline("")])?);
+    assert!(rt; becomes(alloc, "$$ \n$$", &[Part::Block("")])?);
+    assert!(rt; becomes(alloc, "$a$$b$", &[Part::Inline(a), Part::Inline(b)])?);
+    assert!(rt; becomes(alloc, "$$a$$$$b$$", &[Part::Block(a), Part::Block(b)])?);
+    assert!(rt; becomes(alloc, "$a$$$b$$", &[Part::Inline(a), Part::Block(b)])?);
+    assert!(rt; becomes(alloc, "$$a$$$b$", &[Part::Block(a), Part::Inline(b)])?);
+    assert!(rt;
+        becomes(
+            alloc,
+            "$a$$b$$c$",
+            &[Part::Inline(a), Part::Inline(b), Part::Inline(c)]
+        )?
+    );
+    Ok(())
+}
+
+#[test]
+fn prose_alone(rt: HostRuntime) -> Result<(), Fail> {
+    for document in [
+        "",
+        " ",
+        "no sign",
+        "&dollar;3",
+        "\\",
+        "<p>é 𝑥 日本</p>\r\n\t",
+        "\0",
+    ] {
+        assert!(rt;
+            becomes(rt.alloc(), document, &[Part::Prose(document)])?,
+            "{document}"
+        );
+    }
+    Ok(())
+}
+
+#[test]
+fn prose_and_formulas(rt: HostRuntime) -> Result<(), Fail> {
+    let (a, c) = ("<mi>a</mi>", "<mi>c</mi>");
+    let alloc = rt.alloc();
+    assert!(rt;
+        becomes(
+            alloc,
+            "$$a$$b$$c$$",
+            &[Part::Block(a), Part::Prose("b"), Part::Block(c)]
+        )?
+    );
+    assert!(rt;
+        becomes(
+            alloc,
+            " \r\n$a$ \r\n ",
+            &[Part::Prose(" \r\n"), Part::Inline(a), Part::Prose(" \r\n ")]
+        )?
+    );
+    assert!(rt;
+        becomes(
+            alloc,
+            "é $a$ é",
+            &[Part::Prose("é "), Part::Inline(a), Part::Prose(" é")]
+        )?
+    );
+    assert!(rt;
+        becomes(
+            alloc,
+            "日$é$𝑥",
+            &[
+                Part::Prose("日"),
+                Part::Inline("<mi mathvariant=\"normal\">é</mi>"),
+                Part::Prose("𝑥")
+            ]
+        )?
+    );
+    assert!(rt;
+        becomes(
+            alloc,
+            "$E = m c^2$ is",
+            &[
+                Part::Inline("<mi>E</mi><mo>=</mo><mi>m</mi><msup><mi>c</mi><mn>2</mn></msup>"),
+                Part::Prose(" is")
+            ]
+        )?
+    );
+    Ok(())
+}
+
+/// Whether the document is refused for its dollar signs.
+fn is_unpaired(alloc: Global, document: &str) -> bool {
+    match replace(alloc, document) {
+        Ok(_) => false,
+        Err(refusal) => refusal == LatexError::InvalidNumberOfDollarSigns,
+    }
+}
+
+#[test]
+fn unpaired_dollar_signs(rt: HostRuntime) {
+    for document in [
+        "$", "$$", "$$$", "$$$$", "a$", "$a", "$$a", "$$a$", "$a$$", "$a$ $", "$$x$y$$", "$$a$$b$",
+        "$$$x$$$", "a$$b", "é$é",
+    ] {
+        assert!(rt; is_unpaired(rt.alloc(), document), "{document}");
+    }
+}
+
+/// Dollar signs that do not pair are found before a formula in front of them is looked at.
+#[test]
+fn dollar_signs_come_first(rt: HostRuntime) {
+    assert!(rt; is_unpaired(rt.alloc(), "${$ $"));
+    assert!(rt; is_unpaired(rt.alloc(), "$${$$ $x$ $$"));
+}
+
+/// Whether the document is refused because a group is open at the end of a formula.
+fn is_left_open(alloc: Global, document: &str) -> bool {
+    match replace(alloc, document) {
+        Ok(_) => false,
+        Err(refusal) => {
+            let expected = Token::RBrace;
+            let got = Token::EOF;
+            refusal == LatexError::UnexpectedToken { expected, got }
+        }
+    }
+}
+
+#[test]
+fn refused_formulas(rt: HostRuntime) {
+    for document in [
+        "${$",
+        "$${$$",
+        "$\\foo$ ${$",
+        "${$ $x$",
+        "${$ $\\left<$",
+        "prose $x$ $${a b$$ prose",
+    ] {
+        assert!(rt; is_left_open(rt.alloc(), document), "{document}");
+    }
+}
+
+/// Whether the documents joined have their answers joined.
+fn joins(alloc: Global, first: &str, second: &str) -> Result<bool, Fail> {
+    let document = format!(in alloc; "{first}{second}")?;
+    let mut expected = replace(alloc, first)?;
+    expected.push_str(replace(alloc, second)?.as_str())?;
+    Ok(replace(alloc, document.as_str())? == expected)
+}
+
+#[test]
+fn joined_documents(rt: HostRuntime) -> Result<(), Fail> {
+    for (first, second) in [
+        ("$a$", "$b$"),
+        ("x", "y$a$"),
+        ("$$a$$", "$b$"),
+        ("$a$", "$$b$$"),
+        ("$a$ x", "y $b$"),
+        ("", "$a$"),
+        ("é", "é"),
+    ] {
+        assert!(rt; joins(rt.alloc(), first, second)?, "{first} and {second}");
+    }
+    Ok(())
+}
+
+#[test]
+fn laws_of_documents() {
+    for document in ["", "no sign", "$a$ é", "$$$"] {
+        laws::one_cut(document);
+        laws::one_outcome(document);
+        laws::dollar_free(document);
+        laws::repeated(document);
+        laws::joined(document, "$$a$$");
+    }
+}
+
+/// So many formulas, one behind the other, and then this.
+fn many_formulas(alloc: Global, count: usize, end: &str) -> Result<String, AllocError> {
+    let mut document = String::new(alloc);
+    for _ in 0..count {
+        document.push_str("$x$")?;
+    }
+    document.push_str(end)?;
+    Ok(document)
+}
+
+const MANY: usize = 10_000;
+
+#[test]
+fn many_formulas_and_a_dollar_sign(rt: HostRuntime) -> Result<(), Fail> {
+    let document = many_formulas(rt.alloc(), MANY, "$")?;
+    assert!(rt; is_unpaired(rt.alloc(), document.as_str()));
+    Ok(())
+}
+
+/// Whether each of the many formulas has its answer, and nothing else stands in the document's.
+fn all_answered(alloc: Global) -> Result<bool, Fail> {
+    let document = many_formulas(alloc, MANY, " end")?;
+    let answer = replace(alloc, document.as_str())?;
+    let one = inline(alloc, "<mi>x</mi>")?;
+    let mut expected = String::new(alloc);
+    for _ in 0..MANY {
+        expected.push_str(one.as_str())?;
+    }
+    expected.push_str(" end")?;
+    Ok(answer == expected)
+}
+
+#[test]
+fn many_formulas_answered(rt: HostRuntime) -> Result<(), Fail> {
+    assert!(rt; all_answered(rt.alloc())?);
+    Ok(())
+}
+
+/// The refusal of dollar signs has its text, and its copy equals it.
+#[test]
+fn refusal_of_dollar_signs(rt: HostRuntime) -> Result<(), Fail> {
+    let refusal = LatexError::InvalidNumberOfDollarSigns;
+    assert_eq!(rt;
+        refusal.to_string(rt.alloc())?.as_str(),
+        "The number of dollar sings found is invalid."
+    );
+    let copy = refusal.clone(rt.alloc())?;
+    assert!(rt; copy == refusal && refusal != LatexError::OutOfMemory);
+    Ok(())
+}
+
+/// Gives so many bytes a call, and fails after so many calls.
+#[derive(Drop)]
+struct Reader<'a> {
+    bytes: &'a [u8],
+    step: usize,
+    calls_left: usize,
+}
+
+impl Read for Reader<'_> {
+    fn read(&mut self, room: &mut [u8]) -> io::Result<usize> {
+        if self.calls_left == 0 {
+            return Err(io::Error::from(io::ErrorKind::Other));
+        }
+        self.calls_left -= 1;
+        let count = self.step.min(room.len()).min(self.bytes.len());
+        room[..count].copy_from_slice(&self.bytes[..count]);
+        self.bytes = &self.bytes[count..];
+        Ok(count)
+    }
+}
+
+/// A source of these bytes.
+fn source(bytes: &[u8], step: usize, calls: usize) -> Stream<Reader<'_>>
+    ensures unfailed { IsFalse result.failed }
+    ensures unended { IsFalse result.ended }
+{
+    Stream {
+        inner: Reader {
+            bytes,
+            step,
+            calls_left: calls,
+        },
+        failed: false,
+        ended: false,
+    }
+}
+
+const ENOUGH: usize = 100_000;
+
+/// Whether the document, read so many bytes a call, is read as this, and to its end.
+fn reads(alloc: Global, document: &str, step: usize, reading: &Reading) -> Result<bool, Fail> {
+    let mut from = source(document.as_bytes(), step, ENOUGH);
+    let read = read_document(alloc, &mut from)?;
+    Ok(read == *reading && from.ended && !from.failed && from.inner.bytes.is_empty())
+}
+
+#[test]
+fn unchanged_documents(rt: HostRuntime) -> Result<(), Fail> {
+    for document in ["", "no sign", "é\r\n"] {
+        let reading = Reading::Unchanged(String::from_str(rt.alloc(), document)?);
+        for step in [1, 3, 4096] {
+            assert!(rt; reads(rt.alloc(), document, step, &reading)?, "{document}");
+        }
+    }
+    Ok(())
+}
+
+#[test]
+fn changed_documents(rt: HostRuntime) -> Result<(), Fail> {
+    let mut answer = inline(rt.alloc(), "<mi>a</mi>")?;
+    answer.push_str(" é")?;
+    let reading = Reading::Changed(answer);
+    for step in [1, 2, 5, 4096] {
+        assert!(rt; reads(rt.alloc(), "$a$ é", step, &reading)?, "{step}");
+    }
+    Ok(())
+}
+
+/// Whether a document that is longer than what is asked for at once is read whole.
+fn reads_long(alloc: Global) -> Result<bool, Fail> {
+    let mut document = String::new(alloc);
+    for _ in 0..MANY {
+        document.push_str("é ")?;
+    }
+    let mut answer = document.clone()?;
+    document.push_str("$a$")?;
+    answer.push_str(inline(alloc, "<mi>a</mi>")?.as_str())?;
+    reads(alloc, document.as_str(), 4096, &Reading::Changed(answer))
+}
+
+#[test]
+fn long_document(rt: HostRuntime) -> Result<(), Fail> {
+    assert!(rt; reads_long(rt.alloc())?);
+    Ok(())
+}
+
+/// The fault of reading these bytes one at a time in so many calls.
+fn fault(alloc: Global, bytes: &[u8], calls: usize) -> (Stream<Reader<'_>>, Option<FileFault>) {
+    let mut from = source(bytes, 1, calls);
+    let fault = match read_document(alloc, &mut from) {
+        Ok(_) => None,
+        Err(fault) => Some(fault),
+    };
+    (from, fault)
+}
+
+#[test]
+fn no_text(rt: HostRuntime) {
+    for bytes in [
+        b"\xff".as_slice(),
+        b"\xed\xa0\x80".as_slice(),
+        b"$\xc3".as_slice(),
+        b"$a$\x80".as_slice(),
+    ] {
+        let (from, fault) = fault(rt.alloc(), bytes, ENOUGH);
+        assert!(rt; fault == Some(FileFault::NotText));
+        assert!(rt; from.ended && !from.failed);
+    }
+}
+
+/// A reader that fails at each call in turn, also at the one that would say that the end is reached.
+#[test]
+fn failing_reader(rt: HostRuntime) {
+    for calls in 0..4 {
+        let (from, fault) = fault(rt.alloc(), b"$a$", calls);
+        assert!(rt; fault == Some(FileFault::Read), "{calls}");
+        assert!(rt; from.failed && !from.ended, "{calls}");
+    }
+    let (from, fault) = fault(rt.alloc(), b"$a$", 4);
+    assert!(rt; fault == None && from.ended && !from.failed);
+}
+
+#[test]
+fn refused_document(rt: HostRuntime) {
+    let (from, fault) = fault(rt.alloc(), b"$$$", ENOUGH);
+    let refusal = LatexError::InvalidNumberOfDollarSigns;
+    assert!(rt; fault == Some(FileFault::Refused(refusal)));
+    assert!(rt; from.ended && !from.failed);
+}

@@ -1,0 +1,123 @@
+//! Inputs that nobody would write.
+
+use crate::formulas::has;
+use latex2mathml::{DisplayStyle, latex_to_mathml};
+use std::alloc::{AllocError, Global};
+use std::test::Fail;
+
+#[test]
+fn nul(rt: HostRuntime) -> Result<(), Fail> {
+    for (formula, contents) in [
+        (
+            "\0",
+            "<mtext>[PARSE ERROR: Undefined(\"Illegal('\0')\")]</mtext>",
+        ),
+        (
+            "\\\0",
+            "<mtext>[PARSE ERROR: Undefined(\"Command(\\\"\0\\\")\")]</mtext>",
+        ),
+        (
+            "a\0b",
+            "<mi>a</mi><mtext>[PARSE ERROR: Undefined(\"Illegal('\0')\")]</mtext><mi>b</mi>",
+        ),
+        ("\u{1}", "<mi mathvariant=\"normal\">\u{1}</mi>"),
+    ] {
+        assert!(rt; has(rt.alloc(), formula, contents)?, "{formula}");
+    }
+    Ok(())
+}
+
+/// So many copies of the part, side by side.
+pub fn repeated(alloc: Global, part: &str, count: usize) -> Result<String, AllocError> {
+    let mut text = String::new(alloc);
+    for _ in 0..count {
+        text.push_str(part)?;
+    }
+    Ok(text)
+}
+
+/// Whether a formula of so many equal parts has so many equal contents.
+pub fn repeats(alloc: Global, formula: &str, contents: &str, count: usize) -> Result<bool, Fail> {
+    let formula = repeated(alloc, formula, count)?;
+    let contents = repeated(alloc, contents, count)?;
+    has(alloc, formula.as_str(), contents.as_str())
+}
+
+pub const MEGABYTE: usize = 1 << 20;
+
+#[test]
+fn many_letters(rt: HostRuntime) -> Result<(), Fail> {
+    assert!(rt; repeats(rt.alloc(), "x", "<mi>x</mi>", MEGABYTE)?);
+    Ok(())
+}
+
+#[test]
+fn one_long_number(rt: HostRuntime) -> Result<(), Fail> {
+    let alloc = rt.alloc();
+    let digits = repeated(alloc, "7", MEGABYTE)?;
+    let contents = format!(in alloc; "<mn>{}</mn>", digits.as_str())?;
+    assert!(rt; has(alloc, digits.as_str(), contents.as_str())?);
+    Ok(())
+}
+
+#[test]
+fn one_long_command(rt: HostRuntime) -> Result<(), Fail> {
+    let alloc = rt.alloc();
+    let letters = repeated(alloc, "z", MEGABYTE)?;
+    let formula = format!(in alloc; "\\{}", letters.as_str())?;
+    let contents = format!(in alloc;
+        "<mtext>[PARSE ERROR: Undefined(\"Command(\\\"{}\\\")\")]</mtext>",
+        letters.as_str()
+    )?;
+    assert!(rt; has(alloc, formula.as_str(), contents.as_str())?);
+    Ok(())
+}
+
+#[test]
+fn much_white_space(rt: HostRuntime) -> Result<(), Fail> {
+    assert!(rt; repeats(rt.alloc(), " \n", "", MEGABYTE)?);
+    Ok(())
+}
+
+/// The middle between so many copies of a text and so many copies of another.
+fn nested(
+    alloc: Global,
+    before: &str,
+    middle: &str,
+    after: &str,
+    depth: usize,
+) -> Result<String, AllocError> {
+    let mut text = repeated(alloc, before, depth)?;
+    text.push_str(middle)?;
+    let close = repeated(alloc, after, depth)?;
+    text.push_str(close.as_str())?;
+    Ok(text)
+}
+
+const DEEP: usize = 300;
+
+#[test]
+fn deep_groups(rt: HostRuntime) -> Result<(), Fail> {
+    let formula = nested(rt.alloc(), "{", "x", "}", DEEP)?;
+    assert!(rt; has(rt.alloc(), formula.as_str(), "<mi>x</mi>")?);
+    Ok(())
+}
+
+#[test]
+fn deep_scripts(rt: HostRuntime) -> Result<(), Fail> {
+    let alloc = rt.alloc();
+    let formula = nested(alloc, "a^", "x", "", DEEP)?;
+    let contents = nested(alloc, "<msup><mi>a</mi>", "<mi>x</mi>", "</msup>", DEEP)?;
+    assert!(rt; has(alloc, formula.as_str(), contents.as_str())?);
+    Ok(())
+}
+
+/// A formula is a function of its text: asked twice, it answers the same.
+#[test]
+fn answers_again(rt: HostRuntime) -> Result<(), Fail> {
+    let alloc = rt.alloc();
+    let once = latex_to_mathml(alloc, "\\foo <1.5", DisplayStyle::Block)?;
+    let again = latex_to_mathml(alloc, "\\foo <1.5", DisplayStyle::Block)?;
+    assert!(rt; once == again);
+    Ok(())
+}

@@ -1,0 +1,307 @@
+//! Readers and writers that give up.
+ghost use Rattle.std.specs.Prelude.{◌≤◌, IfOk, IsFalse};
+
+use latex2mathml::{FileFault, Sink, Source, Stream, WriteCause, write_document};
+use std::alloc::Global;
+use std::io;
+use std::io::{Read, Write};
+use std::test::Fail;
+
+/// Takes so many bytes a call, and after so many calls none, or fails.
+#[derive(Drop)]
+struct Writer {
+    held: Vec<u8>,
+    step: usize,
+    calls_left: usize,
+    fails: bool,
+}
+
+impl Write for Writer {
+    fn write(&mut self, bytes: &[u8]) -> io::Result<usize> {
+        if self.calls_left == 0 {
+            return if self.fails {
+                Err(io::Error::from(io::ErrorKind::Other))
+            } else {
+                Ok(0)
+            };
+        }
+        self.calls_left -= 1;
+        let count = self.step.min(bytes.len());
+        self.held.extend_from_slice(&bytes[..count])?;
+        Ok(count)
+    }
+
+    fn flush(&mut self) -> io::Result<()> {
+        Ok(())
+    }
+}
+
+/// Gives so many bytes a call, and fails after so many calls.
+#[derive(Drop)]
+struct Reader<'a> {
+    bytes: &'a [u8],
+    step: usize,
+    calls_left: usize,
+}
+
+impl Read for Reader<'_> {
+    fn read(&mut self, room: &mut [u8]) -> io::Result<usize> {
+        if self.calls_left == 0 {
+            return Err(io::Error::from(io::ErrorKind::Other));
+        }
+        self.calls_left -= 1;
+        let count = self.step.min(room.len()).min(self.bytes.len());
+        room[..count].copy_from_slice(&self.bytes[..count]);
+        self.bytes = &self.bytes[count..];
+        Ok(count)
+    }
+}
+
+fn stream<T>(inner: T) -> Stream<T>
+    ensures unfailed { IsFalse result.failed }
+    ensures unended { IsFalse result.ended }
+{
+    Stream {
+        inner,
+        failed: false,
+        ended: false,
+    }
+}
+
+/// Writes the text to such a writer, and answers what it holds, what it tells, and how the writing ended.
+fn written(
+    alloc: Global,
+    text: &str,
+    step: usize,
+    calls: usize,
+    fails: bool,
+) -> (Stream<Writer>, Result<(), FileFault>) {
+    let mut sink = stream(Writer {
+        held: Vec::new(alloc),
+        step,
+        calls_left: calls,
+        fails,
+    });
+    let ended = write_document(&mut sink, text);
+    (sink, ended)
+}
+
+#[test]
+fn writes_all(rt: HostRuntime) -> Result<(), Fail> {
+    for step in 1..8 {
+        let (sink, ended) = written(rt.alloc(), "a𝑥c", step, 9, true);
+        assert!(rt; ended == Ok(()));
+        assert!(rt; sink.inner.held.as_slice() == "a𝑥c".as_bytes());
+        assert!(rt; !sink.failed && !sink.ended);
+    }
+    Ok(())
+}
+
+/// A writer that takes one byte a call and fails at each call in turn.
+#[test]
+fn writer_fails(rt: HostRuntime) -> Result<(), Fail> {
+    let text = "abc";
+    for calls in 0..text.len() {
+        let (sink, ended) = written(rt.alloc(), text, 1, calls, true);
+        let fault = FileFault::Write {
+            written: calls,
+            cause: WriteCause::Failed,
+        };
+        assert!(rt; ended == Err(fault), "{calls}");
+        assert!(rt;
+            sink.inner.held.as_slice() == text[..calls].as_bytes(),
+            "{calls}"
+        );
+        assert!(rt; sink.failed && !sink.ended, "{calls}");
+    }
+    Ok(())
+}
+
+#[test]
+fn writer_takes_nothing(rt: HostRuntime) -> Result<(), Fail> {
+    let (sink, ended) = written(rt.alloc(), "abc", 2, 0, false);
+    assert!(rt;
+        ended
+            == Err(FileFault::Write {
+                written: 0,
+                cause: WriteCause::TookNothing
+            })
+    );
+    assert!(rt; sink.inner.held.is_empty() && sink.ended && !sink.failed);
+    let (sink, ended) = written(rt.alloc(), "abc", 2, 1, false);
+    assert!(rt;
+        ended
+            == Err(FileFault::Write {
+                written: 2,
+                cause: WriteCause::TookNothing
+            })
+    );
+    assert!(rt; sink.inner.held.as_slice() == b"ab".as_slice());
+    Ok(())
+}
+
+#[test]
+fn nothing_to_write(rt: HostRuntime) -> Result<(), Fail> {
+    let (sink, ended) = written(rt.alloc(), "", 0, 0, true);
+    assert!(rt; ended == Ok(()));
+    assert!(rt; !sink.failed && !sink.ended);
+    Ok(())
+}
+
+/// A reader that gives one byte a call, ends, or fails at each call in turn.
+#[test]
+fn reader_gives(rt: HostRuntime) -> Result<(), Fail> {
+    let mut room = [0u8; 4];
+    let mut source = stream(Reader {
+        bytes: b"ab",
+        step: 1,
+        calls_left: 9,
+    });
+    assert!(rt; source.take_in(&mut room) == Some(1));
+    assert!(rt; room[0] == b'a' && !source.failed && !source.ended);
+    assert!(rt; source.take_in(&mut room) == Some(1));
+    assert!(rt; room[0] == b'b' && !source.failed && !source.ended);
+    assert!(rt; source.take_in(&mut []) == Some(0));
+    assert!(rt; !source.failed && !source.ended);
+    assert!(rt; source.take_in(&mut room) == Some(0));
+    assert!(rt; !source.failed && source.ended);
+    Ok(())
+}
+
+#[test]
+fn reader_fails(rt: HostRuntime) -> Result<(), Fail> {
+    let mut room = [0u8; 4];
+    let mut source = stream(Reader {
+        bytes: b"ab",
+        step: 1,
+        calls_left: 0,
+    });
+    assert!(rt; source.take_in(&mut room) == None);
+    assert!(rt; source.failed && !source.ended);
+    Ok(())
+}
+
+/// What a sink answers, asked with and without bytes.
+#[test]
+fn sink_answers(rt: HostRuntime) -> Result<(), Fail> {
+    let alloc = rt.alloc();
+    let mut sink = stream(Writer {
+        held: Vec::new(alloc),
+        step: 2,
+        calls_left: 2,
+        fails: false,
+    });
+    assert!(rt; sink.put_out(b"") == Some(0));
+    assert!(rt; !sink.failed && !sink.ended);
+    assert!(rt; sink.put_out(b"abc") == Some(2));
+    assert!(rt; !sink.failed && !sink.ended);
+    assert!(rt; sink.put_out(b"c") == Some(0));
+    assert!(rt; !sink.failed && sink.ended);
+    Ok(())
+}
+
+/// Fails once, and gives or takes one byte at each later call.
+#[derive(Drop)]
+struct Flawed {
+    kind: io::ErrorKind,
+    calls: u32,
+}
+
+impl Flawed {
+    /// How many of so many bytes this call moves.
+    fn moved(&mut self, due: usize) -> io::Result<usize>
+        ensures { IfOk result (λ n. n ≤ due) }
+    {
+        self.calls = self.calls.saturating_add(1);
+        if self.calls == 1 {
+            return Err(io::Error::from(self.kind));
+        }
+        Ok(due.min(1))
+    }
+}
+
+impl Read for Flawed {
+    fn read(&mut self, room: &mut [u8]) -> io::Result<usize> {
+        self.moved(room.len())
+    }
+}
+
+impl Write for Flawed {
+    fn write(&mut self, bytes: &[u8]) -> io::Result<usize> {
+        self.moved(bytes.len())
+    }
+
+    fn flush(&mut self) -> io::Result<()> {
+        Ok(())
+    }
+}
+
+fn failing_once(kind: io::ErrorKind) -> Stream<Flawed>
+    ensures unfailed { IsFalse result.failed }
+    ensures unended { IsFalse result.ended }
+{
+    stream(Flawed { kind, calls: 0 })
+}
+
+/// Whether the stream has failed, has not ended, and asked once.
+fn failed_once(stream: &Stream<Flawed>) -> bool {
+    stream.failed && !stream.ended && stream.inner.calls == 1
+}
+
+/// No error is an end, and no error is a reason to ask again.
+const KINDS: [io::ErrorKind; 6] = [
+    io::ErrorKind::Interrupted,
+    io::ErrorKind::WouldBlock,
+    io::ErrorKind::UnexpectedEof,
+    io::ErrorKind::WriteZero,
+    io::ErrorKind::BrokenPipe,
+    io::ErrorKind::Other,
+];
+
+#[test]
+fn each_error_of_a_reader_is_none(rt: HostRuntime) -> Result<(), Fail> {
+    let mut room = [0u8; 4];
+    for kind in KINDS {
+        let mut source = failing_once(kind);
+        assert!(rt; source.take_in(&mut room) == None);
+        assert!(rt; failed_once(&source));
+    }
+    Ok(())
+}
+
+#[test]
+fn each_error_of_a_writer_is_none(rt: HostRuntime) -> Result<(), Fail> {
+    for kind in KINDS {
+        let mut sink = failing_once(kind);
+        assert!(rt; sink.put_out(b"ab") == None);
+        assert!(rt; failed_once(&sink));
+    }
+    Ok(())
+}
+
+#[test]
+fn a_writing_stops_at_each_error(rt: HostRuntime) -> Result<(), Fail> {
+    for kind in KINDS {
+        let mut sink = failing_once(kind);
+        let ended = write_document(&mut sink, "ab");
+        let fault = FileFault::Write {
+            written: 0,
+            cause: WriteCause::Failed,
+        };
+        assert!(rt; ended == Err(fault));
+        assert!(rt; failed_once(&sink));
+    }
+    Ok(())
+}
+
+/// A writer that takes nothing is not asked for a text that holds nothing.
+#[test]
+fn nothing_is_asked_for_nothing(rt: HostRuntime) -> Result<(), Fail> {
+    let mut sink = failing_once(io::ErrorKind::Other);
+    assert!(rt; write_document(&mut sink, "") == Ok(()));
+    assert!(rt; sink.inner.calls == 0 && !sink.failed && !sink.ended);
+    let (sink, ended) = written(rt.alloc(), "", 0, 0, false);
+    assert!(rt; ended == Ok(()));
+    assert!(rt; sink.inner.held.is_empty() && !sink.failed && !sink.ended);
+    Ok(())
+}

@@ -1,0 +1,43 @@
+//! A formula in a page.
+ghost use Rattle.std.specs.Prelude.{◌≡◌, ℕ, List, ◌++◌, IfOk, codes, string_bytes};
+ghost use Rattle.latex2mathml.specs.Refusal.{IfRefused, error_text, refusal_of};
+ghost use Rattle.latex2mathml.specs.Rendering.{IsFormulaRefusal, IsRendering};
+ghost use Rattle.latex2mathml.specs.declared.DisplayStyle.TheVariants.{Block};
+ghost use Rattle.latex2mathml_uses.specs.Shown.{IsShown, reason_print};
+
+use latex2mathml::ast::Node;
+use latex2mathml::{DisplayStyle, LatexError, latex_to_mathml};
+use std::alloc::{AllocError, Global};
+
+/// A paragraph that holds the formula, set in a block of its own.
+pub fn paragraph(alloc: Global, formula: &str) -> Result<String, LatexError>
+    ensures paragraph { IfOk result (λ page. (markup : List ℕ)
+        × IsRendering formula.now Block markup
+        × (string_bytes page ≡ codes "<p>" ++ (markup ++ codes "</p>"))) }
+    ensures refusal { IfRefused result (IsFormulaRefusal formula.now) }
+{
+    let markup = latex_to_mathml(alloc, formula, DisplayStyle::Block)?;
+    Ok(format!(in alloc; "<p>{markup}</p>")?)
+}
+
+/// What stands in a page for a formula of anyone: its markup in a line of text, or, where it is refused, the reason,
+/// escaped as a node's text is.
+pub fn shown(alloc: Global, formula: &str) -> Result<String, LatexError>
+    ensures { IfOk result (λ shown. IsShown formula.now (string_bytes shown)) }
+{
+    match latex_to_mathml(alloc, formula, DisplayStyle::Inline) {
+        Ok(markup) => Ok(markup),
+        Err(LatexError::OutOfMemory) => Err(LatexError::OutOfMemory),
+        Err(refusal) => Ok(reason(alloc, &refusal)?),
+    }
+}
+
+/// The text of a refusal as markup.
+fn reason(alloc: Global, refusal: &LatexError) -> Result<String, AllocError>
+    ensures { IfOk result (λ shown.
+        string_bytes shown ≡ reason_print (error_text (refusal_of refusal.now))) }
+{
+    let text = format!(in alloc; "{refusal}")?;
+    let node = Node::Undefined(text);
+    format!(in alloc; "<math>{node}</math>")
+}

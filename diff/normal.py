@@ -1,0 +1,258 @@
+"""The crate's answers brought to this repository's form, by what docs/DIFFERENCES.md lists and by nothing else.
+
+Only the crate's side is changed, so the program's answer is compared byte by byte. Each difference is one function,
+and its comment says which one it is. Two of the list need none, since no formula shows them: `thick` and the quotes of
+`columnalign="right"` are printed of nodes that only a caller makes."""
+
+import re
+from dataclasses import dataclass
+from decimal import Decimal
+
+# What the crate prints between its tags is one character, or holds no `<` that a name or a `/` follows. So these are
+# all tags.
+TAG = re.compile(
+    r"</?(?:math|mrow|mi|mn|mo|mro|mtext|mspace|msub|msup|msubsup|mover|munder|munderover|msqrt|mroot|mfrac|mstyle"
+    r"|mtable|mtr|mtd)(?: [a-z]+=[^<>]*)?>")
+MATH = re.compile(r'<math xmlns="http://www\.w3\.org/1998/Math/MathML" display="(?:inline|block)">.*?</math>', re.S)
+
+QUOTED = r'"(?:\\.|[^"\\])*"'
+CHARACTER = r"'(?:\\u\{[0-9a-f]+\}|\\.|[^'\\])'"
+DERIVED_ESCAPE = re.compile(r"\\(?:u\{([0-9a-f]+)\}|(.))", re.S)
+
+
+@dataclass
+class Element:
+    """One element: its tags as they are printed, and what stands between them, elements and texts."""
+    start: str
+    end: str
+    inside: list
+
+    def is_a(self, name):
+        return re.match(rf"<{name}\b", self.start) is not None
+
+
+def tree(markup):
+    """The one element that the markup is."""
+    whole = Element("", "", [])
+    open_elements = [whole]
+    place = 0
+    for tag in TAG.finditer(markup):
+        if tag.start() > place:
+            open_elements[-1].inside.append(markup[place:tag.start()])
+        place = tag.end()
+        if tag[0].startswith("</"):
+            open_elements.pop().end = tag[0]
+        else:
+            element = Element(tag[0], "", [])
+            open_elements[-1].inside.append(element)
+            if not tag[0].endswith("/>"):
+                open_elements.append(element)
+    (root,) = whole.inside
+    assert open_elements == [whole] and place == len(markup), "every tag of the crate closes"
+    return root
+
+
+def printed(part):
+    """The print of an element or a text."""
+    if isinstance(part, str):
+        return part
+    return part.start + "".join(map(printed, part.inside)) + part.end
+
+
+# Texts
+
+def with_named_brackets(text):
+    """`\\langle` and `\\rangle` hold named references there, and the characters here."""
+    return text.replace("&lang;", "\u27e8").replace("&rang;", "\u27e9")
+
+
+def with_references(text):
+    """Texts and characters print as they are there. Here `&`, `<` and `>` print as references. The stroke through what
+    is slashed is a reference of the print's own, on both sides."""
+    stroke = "&#x0338;"
+    content, slashed = (text[:-len(stroke)], stroke) if text.endswith(stroke) else (text, "")
+    return content.replace("&", "&amp;").replace("<", "&lt;").replace(">", "&gt;") + slashed
+
+
+def plain(derived):
+    """What a derived debug text in quotation marks or apostrophes says."""
+    short = {"n": "\n", "r": "\r", "t": "\t", "0": "\0"}
+    return DERIVED_ESCAPE.sub(lambda found: chr(int(found[1], 16)) if found[1] else short.get(found[2], found[2]),
+                              derived[1:-1])
+
+
+def quoted(text, mark):
+    """A text in quotation marks, or a character in apostrophes, as the language's token texts have it."""
+    return mark + re.sub(rf"[{mark}\\]", r"\\\g<0>", text) + mark
+
+
+def token_text(derived):
+    """Marked errors and refusals have derived debug texts there, which also escape control, unprintable and some
+    combining characters. Here only the mark itself and backslashes are escaped."""
+    if derived.startswith("Space("):
+        return space_token(derived)
+    retold = re.sub(f"{QUOTED}|{CHARACTER}", lambda found: quoted(plain(found[0]), found[0][0]), derived, flags=re.S)
+    return lone_backslash(with_named_brackets(retold))
+
+
+def space_token(derived):
+    """A space holds a float of ems there, and a whole number of eighteenths of an em here."""
+    return f"Space({round(Decimal(derived[len('Space('):-1]) * 18)})"
+
+
+def lone_backslash(text):
+    """A backslash that ends the text is the command named NUL there, and the command whose name is empty here. No
+    formula that is compared holds a NUL."""
+    return text.replace('Command("\0")', 'Command("")')
+
+
+def marked_error(text):
+    """The token text of a marked error, in its quotation marks."""
+    found = re.fullmatch(rf"\[PARSE ERROR: Undefined\(({QUOTED})\)\]", text, re.S)
+    if not found:
+        return text
+    return "[PARSE ERROR: Undefined(" + quoted(token_text(plain(found[1])), '"') + ")]"
+
+
+# Elements
+
+def with_quoted_alignment(element):
+    """`columnalign=left` has no quotes there."""
+    if element.is_a("mtable"):
+        element.start = re.sub(r"columnalign=(left|right)", r'columnalign="\1"', element.start)
+    return element
+
+
+def with_matching_end(element):
+    """A parenthesis with a size ends in `</mro>` there, and in `</mo>` here."""
+    if element.end == "</mro>":
+        element.end = "</mo>"
+    return element
+
+
+def with_rounded_width(element):
+    """The width of a space prints as its float there, and rounded to the nearest thousandth here."""
+    if element.is_a("mspace"):
+        element.start = re.sub(r'(?<=width=")[-.0-9]+(?=em")', rounded, element.start)
+    return element
+
+
+def rounded(width):
+    thousandths = f"{Decimal(width[0]):.3f}"
+    return thousandths.rstrip("0").rstrip(".")
+
+
+def with_operator_as_base(element):
+    """A big operator with an upper limit alone is the accent over its limit there. Here it is the base, and the limit
+    stands above it. The crate makes no other accent `false`."""
+    if element.is_a("mover") and element.inside[1].start == '<mo accent="false">':
+        limit, operator = element.inside
+        operator.start = "<mo>"
+        element.inside = [operator, limit]
+    return element
+
+
+def normal(part):
+    """The form of an element or a text here."""
+    if isinstance(part, str):
+        return with_references(with_named_brackets(marked_error(part)))
+    part.inside = [normal(inner) for inner in part.inside]
+    for form in (with_quoted_alignment, with_matching_end, with_rounded_width, with_operator_as_base):
+        part = form(part)
+    return part
+
+
+def markup(answer):
+    """The form here of a text in which the crate has set formulas: prose stays, and each formula is brought to it."""
+    return MATH.sub(lambda found: printed(normal(tree(found[0]))), answer)
+
+
+def refusal(text):
+    """The form here of a refusal's text: its token texts are retold."""
+    for shape in (r'(The token ")(.*?)(" is expected, but the token ")(.*)(" is found\.")',
+                  r'(There must be a parenthesis after ")(.*?)(", but not found\. Insted, ")(.*)(" is found\.)'):
+        found = re.fullmatch(shape, text, re.S)
+        if found:
+            return found[1] + token_text(found[2]) + found[3] + token_text(found[4]) + found[5]
+    return text
+
+
+# Formulas
+
+COMMAND = re.compile(r"\\([A-Za-z]+|.|$)", re.S)
+STAND_IN, ITS_CHARACTER = "\\lightning", "\u21af"
+TOKEN = re.compile(r"[ \t\n\r]*(?::=|\\(?:[A-Za-z]+|.|$)|[0-9]+\.?[0-9]*|.|$)", re.S)
+
+
+def for_crate(formula):
+    """`\\ni` has the character of `\\notin` there, by a slip, and its own here. So the crate reads another operator in
+    its place, and `from_crate` puts the character of `\\ni` for that one's."""
+    return COMMAND.sub(lambda command: STAND_IN if command[1] == "ni" else command[0], formula)
+
+
+def from_crate(text, handed, answer):
+    return answer if handed == text else answer.replace(ITS_CHARACTER, "\u220b")
+
+
+def incomparable(text, handed):
+    """Why a listed difference keeps a text from being compared, or nothing."""
+    if "\0" in text:
+        return "a NUL, which the crate reads as the end"
+    if handed != text and (ITS_CHARACTER in text or STAND_IN in text):
+        return "\\ni beside the operator that stands for it"
+    return None
+
+
+def sized_behind_middle(formula):
+    """The crate panics where what follows `\\middle` is no bare operator. Here it is refused, and what was found is the
+    token directly behind. So the crate is asked for that token of each `\\middle`, as one that is to have a size."""
+    return ["\\bigl" + TOKEN.match(formula, command.end())[0]
+            for command in COMMAND.finditer(formula) if command[1] == "middle"]
+
+
+def refusal_of_middle(kind, said):
+    """The refusal's text for a token, by what the crate said to it as one that is to have a size: either it has one,
+    then it is a parenthesis, or it is named in the refusal."""
+    if kind == "o":
+        token = re.search(r'minsize="1\.2em">(.*)</mro>', said, re.S)
+        derived = 'Paren("' + token[1] + '")'
+    else:
+        derived = re.fullmatch(r'The token "Paren\(""\)" is expected, but the token "(.*)" is found\."', said, re.S)[1]
+    return f'There must be a parenthesis after "Middle", but not found. Insted, "{token_text(derived)}" is found.'
+
+
+# Documents
+
+def formulas_of(document):
+    """The formulas that a document's dollar signs enclose, as pairs of a word and a text, in order, and the word of the
+    one that is left open at its end, or "". Nothing where formulas touch, where one holds a dollar sign, and where
+    three stand in a row: the crate pairs every `$$` first, also overlapping ones, then the single ones of what it
+    made. Here one cut is made from left to right."""
+    found, opened, start = [], "", 0
+    for run in re.finditer(r"\$+", document):
+        word = {1: "inline", 2: "block"}.get(len(run[0]))
+        if word is None or opened not in ("", word):
+            return None
+        if opened:
+            found.append((opened, document[start:run.start()]))
+            opened = ""
+        else:
+            opened, start = word, run.end()
+    return found, opened
+
+
+def document_for_crate(document):
+    """A document in which the crate reads each formula as it reads one alone."""
+    parts = re.split(r"(\$+)", document)
+    return "".join(for_crate(part) if place % 4 == 2 else part for place, part in enumerate(parts))
+
+
+def has_one_first_fault(formulas, refused, opened):
+    """Whether the same fault of a document comes first there and here. Here the dollar signs are counted before any
+    formula is looked at, and formulas are taken in their order. There the double ones are counted, then each display
+    is looked at, then the single ones are counted, and then the inline formulas are looked at."""
+    here = [("count", opened)] if opened else []
+    here += [(word, place) for place, (word, _) in enumerate(formulas) if refused[place]]
+    turns = [("count", "block"), "block", ("count", "inline"), "inline"]
+    there = sorted(here, key=lambda fault: turns.index(fault if fault in turns else fault[0]))
+    return here[:1] == there[:1]

@@ -1,0 +1,54 @@
+"""This repository's program: where it is, what it answers, and which of the language's commands it reads."""
+
+import re
+import subprocess
+from dataclasses import dataclass
+from pathlib import Path
+
+ROOT = Path(__file__).resolve().parent.parent
+LAUNCHER = ROOT / "latex2mathml"
+BINARY = ROOT / "crates" / "latex2mathml_app" / "out" / "latex2mathml_app"
+WRONG_WORDS = 2
+
+
+@dataclass(frozen=True)
+class Answer:
+    """What one run of the program came to."""
+    status: int
+    output: str
+    errors: str
+
+
+def ask(program, word, text):
+    """One run of the program on one text."""
+    run = subprocess.run([program, word], input=text.encode(), stdout=subprocess.PIPE, stderr=subprocess.PIPE)
+    return Answer(run.returncode, run.stdout.decode(), run.stderr.decode())
+
+
+def built():
+    """The built program. The launcher builds it first where it is missing or older than its sources."""
+    subprocess.run([LAUNCHER, "inline"], input=b"", stdout=subprocess.DEVNULL, check=True)
+    return BINARY
+
+
+def knows(program, word):
+    """Whether the program has this word."""
+    return ask(program, word, "").status != WRONG_WORDS
+
+
+def commands():
+    """The names of the command table, as docs/LANGUAGE.md lists them: first those that act on what follows, then the
+    others."""
+    text = (ROOT / "docs" / "LANGUAGE.md").read_text(encoding="utf-8")
+    table = text[text.index("\n## The commands"):]
+    acting = table[table.index("\n### Commands that act on what follows"):]
+    name = re.compile(r"`\\([A-Za-z]+|[^A-Za-z\s])`")
+    first = dict.fromkeys(name.findall(acting))
+    return list(first), [other for other in dict.fromkeys([" ", *name.findall(table)]) if other not in first]
+
+
+def is_unread(program, command):
+    """Whether the program knows the command and marks it, since it does not read yet what follows. `\\right` and `\\end`
+    are always marked where they stand alone."""
+    marked = re.search(r'\[PARSE ERROR: Undefined\("(\w+)', ask(program, "inline", "\\" + command).output)
+    return marked is not None and marked[1] not in ("EOF", "Right", "End", "Command")
