@@ -3,7 +3,7 @@ use Rattle.std.proofs.Common.{◌≡◌, ℕ, List, [], ◌∷◌, ◌++◌, Opt
 use Rattle.std.specs.Prelude.{IfSome}
 use Rattle.latex2mathml.specs.Pieces.{BeginsWith, IsFront}
 use Rattle.latex2mathml.specs.Documents.{Piece, IsCut, HasCut, HasNoCut, PieceAnswer, PiecesAnswer, IsAnswer, PieceRefuses, FirstRefused, IsRefusal}
-use Rattle.latex2mathml.specs.Refusal.{Refusal, InvalidNumberOfDollarSigns}
+use Rattle.latex2mathml_tokens.specs.Refusal.{Refusal, InvalidNumberOfDollarSigns}
 use Rattle.latex2mathml.proofs.Cuts.{first_forced}
 
 -- what follows from each refusal follows from the one that an error tells

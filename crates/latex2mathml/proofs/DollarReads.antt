@@ -2,14 +2,15 @@
 -- with one. The productions are named in `free_rule` alone.
 use Rattle.std.proofs.Common.{◌≡◌, ℕ, true, List, [], ◌∷◌, Option, Some, None, refl, sym, subst}
 use Rattle.std.specs.Str.{IsUtf8, chars}
+use Rattle.latex2mathml_nodes.specs.Productions.{grouped}
 use Rattle.latex2mathml.specs.DocumentLaws.{KeepsDollarFree}
 use Rattle.latex2mathml.specs.Dollars.{is_other, IsDollarFree}
-use Rattle.latex2mathml.specs.Grammar.{Sort, sized, Rule, gives, refuses, reads_part, reads_members, reads_sign, takes_token, sees_token, takes_letters, rule, grouped, primed, scripted, Outcome, Read, Refused, first_or_end, letter_of, AreLetters, Reads, core_at_end, core_begun, single_read, node_read, ReadsRule, rule_gives, rule_refuses, part_read, part_refused, members_read, members_refused, sign_stands, sign_missing, token_taken, token_at_end, token_seen, letters_taken, ReadsAll, formula_ends, group_ends, never_closed, member_read, later_refused, member_refused, Reading}
-use Rattle.latex2mathml.specs.Rendering.{IsRendering}
-use Rattle.latex2mathml.specs.Tok.{Tok, EOF, Ampersand, Paren, LBrace, NewLine, Frac, Binom, Overset, Underset, Overbrace, Underbrace, Sqrt, Integral, Lim, BigOp, Style, Big, Over, Under, Letter, Number, Operator, Space, Function}
-use Rattle.latex2mathml.specs.Style.{styled, all_styled}
-use Rattle.latex2mathml.specs.Tree.{Tree, Trees, letter, row, no_trees, more_trees, trees_of}
-use Rattle.latex2mathml.specs.declared.attribute.Variant.{Variant}
+use Rattle.latex2mathml_formulas.specs.Grammar.{Sort, sized, Rule, gives, refuses, reads_part, reads_members, reads_sign, takes_token, sees_token, takes_letters, rule, primed, scripted, Outcome, Read, Refused, first_or_end, letter_of, AreLetters, Reads, core_at_end, core_begun, single_read, node_read, ReadsRule, rule_gives, rule_refuses, part_read, part_refused, members_read, members_refused, sign_stands, sign_missing, token_taken, token_at_end, token_seen, letters_taken, ReadsAll, formula_ends, group_ends, never_closed, member_read, later_refused, member_refused, Reading}
+use Rattle.latex2mathml_formulas.specs.Rendering.{IsRendering}
+use Rattle.latex2mathml_tokens.specs.Tok.{Tok, EOF, Ampersand, Paren, LBrace, NewLine, Frac, Binom, Overset, Underset, Overbrace, Underbrace, Sqrt, Integral, Lim, BigOp, Style, Big, Over, Under, Letter, Number, Operator, Space, Function}
+use Rattle.latex2mathml_nodes.specs.Style.{styled, all_styled}
+use Rattle.latex2mathml_nodes.specs.Tree.{Tree, Trees, letter, row, no_trees, more_trees, trees_of}
+use Rattle.latex2mathml_tokens.specs.declared.attribute.Variant.{Variant}
 use Rattle.latex2mathml.proofs.DollarTexts.{free_chars, free_more}
 use Rattle.latex2mathml.proofs.DollarTokens.{IsFree, AreFree, free_tokens, free_token_text}
 use Rattle.latex2mathml.proofs.DollarTrees.{IsFreeTree, AreFreeTrees, free_math}

@@ -9,8 +9,8 @@ use Rattle.std.proofs.lemmas.Bool.Decides.{nat_tests}
 use Rattle.std.proofs.lemmas.List.Folds.{list_all-append}
 use Rattle.std.proofs.lemmas.Str.{inside_one, encodes-chars, encode_ascii}
 use Rattle.latex2mathml.specs.Dollars.{is_other, IsDollarFree}
-use Rattle.latex2mathml.specs.Escape.{content, content_byte, content_char, value, value_byte, quoted, quoted_byte, quoted_char}
-use Rattle.latex2mathml.specs.Width.{width_text, thousandths_text, thousandths, after_point, trimmed, keep, three_digits}
+use Rattle.latex2mathml_tokens.specs.Escape.{content, content_byte, content_char, value, value_byte, quoted, quoted_byte, quoted_char}
+use Rattle.latex2mathml_nodes.specs.Width.{width_text, thousandths_text, thousandths, after_point, trimmed, keep, three_digits}
 
 -- two texts side by side
 pub free_both : (a b : List ℕ) → IsDollarFree a → IsDollarFree b → IsDollarFree (a ++ b)

@@ -5,21 +5,21 @@ use Rattle.std.specs.List.{list_all}
 use Rattle.std.specs.Str.{byte, encode_utf8_all}
 use Rattle.std.proofs.lemmas.Bool.{and_parts}
 use Rattle.std.proofs.lemmas.Slice.Eq.{bytes_eq-Decides}
-use Rattle.latex2mathml.specs.Commands.{command_entries, command_token, entry_token}
+use Rattle.latex2mathml_tokens.specs.Commands.{command_entries, command_token, entry_token}
 use Rattle.latex2mathml.specs.Dollars.{is_other, IsDollarFree}
-use Rattle.latex2mathml.specs.Characters.{◌∈◌}
-use Rattle.latex2mathml.specs.Spelling.{Slice, SpellsAt, HasSlices, HasTokens, character_token, character, colon, colon_equals, number, digit, symbol_command, letter_command, lone_backslash, is_operator, is_paren, takes_digit}
+use Rattle.latex2mathml_formulas.specs.Characters.{◌∈◌}
+use Rattle.latex2mathml_formulas.specs.Spelling.{Slice, SpellsAt, HasSlices, HasTokens, character_token, character, colon, colon_equals, number, digit, symbol_command, letter_command, lone_backslash, is_operator, is_paren, takes_digit}
 use Rattle.std.specs.Char.{encode_utf8, is_ascii_alphabetic}
-use Rattle.latex2mathml.specs.Escape.{quoted, quoted_char}
+use Rattle.latex2mathml_tokens.specs.Escape.{quoted, quoted_char}
 use Rattle.std.specs.Fmt.{signed_decimal}
-use Rattle.latex2mathml.specs.Tok.{Tok, Illegal, Paren, LBrace, RBrace, Underscore, Circumflex, Ampersand, Binom, Overbrace, Underbrace, Integral, Lim, Space, Style, Big, Over, Under, Operator, BigOp, Letter, Number, Function, Command}
-use Rattle.latex2mathml.specs.TokenText.{token_text, binom_name, variant_name, accent_name}
-use Rattle.latex2mathml.specs.declared.DisplayStyle.{DisplayStyle}
-use Rattle.latex2mathml.specs.declared.DisplayStyle.TheVariants.{Block, Inline}
-use Rattle.latex2mathml.specs.declared.attribute.Variant.{Variant}
-use Rattle.latex2mathml.specs.declared.attribute.Variant.TheVariants.{Normal, Italic}
-use Rattle.latex2mathml.specs.declared.attribute.Accent.{Accent}
-use Rattle.latex2mathml.specs.declared.attribute.Accent.TheVariants.{True}
+use Rattle.latex2mathml_tokens.specs.Tok.{Tok, Illegal, Paren, LBrace, RBrace, Underscore, Circumflex, Ampersand, Binom, Overbrace, Underbrace, Integral, Lim, Space, Style, Big, Over, Under, Operator, BigOp, Letter, Number, Function, Command}
+use Rattle.latex2mathml_tokens.specs.TokenText.{token_text, binom_name, variant_name, accent_name}
+use Rattle.latex2mathml_tokens.specs.declared.DisplayStyle.{DisplayStyle}
+use Rattle.latex2mathml_tokens.specs.declared.DisplayStyle.TheVariants.{Block, Inline}
+use Rattle.latex2mathml_tokens.specs.declared.attribute.Variant.{Variant}
+use Rattle.latex2mathml_tokens.specs.declared.attribute.Variant.TheVariants.{Normal, Italic}
+use Rattle.latex2mathml_tokens.specs.declared.attribute.Accent.{Accent}
+use Rattle.latex2mathml_tokens.specs.declared.attribute.Accent.TheVariants.{True}
 use Rattle.latex2mathml.proofs.DollarTexts.{free_both, free_parts, free_first, free_rest, free_one, free_encoded, free_quoted, free_quoted_char, free_signed}
 
 -- no character and no text of the token is or holds a dollar sign

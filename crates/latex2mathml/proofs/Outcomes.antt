@@ -4,8 +4,8 @@ use Rattle.latex2mathml.specs.DocumentLaws.{HasOneOutcome}
 use Rattle.latex2mathml.specs.Documents.{Piece, prose, inline, display, piece_text, IsPlain, IsPiece, HasCut, HasNoCut, PieceAnswer, PiecesAnswer, IsAnswer, PieceRefuses, FirstRefused, IsRefusal}
 use Rattle.latex2mathml.specs.Dollars.{dollar}
 use Rattle.latex2mathml.specs.Pieces.{BeginsWith, EndsBefore}
-use Rattle.latex2mathml.specs.Refusal.{Refusal, InvalidNumberOfDollarSigns}
-use Rattle.latex2mathml.specs.declared.DisplayStyle.TheVariants.{Block, Inline}
+use Rattle.latex2mathml_tokens.specs.Refusal.{Refusal, InvalidNumberOfDollarSigns}
+use Rattle.latex2mathml_tokens.specs.declared.DisplayStyle.TheVariants.{Block, Inline}
 use Rattle.latex2mathml.proofs.Cuts.{begins_with_prose, first_forced, more_cut, no_display, no_inline, one_cut_lem}
 use Rattle.latex2mathml.proofs.Renderings.{formula_outcome, one_formula_refusal, one_rendering, rendered_or_refused}
 use Rattle.latex2mathml.proofs.PlainTexts.{dollar_or_other, plain_front}

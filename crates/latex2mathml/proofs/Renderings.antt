@@ -1,15 +1,15 @@
 -- The facts of formulas that documents stand on: each text has exactly one rendering or exactly one refusal.
 use Rattle.std.proofs.Common.{◌≡◌, ◌⊎◌, ℕ, List, None, ⊎_elim, inl, inr, refl, sym, ap, ◌∙◌, subst}
 use Rattle.std.specs.Str.{chars}
-use Rattle.latex2mathml.specs.Grammar.{Reading, Refuses}
-use Rattle.latex2mathml.specs.Refusal.{Refusal}
-use Rattle.latex2mathml.specs.Rendering.{IsRendering, IsFormulaRefusal, math_print}
-use Rattle.latex2mathml.specs.Tok.{Tok}
-use Rattle.latex2mathml.specs.Tree.{Tree}
-use Rattle.latex2mathml.specs.declared.DisplayStyle.{DisplayStyle}
-use Rattle.latex2mathml.proofs.OneList.{at_most_one, some_list}
-use Rattle.latex2mathml.proofs.Total.{some_outcome}
-use Rattle.latex2mathml.proofs.Unique.{one_all}
+use Rattle.latex2mathml_formulas.specs.Grammar.{Reading, Refuses}
+use Rattle.latex2mathml_tokens.specs.Refusal.{Refusal}
+use Rattle.latex2mathml_formulas.specs.Rendering.{IsRendering, IsFormulaRefusal, math_print}
+use Rattle.latex2mathml_tokens.specs.Tok.{Tok}
+use Rattle.latex2mathml_nodes.specs.Tree.{Tree}
+use Rattle.latex2mathml_tokens.specs.declared.DisplayStyle.{DisplayStyle}
+use Rattle.latex2mathml_formulas.proofs.OneList.{at_most_one, some_list}
+use Rattle.latex2mathml_formulas.proofs.Total.{some_outcome}
+use Rattle.latex2mathml_formulas.proofs.Unique.{one_all}
 
 -- tokens have at most one reading or refusal
 one_reading : (ts : List Tok) (xs ys : List Tree) → Reading ts xs → Reading ts ys → xs ≡ ys

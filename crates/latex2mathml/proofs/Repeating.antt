@@ -8,9 +8,9 @@ use Rattle.latex2mathml.specs.Pieces.{EndsBefore}
 use Rattle.latex2mathml.specs.DocumentLaws.{RepeatsAnswers}
 use Rattle.latex2mathml.specs.Documents.{Piece, prose, inline, display, piece_text, spelling, ArePieces, IsCut, PiecesAnswer, IsAnswer, FirstRefused, IsRefusal}
 use Rattle.latex2mathml.specs.Dollars.{dollar, IsDollarFree}
-use Rattle.latex2mathml.specs.Refusal.{Refusal, IfRefused, refusal_of}
-use Rattle.latex2mathml.specs.declared.DisplayStyle.TheVariants.{Block, Inline}
-use Rattle.latex2mathml.specs.declared.error.LatexError.{LatexError}
+use Rattle.latex2mathml_tokens.specs.Refusal.{Refusal, IfRefused, refusal_of}
+use Rattle.latex2mathml_tokens.specs.declared.DisplayStyle.TheVariants.{Block, Inline}
+use Rattle.latex2mathml_tokens.specs.declared.error.LatexError.{LatexError}
 use Rattle.latex2mathml.proofs.Cuts.{one_cut_lem, stops_after}
 use Rattle.latex2mathml.proofs.DollarReads.{dollar_free}
 use Rattle.latex2mathml.proofs.PlainTexts.{plain_append}

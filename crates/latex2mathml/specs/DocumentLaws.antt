@@ -2,9 +2,9 @@
 use Rattle.std.specs.Prelude.{◌≡◌, ◌⊎◌, ℕ, List, ◌++◌}
 use Rattle.latex2mathml.specs.Documents.{Piece, IsCut, IsAnswer, IsRefusal}
 use Rattle.latex2mathml.specs.Dollars.{IsDollarFree}
-use Rattle.latex2mathml.specs.Refusal.{Refusal}
-use Rattle.latex2mathml.specs.Rendering.{IsRendering}
-use Rattle.latex2mathml.specs.declared.DisplayStyle.{DisplayStyle}
+use Rattle.latex2mathml_tokens.specs.Refusal.{Refusal}
+use Rattle.latex2mathml_formulas.specs.Rendering.{IsRendering}
+use Rattle.latex2mathml_tokens.specs.declared.DisplayStyle.{DisplayStyle}
 
 -- where the formula holds no dollar sign, no rendering of it does
 abbrev pub KeepsDollarFree : List ℕ → Type 0

@@ -7,9 +7,9 @@
 -- A text is its bytes here.
 use Rattle.std.specs.Prelude.{◌≡◌, ◌≢◌, ◌⊎◌, ℕ, List, [], ◌∷◌, ◌++◌, codes}
 use Rattle.latex2mathml.specs.Dollars.{IsDollarFree}
-use Rattle.latex2mathml.specs.Refusal.{Refusal, InvalidNumberOfDollarSigns}
-use Rattle.latex2mathml.specs.Rendering.{IsFormulaRefusal, IsRendering}
-use Rattle.latex2mathml.specs.declared.DisplayStyle.TheVariants.{Block, Inline}
+use Rattle.latex2mathml_tokens.specs.Refusal.{Refusal, InvalidNumberOfDollarSigns}
+use Rattle.latex2mathml_formulas.specs.Rendering.{IsFormulaRefusal, IsRendering}
+use Rattle.latex2mathml_tokens.specs.declared.DisplayStyle.TheVariants.{Block, Inline}
 
 -- The pieces.
 

@@ -1,6 +1,6 @@
 -- The texts of the faults of reading and writing.
 use Rattle.std.specs.Prelude.{ℕ, List, ◌++◌, codes, decimal}
-use Rattle.latex2mathml.specs.Refusal.{error_text, refusal_of}
+use Rattle.latex2mathml_tokens.specs.Refusal.{error_text, refusal_of}
 use Rattle.latex2mathml.specs.declared.error.FileFault.{FileFault}
 use Rattle.latex2mathml.specs.declared.error.FileFault.TheVariants.{Read, NotText, Refused, Write}
 

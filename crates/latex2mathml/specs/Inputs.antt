@@ -3,7 +3,7 @@
 use Rattle.std.specs.Prelude.{◌≡◌, ◌≢◌, ℕ, List, Bool, None, Result, Ok, Err, IfSome, IsFalse, IsTrue, IsUtf8, string_bytes}
 use Rattle.latex2mathml.specs.Documents.{IsAnswer, IsRefusal}
 use Rattle.latex2mathml.specs.Dollars.{IsDollarFree}
-use Rattle.latex2mathml.specs.Refusal.{refusal_of}
+use Rattle.latex2mathml_tokens.specs.Refusal.{refusal_of}
 use Rattle.latex2mathml.specs.declared.error.FileFault.{FileFault}
 use Rattle.latex2mathml.specs.declared.error.FileFault.TheVariants.{Read, NotText, Refused}
 use Rattle.latex2mathml.specs.declared.input.Reading.{Reading}

@@ -3,9 +3,10 @@ ghost use Rattle.std.specs.Prelude.{◌≡◌, ℕ, List, IfErr, IfOk, IsFalse, 
 ghost use Rattle.std.specs.Io.KnownBytes.{Consumes, IsAtEnd};
 ghost use Rattle.latex2mathml.specs.Inputs.{IsReadFault, IsReadingOf};
 
-use crate::error::{FileFault, LatexError};
+use crate::error::FileFault;
 use crate::replace;
 use crate::stream::Source;
+use latex2mathml_tokens::LatexError;
 use std::alloc::Global;
 
 /// A document that was read and converted.

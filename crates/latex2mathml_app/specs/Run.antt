@@ -3,11 +3,11 @@ use Rattle.std.specs.Prelude.{◌≡◌, ℕ, List, ◌++◌, Bool, None, Result
 use Rattle.std.specs.Io.KnownBytes.{Appends, Consumes, Keeps}
 use Rattle.std.specs.declared.alloc.Global.{Global}
 use Rattle.latex2mathml.specs.Documents.{IsAnswer, IsRefusal}
-use Rattle.latex2mathml.specs.Refusal.{Refusal, refusal_of}
-use Rattle.latex2mathml.specs.Rendering.{IsFormulaRefusal, IsRendering}
+use Rattle.latex2mathml_tokens.specs.Refusal.{Refusal, refusal_of}
+use Rattle.latex2mathml_formulas.specs.Rendering.{IsFormulaRefusal, IsRendering}
 use Rattle.latex2mathml.specs.Streams.{CanGoOn, Input, IsStopped, Output}
-use Rattle.latex2mathml.specs.declared.DisplayStyle.{DisplayStyle}
-use Rattle.latex2mathml.specs.declared.DisplayStyle.TheVariants as display
+use Rattle.latex2mathml_tokens.specs.declared.DisplayStyle.{DisplayStyle}
+use Rattle.latex2mathml_tokens.specs.declared.DisplayStyle.TheVariants as display
 use Rattle.latex2mathml.specs.declared.error.FileFault.{FileFault}
 use Rattle.latex2mathml.specs.declared.error.FileFault.TheVariants.{Read, NotText, Refused, Write}
 use Rattle.latex2mathml_app.specs.declared.job.Job.{Job}

@@ -1,8 +1,8 @@
 //! One run of the program, from its input to its output.
 ghost use Rattle.std.specs.Prelude.{◌≡◌, ℕ, List, IfErr, IfOk, IsFalse, IsTrue, string_bytes};
 ghost use Rattle.std.specs.Io.KnownBytes.{Consumes, IsAtEnd};
-ghost use Rattle.latex2mathml.specs.Refusal.{IfRefused};
-ghost use Rattle.latex2mathml.specs.Rendering.{IsFormulaRefusal};
+ghost use Rattle.latex2mathml_tokens.specs.Refusal.{IfRefused};
+ghost use Rattle.latex2mathml_formulas.specs.Rendering.{IsFormulaRefusal};
 ghost use Rattle.latex2mathml_app.specs.Run.{IsLine, IsMade, IsOutcome, IsReadFault, conversion_of, document_conversion, formula_conversion};
 
 use latex2mathml::{

@@ -24,6 +24,8 @@ mod hostile;
 #[cfg(test)]
 mod laws;
 #[cfg(test)]
+mod lexing;
+#[cfg(test)]
 mod markup;
 #[cfg(test)]
 mod nodes;

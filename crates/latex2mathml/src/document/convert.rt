@@ -2,19 +2,15 @@
 ghost use Rattle.std.specs.Prelude.{◌≡◌, ℕ, ◌++◌, List, IfOk, OnOk, string_bytes};
 ghost use Rattle.latex2mathml.specs.Pieces.{piece_of};
 ghost use Rattle.latex2mathml.specs.Documents.{IsAnswer, IsRefusal, PieceAnswer, PieceRefuses};
-ghost use Rattle.latex2mathml.specs.Refusal.{IfRefused};
-ghost use Rattle.latex2mathml.specs.Rendering.{IsFormulaRefusal, IsRendering};
+ghost use Rattle.latex2mathml_tokens.specs.Refusal.{IfRefused};
 
-use crate::DisplayStyle;
 use crate::document::{NoCut, Piece, Pieces, check_cut};
-use crate::error::LatexError;
-use crate::formula::append_math;
-use crate::parse::frames::Frames;
-use crate::parse::tokens::Tokens;
+use latex2mathml_formulas::append_formula;
+use latex2mathml_tokens::{DisplayStyle, LatexError};
 use std::alloc::Global;
 
 impl From<NoCut> for LatexError {
-    ghost use Rattle.latex2mathml.specs.declared.error.LatexError.TheVariants.{InvalidNumberOfDollarSigns};
+    ghost use Rattle.latex2mathml_tokens.specs.declared.error.LatexError.TheVariants.{InvalidNumberOfDollarSigns};
 
     ghost from_gives = { λ _ error. error ≡ InvalidNumberOfDollarSigns };
 
@@ -48,20 +44,4 @@ fn append_piece(alloc: Global, text: &mut String, piece: Piece<'_>) -> Result<()
         Piece::Display(body) => append_formula(alloc, text, body, DisplayStyle::Block)?,
     }
     Ok(())
-}
-
-/// Puts the markup of a formula behind the text.
-fn append_formula(
-    alloc: Global,
-    text: &mut String,
-    latex: &str,
-    display: DisplayStyle,
-) -> Result<(), LatexError>
-    ensures rendering { OnOk result ((markup : List ℕ) × IsRendering latex.now display markup
-        × (string_bytes text.new ≡ string_bytes text.old ++ markup)) }
-    ensures refusal { IfRefused result (IsFormulaRefusal latex.now) }
-{
-    let mut tokens = Tokens::new(latex);
-    let mut frames = Frames::new(alloc);
-    append_math(alloc, display, &mut tokens, &mut frames, text)
 }

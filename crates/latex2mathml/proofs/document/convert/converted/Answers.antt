@@ -1,7 +1,7 @@
 use Rattle.std.proofs.Common.{◌∷◌, [], ◌++◌}
 use Rattle.std.proofs.lemmas.Result.{err_from_is_err_and}
 use Rattle.latex2mathml.specs.Pieces.{piece_of}
-use Rattle.latex2mathml.specs.Refusal.{refusal_of}
+use Rattle.latex2mathml_tokens.specs.Refusal.{refusal_of}
 use Rattle.latex2mathml.proofs.Answering.{is_answer, no_cut_refused, one_more_answer, refused}
 use Rattle.latex2mathml.proofs.Cuts.{one_more_made, all_made}
 use Rattle.latex2mathml.proofs.document.convert.converted.Goals as goal

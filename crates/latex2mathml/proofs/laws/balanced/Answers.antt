@@ -1,6 +1,0 @@
-use Rattle.latex2mathml.specs.Tree.{tree}
-use Rattle.latex2mathml.proofs.Balance.{print_is_balanced}
-use Rattle.latex2mathml.proofs.laws.balanced.Goals as goal
-
-pub returns : goal.returns
-returns c = print_is_balanced (tree c.args.node.now)

@@ -1,0 +1,76 @@
+-- What a whole reading answers and counts, from what its parts do.
+use Rattle.std.proofs.Common.{◌≡◌, ℕ, ◌+◌, ◌*◌, ◌≤◌, true, false, List, [], ◌∷◌, ◌++◌, length, Option, Some, None, Result, Global, Ok, Err, refl, ap, ◌∙◌, arith}
+use Rattle.std.specs.Prelude.{IfOk, IfSome, OnOk, is_ok, string_bytes, String}
+use Rattle.std.proofs.lemmas.List.{length-map}
+use Rattle.std.specs.Str.{chars}
+use Rattle.latex2mathml_formulas.specs.Counts.{IsComparisonCount, IsTokenCount, backslashes}
+use Rattle.latex2mathml_formulas.specs.Cutting.{slices_of}
+use Rattle.latex2mathml_formulas.specs.Grammar.{Reading, Refuses}
+use Rattle.latex2mathml_formulas.specs.Openers.{IsFrameCount, OpensFor}
+use Rattle.latex2mathml_tokens.specs.Refusal.{IfRefused, Refusal, refusal_of}
+use Rattle.latex2mathml_formulas.specs.Rendering.{IsFormulaRefusal, IsRendering, math_print}
+use Rattle.latex2mathml_formulas.specs.Spelling.{HasTokens, Slice}
+use Rattle.latex2mathml_tokens.specs.Tok.{Tok}
+use Rattle.latex2mathml_nodes.specs.Tree.{Tree}
+use Rattle.latex2mathml_formulas.specs.Unread.{GoesOn, Left, Unread, left_of, token_list}
+use Rattle.latex2mathml_tokens.specs.declared.DisplayStyle.{DisplayStyle}
+use Rattle.latex2mathml_tokens.specs.declared.error.LatexError.{LatexError}
+use Rattle.latex2mathml_tokens.specs.declared.token.Token.{Token}
+use Rattle.latex2mathml_formulas.proofs.OneList.{cut}
+
+-- where no token is left, no slice with a backslash is
+pub no_backslashes : (next : Option Token) (unread : Unread) → (left_of next unread).list ≡ [] → (left_of next unread).backslashes ≡ 0
+no_backslashes (Some t) unread e = cc
+no_backslashes None unread e = none unread.slices e
+  where
+    none : (slices : List Slice) → token_list slices ≡ [] → backslashes slices ≡ 0
+    none [] e = refl
+    none (s ∷ ss) e = cc
+
+-- what is left of a whole text
+pub whole_list : (text : List ℕ) (l : List Tok) → l ≡ token_list (slices_of false text) → HasTokens None text l
+whole_list text l e = (slices_of false text, cut false text, e)
+
+pub token_count : {A E : Type 0} (text : List ℕ) (r : Result A E) (old new : Left) (n : ℕ) → old.list ≡ token_list (slices_of false text) → old.tokens ≡ 0 → GoesOn old new → OnOk r (new.list ≡ []) → new.tokens ≤ n → n ≤ new.tokens + length new.list → IsTokenCount text (is_ok r) n
+token_count {A} {E} text r old new n e none goes all low high =
+    let whole : length old.list ≡ length (slices_of false text) = ap length e ∙ length-map (slices_of false text) (λ s. s.token) in
+    (slices_of false text, cut false text, omega arith, exact r all)
+  where
+    exact : (r : Result A E) → OnOk r (new.list ≡ []) → is_ok r ≡ true → n ≡ length (slices_of false text)
+    exact (Ok x) all h = let whole : length old.list ≡ length (slices_of false text) = ap length e ∙ length-map (slices_of false text) (λ s. s.token) in omega (arith, ap length all)
+    exact (Err x) all h = cc
+
+pub comparison_count : {A E : Type 0} (text : List ℕ) (r : Result A E) (old new : Left) (n : ℕ) → old.backslashes ≡ backslashes (slices_of false text) → old.comparisons ≡ 0 → GoesOn old new → OnOk r (new.list ≡ []) → (new.list ≡ [] → new.backslashes ≡ 0) → new.comparisons ≤ n → n ≤ new.comparisons + 9 * new.backslashes → IsComparisonCount text (is_ok r) n
+comparison_count {A} {E} text r old new n e none goes all at_end low high = (slices_of false text, cut false text, omega arith, exact r all)
+  where
+    exact : (r : Result A E) → OnOk r (new.list ≡ []) → is_ok r ≡ true → backslashes (slices_of false text) ≤ n
+    exact (Ok x) all h = let gone = at_end all in omega arith
+    exact (Err x) all h = cc
+
+pub frame_count : (text : List ℕ) (old new : Left) (taken before n : ℕ) → old.list ≡ token_list (slices_of false text) → old.tokens ≡ 0 → before ≡ 0 → OpensFor old new before n → new.tokens ≤ taken → IsFrameCount text taken n
+frame_count text old new taken before n e none start opens low = (omega arith, (old.list, whole_list text old.list e, omega arith))
+
+rendering : (text : List ℕ) (display : DisplayStyle) (l : List Tok) (markup : List ℕ) (xs : List Tree) → l ≡ token_list (slices_of false (chars text)) → Reading l xs → markup ≡ math_print display xs → IsRendering text display markup
+unfolding IsRendering
+rendering text display l markup xs e d same = (l, whole_list (chars text) l e, (xs, d, same))
+
+refusal : (text : List ℕ) (l : List Tok) (q : Refusal) → l ≡ token_list (slices_of false (chars text)) → Refuses l q → IsFormulaRefusal text q
+unfolding IsFormulaRefusal
+refusal text l q e d = (l, whole_list (chars text) l e, d)
+
+pub rendered : (text : List ℕ) (display : DisplayStyle) (l : List Tok) (r : Result (String Global) LatexError) → l ≡ token_list (slices_of false (chars text)) → IfOk r (λ markup. (xs : List Tree) × Reading l xs × (string_bytes markup ≡ math_print display xs)) → IfOk r (λ markup. IsRendering text display (string_bytes markup))
+rendered text display l (Ok markup) e h = rendering text display l (string_bytes markup) h.0 e h.1 h.2
+rendered text display l (Err error) e h = tt
+
+-- the markup of a text's tokens behind what was there is that of the text
+pub appended : (text : List ℕ) (display : DisplayStyle) (l : List Tok) (old new : List ℕ) (r : Result Unit LatexError) → l ≡ token_list (slices_of false (chars text)) → OnOk r ((xs : List Tree) × Reading l xs × (new ≡ old ++ math_print display xs)) → OnOk r ((markup : List ℕ) × IsRendering text display markup × (new ≡ old ++ markup))
+appended text display l old new (Ok done) e h = (math_print display h.0, rendering text display l (math_print display h.0) h.0 e h.1 refl, h.2)
+appended text display l old new (Err error) e h = tt
+
+pub refused : {A : Type 0} (text : List ℕ) (l : List Tok) (r : Result A LatexError) → l ≡ token_list (slices_of false (chars text)) → IfRefused r (Refuses l) → IfRefused r (IsFormulaRefusal text)
+refused text l (Ok markup) e h = tt
+refused text l (Err error) e h = told (refusal_of error) h
+  where
+    told : (o : Option Refusal) → IfSome o (Refuses l) → IfSome o (IsFormulaRefusal text)
+    told None h = tt
+    told (Some q) h = refusal text l q e h

@@ -1,0 +1,93 @@
+-- The nodes of a formula, read and printed one after another.
+use Rattle.std.proofs.Common.{◌≡◌, ◌≢◌, ℕ, ◌<◌, Option, List, [], ◌∷◌, ◌++◌, length, Some, None, refl, sym, ap, subst, ◌∙◌, append_assoc, append-nil, arith}
+use Rattle.std.specs.Prelude.{MatchOption}
+use Rattle.latex2mathml_formulas.specs.Grammar.{node, Outcome, Read, Refused, Reads, ReadsAll, formula_ends, member_read, later_refused, member_refused, Reading, Refuses}
+use Rattle.latex2mathml_nodes.specs.Print.{print, prints}
+use Rattle.latex2mathml_tokens.specs.Refusal.{Refusal}
+use Rattle.latex2mathml_tokens.specs.Tok.{Tok}
+use Rattle.latex2mathml_nodes.specs.Tree.{Tree, tree, trees_of}
+use Rattle.latex2mathml_nodes.specs.declared.ast.Node.{Node}
+use Rattle.latex2mathml_formulas.proofs.Total.{some_taken}
+
+-- the outcome of a formula of which these trees were read first
+abbrev pub behind : List Tree → Outcome (List Tree) → Outcome (List Tree)
+behind xs (Read ys rest) = Read (xs ++ ys) rest
+behind xs (Refused r) = Refused r
+
+-- Nodes of the formula were read, down to the tokens that are left, and their prints stand behind what was there.
+pub record Appends (input place : List Tok) (old new : List ℕ) : Type 0 where
+  pub nodes : List Tree
+  -- whatever the tokens that are left come to, the formula comes to that behind the nodes
+  pub leads : (o : Outcome (List Tree)) → ReadsAll None place o → ReadsAll None input (behind nodes o)
+  pub text : new ≡ old ++ prints (trees_of nodes)
+
+pub no_nodes : (input : List Tok) (old new : List ℕ) → new ≡ old → Appends input input old new
+no_nodes input old new e = record {
+  nodes = [];
+  leads = unchanged;
+  text = e ∙ sym (append-nil old);
+}
+  where
+    unchanged : (o : Outcome (List Tree)) → ReadsAll None input o → ReadsAll None input (behind [] o)
+    unchanged (Read xs rest) d = d
+    unchanged (Refused r) d = d
+
+no_end : (t : Tok) → None ≢ Some t
+no_end t e = cc
+
+prints-push : (xs : List Tree) (x : Tree) → prints (trees_of (xs ++ x ∷ [])) ≡ prints (trees_of xs) ++ print x
+prints-push [] x = append-nil (print x)
+prints-push (y ∷ ys) x = ap (λ l. print y ++ l) (prints-push ys x) ∙ sym (append_assoc (print y) (prints (trees_of ys)) (print x))
+
+behind-push : (xs : List Tree) (x : Tree) (o : Outcome (List Tree)) → behind (xs ++ x ∷ []) o ≡ behind xs (behind (x ∷ []) o)
+behind-push xs x (Read ys rest) = ap (λ zs. Read zs rest) (append_assoc xs (x ∷ []) ys)
+behind-push xs x (Refused r) = refl
+
+one_read : (place to : List Tok) (x : Tree) (o : Outcome (List Tree)) → place ≢ [] → Reads node place (Read x to) → ReadsAll None to o → ReadsAll None place (behind (x ∷ []) o)
+one_read [] to x o some d ds = absurd (some refl)
+one_read (t ∷ ts) to x (Read xs rest) some d ds = member_read (no_end t) d ds
+one_read (t ∷ ts) to x (Refused r) some d ds = later_refused (no_end t) d ds
+
+-- one more node is read and printed
+pub one_node : (input place to : List Tok) (old new newer : List ℕ) (x : Tree) → place ≢ [] → Reads node place (Read x to) → newer ≡ new ++ print x → Appends input place old new → Appends input to old newer
+one_node input place to old new newer x some d e so_far = record {
+  nodes = so_far.nodes ++ x ∷ [];
+  leads = λ o ds. subst (ReadsAll None input) (sym (behind-push so_far.nodes x o)) (so_far.leads _ (one_read place to x o some d ds));
+  text = e ∙ ap (λ l. l ++ print x) so_far.text ∙ append_assoc old (prints (trees_of so_far.nodes)) (print x) ∙ ap (λ l. old ++ l) (sym (prints-push so_far.nodes x));
+}
+
+-- no token is left
+pub all_nodes : (input place : List Tok) (old new : List ℕ) → place ≡ [] → Appends input place old new → (xs : List Tree) × Reading input xs × (new ≡ old ++ prints (trees_of xs))
+unfolding Reading
+all_nodes input place old new e so_far =
+    let ends : ReadsAll None place (Read [] []) = subst (λ l. ReadsAll None l (Read [] [])) (sym e) formula_ends in
+    (so_far.nodes, subst (λ xs. ReadsAll None input (Read xs [])) (append-nil so_far.nodes) (so_far.leads _ ends), so_far.text)
+
+one_refused : (place : List Tok) (r : Refusal) → place ≢ [] → Reads node place (Refused r) → ReadsAll None place (Refused r)
+one_refused [] r some d = absurd (some refl)
+one_refused (t ∷ ts) r some d = member_refused (no_end t) d
+
+-- the next node refuses
+pub node_refused : (input place : List Tok) (old new : List ℕ) (r : Refusal) → (place ≢ []) × Reads node place (Refused r) → Appends input place old new → Refuses input r
+unfolding Refuses
+node_refused input place old new r d so_far = so_far.leads _ (one_refused place r d.0 d.1)
+
+-- a node takes a token
+pub node_shortens : (place to : List Tok) (x : Tree) → place ≢ [] → Reads node place (Read x to) → length to < length place
+node_shortens [] to x some d = absurd (some refl)
+node_shortens (t ∷ ts) to x some d = let fewer = some_taken node t ts to x d in omega arith
+
+-- the node that was found was read
+pub found_node : (found : Option Node) (x : Node) (place to : List Tok) → found ≡ Some x → MatchOption found ((place ≡ []) × (to ≡ [])) (λ y. (place ≢ []) × Reads node place (Read (tree y) to)) → (place ≢ []) × Reads node place (Read (tree x) to)
+found_node found x place to e h = subst (λ o. MatchOption o ((place ≡ []) × (to ≡ [])) (λ y. (place ≢ []) × Reads node place (Read (tree y) to))) e h
+
+-- no node was found
+pub no_node : (found : Option Node) (place to : List Tok) → found ≡ None → MatchOption found ((place ≡ []) × (to ≡ [])) (λ y. (place ≢ []) × Reads node place (Read (tree y) to)) → (place ≡ []) × (to ≡ [])
+no_node found place to e h = subst (λ o. MatchOption o ((place ≡ []) × (to ≡ [])) (λ y. (place ≢ []) × Reads node place (Read (tree y) to))) e h
+
+-- all nodes stand between what was written before them and what is written behind them
+pub finished : (input place : List Tok) (old new before after a c : List ℕ) → place ≡ [] → before ≡ old ++ a → Appends input place before after → new ≡ after ++ c → (xs : List Tree) × Reading input xs × (new ≡ old ++ (a ++ (prints (trees_of xs) ++ c)))
+finished input place old new before after a c e f so_far g =
+    let all = all_nodes input place before after e so_far in
+    let b = prints (trees_of all.0) in
+    (all.0, all.1, g ∙ ap (λ x. x ++ c) (all.2 ∙ ap (λ x. x ++ b) f) ∙ append_assoc (old ++ a) b c ∙ append_assoc old a (b ++ c))

@@ -1,0 +1,34 @@
+-- Counts that go on from step to step.
+use Rattle.std.proofs.Common.{◌≡◌, ℕ, ◌+◌, ◌≤◌, ◌∷◌, length, ap, ◌∙◌, arith}
+use Rattle.std.proofs.lemmas.List.Sums.{sum_by-cons}
+use Rattle.latex2mathml_formulas.specs.Openers.{OpensFor, openers, opens}
+use Rattle.latex2mathml_tokens.specs.Tok.{Tok, Number, Letter, Operator, Paren}
+use Rattle.latex2mathml_formulas.specs.Unread.{GoesOn, Left}
+
+-- a token opens one frame at most
+opens-≤ : (t : Tok) → opens t ≤ 1
+opens-≤ (Number digits) = omega arith
+opens-≤ (Letter c variant) = omega arith
+opens-≤ (Operator c) = omega arith
+opens-≤ (Paren text) = omega arith
+opens-≤ t = omega arith
+
+pub GoesOn-refl : (a : Left) → GoesOn a a
+GoesOn-refl a = record { tokens = omega arith; at_least = omega arith; at_most = omega arith }
+
+pub GoesOn-trans : (a b c : Left) → GoesOn a b → GoesOn b c → GoesOn a c
+GoesOn-trans a b c h i = record { tokens = omega arith; at_least = omega arith; at_most = omega arith }
+
+pub OpensFor-refl : (a : Left) (n : ℕ) → OpensFor a a n n
+OpensFor-refl a n = record { taken = omega arith; openers = omega arith }
+
+pub OpensFor-trans : (a b c : Left) (l m n : ℕ) → OpensFor a b l m → OpensFor b c m n → OpensFor a c l n
+OpensFor-trans a b c l m n h i = record { taken = omega arith; openers = omega arith }
+
+-- a token is taken, which may open a frame
+pub OpensFor-taken : (t : Tok) (a b c : Left) (m n : ℕ) → a.list ≡ t ∷ b.list → GoesOn a b → OpensFor b c (m + opens t) n → OpensFor a c m n
+OpensFor-taken t a b c m n stood counts h =
+    let shorter : length a.list ≡ 1 + length b.list = ap length stood ∙ omega arith in
+    let fewer : openers a.list ≡ opens t + openers b.list = ap openers stood ∙ sum_by-cons opens t b.list in
+    let one = opens-≤ t in
+    record { taken = omega arith; openers = omega arith }

@@ -1,0 +1,25 @@
+use Rattle.std.proofs.Common.{ap, refl}
+use Rattle.latex2mathml_formulas.specs.Frames.{inside, made, stands, whole}
+use Rattle.latex2mathml_formulas.specs.Grammar.{core, node, gives}
+use Rattle.latex2mathml_formulas.specs.Levels.{awaits_part}
+use Rattle.latex2mathml_nodes.specs.Tree.{root}
+use Rattle.latex2mathml_formulas.specs.declared.parse.frames.Frame.TheVariants.{One}
+use Rattle.latex2mathml_formulas.specs.declared.parse.operands.Unary.TheVariants.{Root}
+use Rattle.latex2mathml_formulas.proofs.Levels.{given}
+use Rattle.latex2mathml_formulas.proofs.Stacks.{group_closed, only_groups, part_awaited}
+use Rattle.latex2mathml_formulas.proofs.parse.close.Goals as goal
+
+pub unreachable-requires-in_default-frame : goal.unreachable-requires-in_default-frame
+unreachable-requires-in_default-frame c = only_groups _ _ c.in-Some.frame _ c.in-Some.ensures.stack c.requires.1 c.in_default-frame.not-Group c.in_default-frame.not-Degree
+
+pub returns-in-Group-clause-holds : goal.returns-in-Group-clause-holds
+returns-in-Group-clause-holds c = λ input end place d k.
+    given (inside (whole input) c.pop.new.self.stack.items) core _ _ place c.of_group.ensures
+    (group_closed (whole input) _ _ c.in-Some.frame _ _ _ _ _ place c.in-Some.ensures.stack (ap stands c.in-Group.is) (ap made c.in-Group.is) d k)
+
+pub returns-in-Degree-clause-holds : goal.returns-in-Degree-clause-holds
+returns-in-Degree-clause-holds c = λ input end place d k.
+    let l = inside (whole input) c.pop.new.self.stack.items in
+    c.put_back.ensures.holds input place
+    (part_awaited l (One (Root c.of_group-in-Degree.result)) _ core _ place (ap (λ t. awaits_part node (λ x. gives (root t x))) c.of_group-in-Degree.ensures) refl
+    (group_closed (whole input) _ _ c.in-Some.frame _ _ _ _ _ place c.in-Some.ensures.stack (ap stands c.in-Degree.is) (ap made c.in-Degree.is) d k))

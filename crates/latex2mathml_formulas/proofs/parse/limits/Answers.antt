@@ -1,0 +1,31 @@
+use Rattle.std.proofs.Common.{refl}
+use Rattle.latex2mathml_formulas.specs.Frames.{inside, whole}
+use Rattle.latex2mathml_formulas.specs.Grammar.{core}
+use Rattle.latex2mathml_formulas.specs.Levels.{Made}
+use Rattle.latex2mathml_formulas.specs.declared.parse.frames.Frame.TheVariants.{Single}
+use Rattle.latex2mathml_formulas.specs.declared.parse.frames.Sign.TheVariants.{Sub, Sup}
+use Rattle.latex2mathml_formulas.specs.declared.parse.operands.Pair.TheVariants.{Limits}
+use Rattle.latex2mathml_formulas.proofs.Levels.{given, signed, unsigned}
+use Rattle.latex2mathml_formulas.proofs.Signs.{sign_absent, sign_found}
+use Rattle.latex2mathml_formulas.proofs.Stacks.{part_awaited}
+use Rattle.latex2mathml_formulas.proofs.parse.limits.Goals as goal
+
+pub returns-then-branch-clause-holds : goal.returns-then-branch-clause-holds
+returns-then-branch-clause-holds c = λ input k.
+    let l = inside (whole input) c.args.frames.now.stack.items in
+    let stood = sign_found c.args.tokens.now.list _ _ _ _ refl c.if-branch.true c.in_ok-take_if.ensures.list in
+    c.open.ensures.holds input _ (part_awaited l (Single (Limits c.args.operator Sub)) _ core _ _ refl refl (signed _ _ _ (Made core l) _ _ stood k))
+
+pub returns-then-branch-2-clause-holds : goal.returns-then-branch-2-clause-holds
+returns-then-branch-2-clause-holds c = λ input k.
+    let l = inside (whole input) c.args.frames.now.stack.items in
+    let absent = sign_absent c.args.tokens.now.list _ _ _ _ refl c.if-branch.false c.in_ok-take_if.ensures.list in
+    let stood = sign_found c.take_if.new.self.list _ _ _ _ refl c.if-branch-2.true c.in_ok-take_if-2.ensures.list in
+    c.open-then-branch-2.ensures.holds input _ (part_awaited l (Single (Limits c.args.operator Sup)) _ core _ _ refl refl (signed _ _ _ (Made core l) _ _ stood (unsigned _ _ _ (Made core l) _ _ absent.0 absent.1 k)))
+
+pub returns-clause-holds : goal.returns-clause-holds
+returns-clause-holds c = λ input k.
+    let l = inside (whole input) c.args.frames.now.stack.items in
+    let first = sign_absent c.args.tokens.now.list _ _ _ _ refl c.if-branch.false c.in_ok-take_if.ensures.list in
+    let second = sign_absent c.take_if.new.self.list _ _ _ _ refl c.if-branch-2.false c.in_ok-take_if-2.ensures.list in
+    given l core _ _ _ c.bare.ensures (unsigned _ _ _ (Made core l) _ _ second.0 second.1 (unsigned _ _ _ (Made core l) _ _ first.0 first.1 k))

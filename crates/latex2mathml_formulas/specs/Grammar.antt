@@ -1,0 +1,262 @@
+-- The grammar: what a list of tokens is read as, or why it is refused. A table has a rule for each token that can begin
+-- a core; three small relations say how rules are read, and they are the same for every rule.
+use Rattle.std.specs.Prelude.{◌≡◌, ◌≢◌, ℕ, Bool, true, false, List, [], ◌∷◌, Option, Some, None, codes}
+use Rattle.std.specs.Str.{byte}
+use Rattle.latex2mathml_nodes.specs.Productions.{binomial_tree, overbraced, overbraced_with, underbraced, underbraced_with, grouped, prime_mark}
+use Rattle.latex2mathml_tokens.specs.Refusal.{Refusal, UnexpectedToken}
+use Rattle.latex2mathml_nodes.specs.Style.{styled}
+use Rattle.latex2mathml_tokens.specs.Tok.{Tok, EOF, Ampersand, Paren, LBrace, RBrace, NewLine, Frac, Underscore, Circumflex, Binom, Overset, Underset, Overbrace, Underbrace, Sqrt, Integral, Lim, Letter, Number, Operator, BigOp, Space, Style, Big, Over, Under, Function}
+use Rattle.latex2mathml_tokens.specs.TokenText.{token_text}
+use Rattle.latex2mathml_nodes.specs.Tree.{Tree, number, letter, operator, function, space, other_operator, subscript, superscript, sub_sup, over_op, under_op, overset, underset, under, under_over, root, sqrt, frac, sized_paren, ampersand, new_line, undefined, no_trees, trees_of, row}
+use Rattle.latex2mathml_tokens.specs.declared.attribute.LineThickness.TheVariants.{Medium}
+
+-- what a part of a rule may be: a core, a single, which is a core with what stands directly behind it, or a node, which
+-- is a single with its scripts
+pub data Sort : Type 0 where
+  core : Sort
+  single : Sort
+  node : Sort
+
+-- A rule: its parts from left to right, and at their end a tree or a refusal.
+pub data Rule : Type 0 where
+  -- nothing more is read, and this is the tree
+  gives : Tree → Rule
+  -- nothing more is read, and the formula is refused
+  refuses : Refusal → Rule
+  -- a core, a single or a node, and what follows it
+  reads_part : Sort → (Tree → Rule) → Rule
+  -- nodes side by side up to the end token, which is taken, and what follows it
+  reads_members : Tok → (List Tree → Rule) → Rule
+  -- where this sign stands next it is taken and the first rule follows, otherwise the second
+  reads_sign : Tok → Rule → Rule → Rule
+  -- one token is taken, whatever it is; it is EOF, and nothing is taken, where none is left
+  takes_token : (Tok → Rule) → Rule
+  -- the token that stands next is seen and stays; it is EOF where none is left
+  sees_token : (Tok → Rule) → Rule
+  -- the longest run of letters is taken, of any variant, and what follows has their characters
+  takes_letters : (List ℕ → Rule) → Rule
+
+-- the operands of roots, fractions, accents and styles
+abbrev pub operand : Sort
+operand = node
+
+-- a rule of one operand
+abbrev pub of_one : (Tree → Tree) → Rule
+of_one whole = reads_part operand (λ x. gives (whole x))
+
+-- a rule of two
+abbrev pub of_two : (Tree → Tree → Tree) → Rule
+of_two whole = reads_part operand (λ x. of_one (whole x))
+
+-- what follows the degree of a root
+abbrev pub of_degree : List Tree → Rule
+of_degree xs = of_one (root (grouped xs))
+
+-- a root, whose degree stands in square brackets
+abbrev pub a_root : Rule
+a_root = reads_sign (Paren (codes "[")) (reads_members (Paren (codes "]")) of_degree) (of_one sqrt)
+
+-- what follows a single that is one or, where this sign stands next, the first of two
+abbrev pub with_second : Tok → (Tree → Tree) → (Tree → Tree → Tree) → Tree → Rule
+with_second sign one two x = reads_sign sign (reads_part single (λ y. gives (two x y))) (gives (one x))
+
+-- an operator with its limits, in either order: the trees without them, with the one below, with the one above, and
+-- with both
+abbrev pub limits : Tree → (Tree → Tree) → (Tree → Tree) → (Tree → Tree → Tree) → Rule
+limits bare below above both =
+    reads_sign Underscore (reads_part single (with_second Circumflex below both))
+    (reads_sign Circumflex (reads_part single (with_second Underscore above (λ y x. both x y))) (gives bare))
+
+-- the name of a function with a limit under it
+abbrev pub with_limit : List ℕ → Rule
+with_limit name = reads_part single (λ x. gives (under (function name) x))
+
+-- a parenthesis of this size
+abbrev pub sized : List ℕ → Tok → Rule
+sized size (Paren text) = gives (sized_paren size text)
+sized size t = refuses (UnexpectedToken (Paren []) t)
+
+-- the rule of a token that stands where a core begins
+abbrev pub rule : Tok → Rule
+rule (Number digits) = gives (number digits)
+rule (Letter c variant) = gives (letter c variant)
+rule (Operator c) = gives (operator c)
+rule (Paren text) = gives (other_operator text)
+rule Ampersand = gives ampersand
+rule (Space width) = gives (space width)
+rule (Function name) = gives (function name)
+rule NewLine = gives new_line
+rule LBrace = reads_members RBrace (λ xs. gives (grouped xs))
+rule Sqrt = a_root
+rule Frac = of_two (λ x y. frac x y Medium)
+rule (Binom display) = of_two (binomial_tree display)
+rule (Over c accent) = of_one (over_op c accent)
+rule (Under c accent) = of_one (under_op c accent)
+rule Overset = of_two overset
+rule Underset = of_two underset
+rule (Overbrace c) = reads_part single (with_second Circumflex (overbraced c) (λ x y. overbraced_with c y x))
+rule (Underbrace c) = reads_part single (with_second Underscore (underbraced c) (λ x y. underbraced_with c y x))
+rule (BigOp c) = limits (operator c) (under (operator c)) (λ y. overset y (operator c)) (under_over (operator c))
+rule (Integral c) = limits (operator c) (subscript (operator c)) (superscript (operator c)) (sub_sup (operator c))
+rule (Lim name) = reads_sign Underscore (with_limit name) (gives (function name))
+rule (Style variant) = of_one (styled variant)
+rule (Big size) = takes_token (sized size)
+rule t = gives (undefined (token_text t))
+
+-- a rule without parts: it gives its tree at once
+abbrev pub is_plain : Rule → Bool
+is_plain (gives x) = true
+is_plain r = false
+
+-- the prime
+abbrev pub prime : Tok
+prime = Operator (byte "'")
+
+-- what follows the core of a single: one prime, if it stands next
+abbrev pub primed : Tree → Rule
+primed x = reads_sign prime (gives (superscript x prime_mark)) (gives x)
+
+-- what follows the single of a node: a sign and a node, if a sign stands next. So scripts bind to the right.
+abbrev pub scripted : Tree → Rule
+scripted x =
+    reads_sign Underscore (reads_part node (λ sub. gives (subscript x sub)))
+    (reads_sign Circumflex (reads_part node (λ sup. gives (superscript x sup))) (gives x))
+
+-- what was read, with the tokens that are left, or the refusal
+pub data Outcome (A : Type 0) : Type 0 where
+  Read : A → List Tok → Outcome A
+  Refused : Refusal → Outcome A
+
+-- the token that stands next, where there is one
+abbrev pub first : List Tok → Option Tok
+first [] = None
+first (t ∷ ts) = Some t
+
+-- the same, where the end counts as EOF
+abbrev pub first_or_end : List Tok → Tok
+first_or_end [] = EOF
+first_or_end (t ∷ ts) = t
+
+-- the character of a letter, whatever its variant
+abbrev pub letter_of : Tok → Option ℕ
+letter_of (Letter c variant) = Some c
+letter_of t = None
+
+-- the character of the letter that stands next, where a letter does
+abbrev pub first_letter : List Tok → Option ℕ
+first_letter [] = None
+first_letter (t ∷ ts) = letter_of t
+
+-- the tokens begin with letters of these characters, and no letter stands behind them
+abbrev pub AreLetters : List ℕ → List Tok → List Tok → Type 0
+AreLetters [] l rest = (l ≡ rest) × (first_letter rest ≡ None)
+AreLetters (c ∷ cs) l rest = (t : Tok) × ((m : List Tok) × (l ≡ t ∷ m) × (letter_of t ≡ Some c) × AreLetters cs m rest)
+
+mutual
+  -- what a core, a single or a node at the front of the tokens comes to
+  pub data Reads : Sort → List Tok → Outcome Tree → Type 0 where
+    -- where no token is left, a core is the end, marked as an error
+    core_at_end : Reads core [] (Read (undefined (token_text EOF)) [])
+    -- a core is a token, and what its rule asks for
+    core_begun : {t : Tok} {l : List Tok} {o : Outcome Tree}
+        → ReadsRule (rule t) l o
+        → Reads core (t ∷ l) o
+    -- a single is a core, and what may follow it
+    single_read : {l : List Tok} {o : Outcome Tree}
+        → ReadsRule (reads_part core primed) l o
+        → Reads single l o
+    -- a node is a single, and what may follow it
+    node_read : {l : List Tok} {o : Outcome Tree}
+        → ReadsRule (reads_part single scripted) l o
+        → Reads node l o
+
+  -- what the parts of a rule come to
+  pub data ReadsRule : Rule → List Tok → Outcome Tree → Type 0 where
+    -- nothing more is read
+    rule_gives : {x : Tree} {l : List Tok}
+        → ReadsRule (gives x) l (Read x l)
+    -- the formula is refused here
+    rule_refuses : {r : Refusal} {l : List Tok}
+        → ReadsRule (refuses r) l (Refused r)
+    -- the part is read, and what follows it stands behind
+    part_read : {s : Sort} {then : Tree → Rule} {l m : List Tok} {x : Tree} {o : Outcome Tree}
+        → Reads s l (Read x m)
+        → ReadsRule (then x) m o
+        → ReadsRule (reads_part s then) l o
+    -- the part refuses
+    part_refused : {s : Sort} {then : Tree → Rule} {l : List Tok} {r : Refusal}
+        → Reads s l (Refused r)
+        → ReadsRule (reads_part s then) l (Refused r)
+    -- the members are read up to the end token, and what follows them stands behind
+    members_read : {end : Tok} {then : List Tree → Rule} {l m : List Tok} {xs : List Tree} {o : Outcome Tree}
+        → ReadsAll (Some end) l (Read xs m)
+        → ReadsRule (then xs) m o
+        → ReadsRule (reads_members end then) l o
+    -- the members refuse
+    members_refused : {end : Tok} {then : List Tree → Rule} {l : List Tok} {r : Refusal}
+        → ReadsAll (Some end) l (Refused r)
+        → ReadsRule (reads_members end then) l (Refused r)
+    -- the sign stands next, and the first rule goes on behind it
+    sign_stands : {t : Tok} {a b : Rule} {l m : List Tok} {o : Outcome Tree}
+        → l ≡ t ∷ m
+        → ReadsRule a m o
+        → ReadsRule (reads_sign t a b) l o
+    -- the sign does not stand next, and the second rule goes on
+    sign_missing : {t : Tok} {a b : Rule} {l : List Tok} {o : Outcome Tree}
+        → first l ≢ Some t
+        → ReadsRule b l o
+        → ReadsRule (reads_sign t a b) l o
+    -- a token is taken
+    token_taken : {then : Tok → Rule} {t : Tok} {l : List Tok} {o : Outcome Tree}
+        → ReadsRule (then t) l o
+        → ReadsRule (takes_token then) (t ∷ l) o
+    -- no token is left, and none is taken
+    token_at_end : {then : Tok → Rule} {o : Outcome Tree}
+        → ReadsRule (then EOF) [] o
+        → ReadsRule (takes_token then) [] o
+    -- the token that stands next is seen, and stays
+    token_seen : {then : Tok → Rule} {l : List Tok} {o : Outcome Tree}
+        → ReadsRule (then (first_or_end l)) l o
+        → ReadsRule (sees_token then) l o
+    -- the longest run of letters is taken
+    letters_taken : (cs : List ℕ) {then : List ℕ → Rule} {l m : List Tok} {o : Outcome Tree}
+        → AreLetters cs l m
+        → ReadsRule (then cs) m o
+        → ReadsRule (takes_letters then) l o
+
+  -- what nodes side by side come to: up to an end token, or, where there is none, up to the end of the formula
+  pub data ReadsAll : Option Tok → List Tok → Outcome (List Tree) → Type 0 where
+    -- a formula ends where no token is left
+    formula_ends : ReadsAll None [] (Read [] [])
+    -- a group ends at its end token, which is taken
+    group_ends : {end : Tok} {l m : List Tok}
+        → l ≡ end ∷ m
+        → ReadsAll (Some end) l (Read [] m)
+    -- a group that is open where no token is left
+    never_closed : {end : Tok}
+        → ReadsAll (Some end) [] (Refused (UnexpectedToken end EOF))
+    -- a member, which does not begin with the end token, and the members behind it
+    member_read : {end : Option Tok} {t : Tok} {l m rest : List Tok} {x : Tree} {xs : List Tree}
+        → end ≢ Some t
+        → Reads node (t ∷ l) (Read x m)
+        → ReadsAll end m (Read xs rest)
+        → ReadsAll end (t ∷ l) (Read (x ∷ xs) rest)
+    -- a member is read, and those behind it refuse
+    later_refused : {end : Option Tok} {t : Tok} {l m : List Tok} {x : Tree} {r : Refusal}
+        → end ≢ Some t
+        → Reads node (t ∷ l) (Read x m)
+        → ReadsAll end m (Refused r)
+        → ReadsAll end (t ∷ l) (Refused r)
+    -- a member refuses
+    member_refused : {end : Option Tok} {t : Tok} {l : List Tok} {r : Refusal}
+        → end ≢ Some t
+        → Reads node (t ∷ l) (Refused r)
+        → ReadsAll end (t ∷ l) (Refused r)
+
+-- the trees are a reading of the formula
+unfoldable pub Reading : List Tok → List Tree → Type 0
+Reading l xs = ReadsAll None l (Read xs [])
+
+-- the formula is refused
+unfoldable pub Refuses : List Tok → Refusal → Type 0
+Refuses l r = ReadsAll None l (Refused r)

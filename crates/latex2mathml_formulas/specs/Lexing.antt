@@ -1,0 +1,32 @@
+-- What the lexer's functions answer, in the words of the spelling.
+use Rattle.std.specs.Prelude.{◌≡◌, ℕ, ◌*◌, ◌≤◌, Bool, List, ◌++◌}
+use Rattle.std.specs.Char.{is_ascii_digit, is_ascii_alphabetic}
+use Rattle.std.specs.List.{AllPass}
+use Rattle.latex2mathml_formulas.specs.Characters.{Stops, head, is_space}
+use Rattle.latex2mathml_formulas.specs.Counts.{backslash_count}
+use Rattle.latex2mathml_formulas.specs.Cutting.{slice}
+use Rattle.latex2mathml_formulas.specs.Spelling.{SpellsAt, IsStep}
+use Rattle.latex2mathml_tokens.specs.Tok.{Tok}
+use Rattle.latex2mathml_formulas.specs.declared.lexer.characters.Class.{Class}
+use Rattle.latex2mathml_formulas.specs.declared.lexer.characters.Class.TheVariants.{Space, Digit, Letter}
+
+-- the test of a class of characters
+abbrev pub in_class : Class → ℕ → Bool
+in_class Space c = is_space c
+in_class Digit c = is_ascii_digit c
+in_class Letter c = is_ascii_alphabetic c
+
+-- the text is front and back, and front is the longest run of characters that pass the test
+abbrev pub IsLongestRun : (ℕ → Bool) → List ℕ → List ℕ → List ℕ → Type 0
+IsLongestRun p text front back = (text ≡ front ++ back) × AllPass p front × Stops p (head back)
+
+-- the text is a slice that spells t, and then the rest
+abbrev pub BeginsWith : Bool → List ℕ → Tok → List ℕ → Type 0
+BeginsWith alone text t rest = (w : List ℕ) × (text ≡ w ++ rest) × SpellsAt alone w (head rest) t
+
+-- the text is white space, a slice that spells t and for which n names were compared, and then the rest
+pub record IsRead (takes : Bool) (text : List ℕ) (t : Tok) (n : ℕ) (rest : List ℕ) : Type 0 where
+  pub text_of : List ℕ
+  pub step : IsStep takes text (slice text_of t) rest
+  pub at_least : backslash_count text_of ≤ n
+  pub at_most : n ≤ 9 * backslash_count text_of

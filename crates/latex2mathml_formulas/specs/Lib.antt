@@ -1,0 +1,16 @@
+pub mod Characters
+pub mod Counts
+pub mod Cutting
+pub mod Frames
+pub mod Grammar
+pub mod Laws
+pub mod Levels
+pub mod Lexing
+pub mod Marks
+pub mod Openers
+pub mod Rendering
+pub mod SliceRefusals
+pub mod Slices
+pub mod Spelling
+pub mod TokenLists
+pub mod Unread

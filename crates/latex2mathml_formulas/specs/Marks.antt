@@ -1,0 +1,26 @@
+-- What stands next in a list of tokens: the marks that go on with what was read.
+use Rattle.std.specs.Prelude.{◌≡◌, ◌≢◌, List, [], ◌∷◌, Option, Some, None}
+use Rattle.latex2mathml_formulas.specs.Grammar.{prime}
+use Rattle.latex2mathml_tokens.specs.Tok.{Tok, Underscore, Circumflex}
+use Rattle.latex2mathml_formulas.specs.declared.parse.frames.Mark.{Mark}
+use Rattle.latex2mathml_formulas.specs.declared.parse.frames.Mark.TheVariants.{Prime, Script}
+use Rattle.latex2mathml_formulas.specs.declared.parse.frames.Sign.{Sign}
+use Rattle.latex2mathml_formulas.specs.declared.parse.frames.Sign.TheVariants.{Sub, Sup}
+
+-- the tokens behind the first
+abbrev pub rest_of : List Tok → List Tok
+rest_of [] = []
+rest_of (t ∷ ts) = ts
+
+abbrev pub sign_token : Sign → Tok
+sign_token Sub = Underscore
+sign_token Sup = Circumflex
+
+abbrev pub mark_token : Mark → Tok
+mark_token Prime = prime
+mark_token (Script sign) = sign_token sign
+
+-- the token that stands next, where there is one, is this mark, or no mark
+abbrev pub MarkStands : Option Mark → Option Tok → Type 0
+MarkStands (Some mark) t = t ≡ Some (mark_token mark)
+MarkStands None t = (t ≢ Some prime) × (t ≢ Some Underscore) × (t ≢ Some Circumflex)

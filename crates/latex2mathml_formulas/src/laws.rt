@@ -1,0 +1,56 @@
+//! Laws of texts, of the grammar, and of renderings.
+ghost use Rattle.std.specs.Prelude.{ℕ, List, map};
+ghost use Rattle.std.specs.Str.{chars};
+ghost use Rattle.latex2mathml_formulas.specs.Laws.{HasOneReading, IsReadBySlices, IsRefusedBySlices, IsSliced};
+ghost use Rattle.latex2mathml_nodes.specs.MathSchema.{IsMathElement};
+ghost use Rattle.latex2mathml_formulas.specs.Rendering.{IsRendering};
+ghost use Rattle.latex2mathml_tokens.specs.Tok.{tok};
+ghost use Rattle.latex2mathml_formulas.specs.TokenLists.{HasOneTokenList, TextHasOneReading};
+
+use latex2mathml_tokens::DisplayStyle;
+use latex2mathml_tokens::token::Token;
+
+/// A text has exactly one token list.
+pub fn one_token_list(text: &str)
+    ensures { HasOneTokenList (chars text.now) }
+{
+    let _ = text;
+}
+
+/// A text has exactly one token list, and that has exactly one reading or exactly one refusal.
+pub fn one_reading(text: &str)
+    ensures { TextHasOneReading (chars text.now) }
+{
+    let _ = text;
+}
+
+/// Tokens have exactly one reading or exactly one refusal.
+pub fn one_reading_of(tokens: &[Token])
+    ensures { HasOneReading (map tok tokens.now) }
+{
+    let _ = tokens;
+}
+
+/// What is read is a slice of the tokens, and the rest stands behind it. The slice is empty only where nothing is left.
+pub fn sliced()
+    ensures { IsSliced }
+{}
+
+/// A slice is a core, a single, a node, the parts of a rule or the members of a group exactly where the rules read it and
+/// leave what stands behind it; and tokens are nodes side by side exactly where those are a reading of the formula.
+pub fn read_by_slices()
+    ensures { IsReadBySlices }
+{}
+
+/// Tokens are refused exactly where the grammar over slices refuses them: behind parts that are slices.
+pub fn refused_by_slices()
+    ensures { IsRefusedBySlices }
+{}
+
+/// Each rendering of a text is one `math` element that obeys the child table.
+pub fn rendering(text: &str, display: DisplayStyle)
+    ensures { (markup : List ℕ) → IsRendering text.now display markup → IsMathElement markup }
+{
+    let _ = text;
+    let _ = display;
+}

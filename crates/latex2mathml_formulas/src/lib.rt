@@ -1,0 +1,84 @@
+//! One formula, from its text to its markup.
+//!
+//! The crate `latex2mathml` hands on what its callers need of this one.
+#![tactic(auto)]
+
+ghost use Rattle.std.specs.Prelude.{IfOk, is_ok, string_bytes};
+ghost use Rattle.std.specs.Str.{chars};
+ghost use Rattle.latex2mathml_formulas.specs.Counts.{IsComparisonCount, IsTokenCount};
+ghost use Rattle.latex2mathml_nodes.specs.MathSchema.{IsMathElement};
+ghost use Rattle.latex2mathml_formulas.specs.Openers.{IsFrameCount};
+ghost use Rattle.latex2mathml_tokens.specs.Refusal.{IfRefused};
+ghost use Rattle.latex2mathml_formulas.specs.Rendering.{IsRendering, IsFormulaRefusal};
+
+mod formula;
+pub mod laws;
+pub mod lexer;
+mod parse;
+
+pub use formula::append_formula;
+use latex2mathml_tokens::{DisplayStyle, LatexError};
+use parse::frames::Frames;
+use parse::tokens::Tokens;
+use std::alloc::Global;
+
+/// The `math` element of a formula.
+///
+/// A character or a command that has no meaning is no refusal: it stands in the markup as
+/// `<mtext>[PARSE ERROR: ..]</mtext>`. [`LatexError::UnexpectedToken`] comes where a group is open at the end of the
+/// text, and [`LatexError::OutOfMemory`] where an allocation was refused. An `Err` leaves nothing behind.
+///
+/// Reading and printing recurse as deep as braces and scripts stand one in the other, so the machine's stack bounds the
+/// nesting.
+///
+/// `x<y`, inline, is `<math xmlns="http://www.w3.org/1998/Math/MathML" display="inline"><mi>x</mi><mo>&lt;</mo><mi>y</mi></math>`.
+pub fn latex_to_mathml(
+    alloc: Global,
+    latex: &str,
+    display: DisplayStyle,
+) -> Result<String, LatexError>
+    ensures rendering { IfOk result (λ markup.
+        IsRendering latex.now display (string_bytes markup)) }
+    ensures element { IfOk result (λ markup. IsMathElement (string_bytes markup)) }
+    ensures refusal { IfRefused result (IsFormulaRefusal latex.now) }
+{
+    let (result, _) = latex_to_mathml_counted(alloc, latex, display);
+    result
+}
+
+/// How many steps a reading took.
+#[derive(Debug, Clone, Copy, PartialEq, Eq)]
+pub struct Steps {
+    /// How many tokens were taken from the text.
+    pub tokens: u128,
+    /// How many names of the command table were compared with a command's name.
+    pub comparisons: u128,
+    /// The greatest number of frames that the parser's stack held at once.
+    pub frames: u128,
+}
+
+/// The `math` element of a formula, as [`latex_to_mathml`] answers it, and how many steps the reading took.
+pub fn latex_to_mathml_counted(
+    alloc: Global,
+    latex: &str,
+    display: DisplayStyle,
+) -> (Result<String, LatexError>, Steps)
+    ensures rendering { IfOk result.0 (λ markup.
+        IsRendering latex.now display (string_bytes markup)) }
+    ensures element { IfOk result.0 (λ markup. IsMathElement (string_bytes markup)) }
+    ensures refusal { IfRefused result.0 (IsFormulaRefusal latex.now) }
+    ensures tokens { IsTokenCount (chars latex.now) (is_ok result.0) result.1.tokens }
+    ensures comparisons { IsComparisonCount (chars latex.now) (is_ok result.0)
+        result.1.comparisons }
+    ensures frames { IsFrameCount (chars latex.now) result.1.tokens result.1.frames }
+{
+    let mut tokens = Tokens::new(latex);
+    let mut frames = Frames::new(alloc);
+    let result = formula::math(alloc, display, &mut tokens, &mut frames);
+    let steps = Steps {
+        tokens: tokens.tokens(),
+        comparisons: tokens.comparisons(),
+        frames: frames.greatest,
+    };
+    (result, steps)
+}

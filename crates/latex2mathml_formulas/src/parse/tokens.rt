@@ -1,0 +1,185 @@
+//! The tokens of a text, one ahead.
+ghost use Rattle.std.specs.Prelude.{◌≡◌, ◌≢◌, ◌+◌, ◌*◌, ◌≤◌, ◌∷◌, [], true, false, Some, IfOk, IfSome, MatchBool, MatchOption, OnErr, OnOk, length};
+ghost use Rattle.std.specs.Str.{chars};
+ghost use Rattle.latex2mathml_formulas.specs.Counts.{backslashes};
+ghost use Rattle.latex2mathml_formulas.specs.Cutting.{slices_of};
+ghost use Rattle.latex2mathml_formulas.specs.Grammar.{first, first_or_end};
+ghost use Rattle.latex2mathml_formulas.specs.Marks.{MarkStands, rest_of};
+ghost use Rattle.latex2mathml_tokens.specs.Tok.{tok};
+ghost use Rattle.latex2mathml_formulas.specs.Unread.{GoesOn, token_list};
+
+use crate::lexer::Lexer;
+use crate::parse::frames::{Mark, Sign};
+use latex2mathml_tokens::token::Token;
+use std::alloc::{AllocError, Global};
+use std::marker::Model;
+
+/// The tokens that are left of a text, of which the next may have been looked at. Contracts see their list, and the
+/// counts that go with it.
+#[derive(Drop)]
+pub(crate) struct Tokens<'a> {
+    next: Option<Token>,
+    lexer: Lexer<'a>,
+}
+
+impl<'a> Model for Tokens<'a> {
+    ghost use Rattle.std.specs.Prelude.{◌≤◌};
+    ghost use Rattle.latex2mathml_formulas.specs.Unread.{Left};
+
+    ghost Value = { Left };
+
+    ghost use Rattle.latex2mathml_formulas.specs.Unread.{left_of, ahead};
+
+    ghost view = { λ t. left_of t.next t.lexer };
+
+    ghost invariant = { λ t. ahead t.next ≤ t.lexer.tokens };
+}
+
+impl<'a> Tokens<'a> {
+    /// All tokens of a text.
+    pub(crate) fn new(text: &'a str) -> Tokens<'a>
+        ensures list { result.list ≡ token_list (slices_of false (chars text.now)) }
+        ensures tokens { result.tokens ≡ 0 }
+        ensures backslashes { result.backslashes ≡ backslashes (slices_of false (chars text.now)) }
+        ensures comparisons { result.comparisons ≡ 0 }
+    {
+        Tokens {
+            next: None,
+            lexer: Lexer::new(text),
+        }
+    }
+
+    /// Looks at the next token, and answers whether there is one. It is left where it is.
+    pub(crate) fn look(&mut self, alloc: Global) -> Result<bool, AllocError>
+        ensures list { self.new.list ≡ self.old.list }
+        ensures looked { IfOk result (λ found.
+            MatchBool found ((self.new.looked ≡ true) × (self.new.list ≢ [])) (self.new.list ≡ [])) }
+        ensures counts { GoesOn self.old self.new }
+    {
+        if self.next.is_none() {
+            self.next = self.lexer.next(alloc)?;
+        }
+        Ok(self.next.is_some())
+    }
+
+    /// The next token, where it was looked at.
+    pub(crate) fn ahead(&self) -> Option<&Token>
+        ensures { MatchOption result (self.now.looked ≡ false)
+            (λ token. first self.now.list ≡ Some (tok token.now)) }
+    {
+        self.next.as_ref()
+    }
+
+    /// Takes the next token, where one is left.
+    pub(crate) fn take(&mut self, alloc: Global) -> Result<Option<Token>, AllocError>
+        ensures list { IfOk result (λ found. MatchOption found
+            ((self.old.list ≡ []) × (self.new.list ≡ []))
+            (λ token. self.old.list ≡ tok token ∷ self.new.list)) }
+        ensures kept { OnErr result (self.new.list ≡ self.old.list) }
+        ensures counts { GoesOn self.old self.new }
+    {
+        match self.next.take() {
+            Some(token) => Ok(Some(token)),
+            None => self.lexer.next(alloc),
+        }
+    }
+
+    /// Takes the next token, or gives `EOF` where none is left.
+    pub(crate) fn take_or_end(&mut self, alloc: Global) -> Result<Token, AllocError>
+        ensures token { IfOk result (λ token. tok token ≡ first_or_end self.old.list) }
+        ensures list { OnOk result (self.new.list ≡ rest_of self.old.list) }
+        ensures kept { OnErr result (self.new.list ≡ self.old.list) }
+        ensures counts { GoesOn self.old self.new }
+    {
+        let Some(token) = self.take(alloc)? else {
+            return Ok(Token::EOF);
+        };
+        Ok(token)
+    }
+
+    /// Takes the next token, where it is this one, and answers whether it was.
+    pub(crate) fn take_if(&mut self, alloc: Global, sign: &Token) -> Result<bool, AllocError>
+        ensures list { IfOk result (λ stood. MatchBool stood
+            (self.old.list ≡ tok sign.now ∷ self.new.list)
+            ((first self.old.list ≢ Some (tok sign.now)) × (self.new.list ≡ self.old.list))) }
+        ensures kept { OnErr result (self.new.list ≡ self.old.list) }
+        ensures counts { GoesOn self.old self.new }
+    {
+        self.look(alloc)?;
+        let stands = match self.ahead() {
+            Some(next) => next == sign,
+            None => false,
+        };
+        if stands {
+            let _ = self.next.take();
+        }
+        Ok(stands)
+    }
+
+    /// Passes over the next token, where one is left.
+    pub(crate) fn skip(&mut self, alloc: Global) -> Result<(), AllocError>
+        ensures list { OnOk result (self.new.list ≡ rest_of self.old.list) }
+        ensures kept { OnErr result (self.new.list ≡ self.old.list) }
+        ensures counts { GoesOn self.old self.new }
+    {
+        let _ = self.take(alloc)?;
+        Ok(())
+    }
+
+    /// The mark that stands next, where one does. It is left where it is.
+    pub(crate) fn mark(&mut self, alloc: Global) -> Result<Option<Mark>, AllocError>
+        ensures mark { IfOk result (λ mark. MarkStands mark (first self.old.list)) }
+        ensures list { self.new.list ≡ self.old.list }
+        ensures counts { GoesOn self.old self.new }
+    {
+        if !self.look(alloc)? {
+            return Ok(None);
+        }
+        match self.ahead() {
+            Some(token) => Ok(mark_of(token)),
+            None => Ok(None),
+        }
+    }
+
+    /// Whether no token is left.
+    pub(crate) fn is_at_end(&mut self, alloc: Global) -> Result<bool, AllocError>
+        ensures list { self.new.list ≡ self.old.list }
+        ensures end { IfOk result (λ ended.
+            MatchBool ended (self.new.list ≡ []) (self.new.list ≢ [])) }
+        ensures counts { GoesOn self.old self.new }
+    {
+        let found = self.look(alloc)?;
+        Ok(!found)
+    }
+
+    /// How many tokens were taken from the text, with the one that was looked at.
+    pub(crate) fn tokens(&self) -> u128
+        ensures at_least { self.now.tokens ≤ result }
+        ensures at_most { result ≤ self.now.tokens + length self.now.list }
+    {
+        self.lexer.tokens()
+    }
+
+    /// How many names were compared, also for a token that no memory was found for.
+    #[tactic(auto, using(crate::proofs::Accounts::no_backslashes))]
+    pub(crate) fn comparisons(&self) -> u128
+        ensures fewer { self.now.backslashes ≤ length self.now.list }
+        ensures at_least { self.now.comparisons ≤ result }
+        ensures at_most { result ≤ self.now.comparisons + 9 * self.now.backslashes }
+        ensures at_end { self.now.list ≡ [] → self.now.backslashes ≡ 0 }
+    {
+        self.lexer.comparisons()
+    }
+}
+
+/// The mark that a token is.
+fn mark_of(token: &Token) -> Option<Mark>
+    ensures { MarkStands result (Some (tok token.now)) }
+{
+    match token {
+        Token::Operator('\'') => Some(Mark::Prime),
+        Token::Underscore => Some(Mark::Script(Sign::Sub)),
+        Token::Circumflex => Some(Mark::Script(Sign::Sup)),
+        _ => None,
+    }
+}

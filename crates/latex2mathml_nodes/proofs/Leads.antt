@@ -1,0 +1,184 @@
+-- Runs through markup: one after the other, of single pieces, of texts and of attributes. Each leads from any levels, so
+-- that what stands around the bytes does not matter.
+use Rattle.std.proofs.Common.{◌≡◌, ℕ, Bool, true, false, ◌&&◌, ◌==◌, IsTrue, List, [], ◌∷◌, ◌++◌, Option, Some, None, option_and_then, refl, sym, ap, ◌∙◌, append_assoc, append-nil, map, codes, cond}
+use Rattle.std.specs.List.{flat_map, list_all}
+use Rattle.std.proofs.lemmas.Grind.{flat_map-append}
+use Rattle.std.proofs.lemmas.List.Folds.{list_all-append}
+use Rattle.latex2mathml_tokens.specs.Escape.{content, content_byte, value, value_byte}
+use Rattle.latex2mathml_nodes.specs.Markup.{Name, named, Part, refers, plain, attribute, Piece, open_tag, close_tag, empty_tag, reference, data_byte, Levels, lowest, above, add, mark, Schema, step, run, Leads, spell, spell_part, spell_piece, is_part, is_piece}
+
+run-append_at : (schema : Schema) (ps qs : List Piece) (o : Option Levels) → ((s : Levels) → run schema (ps ++ qs) s ≡ option_and_then (run schema qs) (run schema ps s)) → option_and_then (run schema (ps ++ qs)) o ≡ option_and_then (run schema qs) (option_and_then (run schema ps) o)
+run-append_at schema ps qs None h = refl
+run-append_at schema ps qs (Some s) h = h s
+
+-- the run of pieces and then of others
+run-append : (schema : Schema) (ps qs : List Piece) (s : Levels) → run schema (ps ++ qs) s ≡ option_and_then (run schema qs) (run schema ps s)
+run-append schema [] qs s = refl
+run-append schema (p ∷ ps) qs s = run-append_at schema ps qs (step schema p s) (λ t. run-append schema ps qs t)
+
+-- one run after the other
+pub joined : {schema : Schema} {a b : List ℕ} {s t u : Levels} → Leads schema a s t → Leads schema b t u → Leads schema (a ++ b) s u
+joined {schema = schema} {a = a} {s = s} m n = record {
+  pieces = m.pieces ++ n.pieces;
+  are_pieces = list_all-append is_piece m.pieces n.pieces ∙ ap (λ b. b && list_all is_piece n.pieces) m.are_pieces ∙ n.are_pieces;
+  spelled = flat_map-append spell_piece m.pieces n.pieces ∙ ap (λ l. l ++ spell n.pieces) m.spelled ∙ ap (λ l. a ++ l) n.spelled;
+  runs = run-append schema m.pieces n.pieces s ∙ ap (option_and_then (run schema n.pieces)) m.runs ∙ n.runs;
+}
+
+pub spelled_as : {schema : Schema} {a b : List ℕ} {s t : Levels} → a ≡ b → Leads schema a s t → Leads schema b s t
+spelled_as e m = record { pieces = m.pieces; are_pieces = m.are_pieces; spelled = m.spelled ∙ e; runs = m.runs }
+
+pub ending_as : {schema : Schema} {a : List ℕ} {s t u : Levels} → t ≡ u → Leads schema a s t → Leads schema a s u
+ending_as e m = record { pieces = m.pieces; are_pieces = m.are_pieces; spelled = m.spelled; runs = m.runs ∙ ap Some e }
+
+-- no byte leads nowhere
+pub staying : {schema : Schema} {s : Levels} → Leads schema [] s s
+staying = record { pieces = []; are_pieces = refl; spelled = refl; runs = refl }
+
+-- one piece
+pub single : (schema : Schema) (p : Piece) (s t : Levels) → IsTrue (is_piece p) → step schema p s ≡ Some t → Leads schema (spell_piece p) s t
+single schema p s t valid fit = record {
+  pieces = p ∷ [];
+  are_pieces = ap (λ b. b && true) valid;
+  spelled = append-nil (spell_piece p);
+  runs = ap (option_and_then (run schema [])) fit;
+}
+
+-- an open tag without attributes, and a close tag
+pub opened : (schema : Schema) (n : Name) (s : Levels) → IsTrue (is_piece (open_tag n [])) → Leads schema (spell_piece (open_tag n [])) s (above n [] false (add n s))
+opened schema n s valid = single schema (open_tag n []) s (above n [] false (add n s)) valid refl
+
+pub closed : (schema : Schema) (n : Name) (ks : List Name) (d : Bool) (s : Levels) → IsTrue (is_piece (close_tag n)) → step schema (close_tag n) (above n ks d s) ≡ Some s → Leads schema (spell_piece (close_tag n)) (above n ks d s) s
+closed schema n ks d s valid fit = single schema (close_tag n) (above n ks d s) s valid fit
+
+-- Contents. The tests of a byte are variables, so that each case computes.
+piece_by : Bool → Bool → Bool → ℕ → Piece
+piece_by true q r b = reference (named (codes "amp"))
+piece_by false true r b = reference (named (codes "lt"))
+piece_by false false true b = reference (named (codes "gt"))
+piece_by false false false b = data_byte b
+
+piece_of : ℕ → Piece
+piece_of b = piece_by (b == 38) (b == 60) (b == 62) b
+
+piece_by-spells : (p q r : Bool) (b : ℕ) → spell_piece (piece_by p q r b) ≡ cond p (codes "&amp;") (cond q (codes "&lt;") (cond r (codes "&gt;") (b ∷ [])))
+unfolding piece_by
+piece_by-spells true q r b = refl
+piece_by-spells false true r b = refl
+piece_by-spells false false true b = refl
+piece_by-spells false false false b = refl
+
+piece_of-spells : (b : ℕ) → spell_piece (piece_of b) ≡ content_byte b
+unfolding piece_of
+piece_of-spells b = piece_by-spells (b == 38) (b == 60) (b == 62) b
+
+piece_by-valid : (p q r : Bool) (b : ℕ) → p ≡ (b == 38) → q ≡ (b == 60) → r ≡ (b == 62) → IsTrue (is_piece (piece_by p q r b))
+unfolding piece_by
+piece_by-valid true q r b h i j = refl
+piece_by-valid false true r b h i j = refl
+piece_by-valid false false true b h i j = refl
+piece_by-valid false false false b h i j = rw (← i, ← j, ← h) refl
+
+piece_by-runs : (schema : Schema) (p q r : Bool) (b : ℕ) (s : Levels) → step schema (piece_by p q r b) s ≡ Some (mark true s)
+unfolding piece_by
+piece_by-runs schema true q r b s = refl
+piece_by-runs schema false true r b s = refl
+piece_by-runs schema false false true b s = refl
+piece_by-runs schema false false false b s = refl
+
+content_byte_leads : (schema : Schema) (b : ℕ) (s : Levels) → Leads schema (content_byte b) s (mark true s)
+unfolding piece_of
+content_byte_leads schema b s =
+    spelled_as (piece_of-spells b)
+    (single schema (piece_of b) s (mark true s) (piece_by-valid (b == 38) (b == 60) (b == 62) b refl refl refl) (piece_by-runs schema (b == 38) (b == 60) (b == 62) b s))
+
+mark-false : (s : Levels) → mark false s ≡ s
+mark-false (lowest ks true) = refl
+mark-false (lowest ks false) = refl
+mark-false (above n ks true s) = refl
+mark-false (above n ks false s) = refl
+
+mark-true : (b : Bool) (s : Levels) → mark b (mark true s) ≡ mark true s
+mark-true true (lowest ks true) = refl
+mark-true true (lowest ks false) = refl
+mark-true true (above n ks true s) = refl
+mark-true true (above n ks false s) = refl
+mark-true false (lowest ks true) = refl
+mark-true false (lowest ks false) = refl
+mark-true false (above n ks true s) = refl
+mark-true false (above n ks false s) = refl
+
+abbrev pub has_bytes : List ℕ → Bool
+has_bytes [] = false
+has_bytes (b ∷ bs) = true
+
+-- a text as contents is data of the level where it stands
+pub content_leads : (schema : Schema) (bs : List ℕ) (s : Levels) → Leads schema (content bs) s (mark (has_bytes bs) s)
+content_leads schema [] s = ending_as (sym (mark-false s)) staying
+content_leads schema (b ∷ bs) s = ending_as (mark-true (has_bytes bs) s) (joined (content_byte_leads schema b s) (content_leads schema bs (mark true s)))
+
+-- Attributes. A value of plain bytes spells itself.
+pub plain-spells : (bs : List ℕ) → flat_map spell_part (map plain bs) ≡ bs
+plain-spells [] = refl
+plain-spells (b ∷ bs) = ap (λ l. b ∷ l) (plain-spells bs)
+
+reach_value : (l₁ n l₂ a l₃ u l₄ l₅ rest : List ℕ) → (l₁ ++ (n ++ (((l₂ ++ (a ++ (l₃ ++ (u ++ l₄)))) ++ []) ++ l₅))) ++ rest ≡ (l₁ ++ (n ++ (l₂ ++ (a ++ l₃)))) ++ (u ++ ((l₄ ++ l₅) ++ rest))
+reach_value l₁ n l₂ a l₃ u l₄ l₅ rest = simp (append_assoc, append-nil)
+
+-- an open tag with one attribute, and what follows it
+pub opened_with : (schema : Schema) (n a : Name) (u : List Part) (v rest : List ℕ) (s t : Levels) → IsTrue (is_piece (open_tag n (attribute a u ∷ []))) → flat_map spell_part u ≡ v → Leads schema rest (above n [] false (add n s)) t → Leads schema ((codes "<" ++ (n ++ (codes " " ++ (a ++ codes "=\"")))) ++ (v ++ (codes "\">" ++ rest))) s t
+opened_with schema n a u v rest s t valid e m =
+    spelled_as
+    (reach_value (codes "<") n (codes " ") a (codes "=\"") (flat_map spell_part u) (codes "\"") (codes ">") rest
+    ∙ ap (λ w. (codes "<" ++ (n ++ (codes " " ++ (a ++ codes "=\"")))) ++ (w ++ (codes "\">" ++ rest))) e)
+    (joined (single schema (open_tag n (attribute a u ∷ [])) s (above n [] false (add n s)) valid refl) m)
+
+-- an empty tag with one attribute
+pub empty_with : (schema : Schema) (n a : Name) (u : List Part) (s t : Levels) → IsTrue (is_piece (empty_tag n (attribute a u ∷ []))) → step schema (empty_tag n (attribute a u ∷ [])) s ≡ Some t → Leads schema ((codes "<" ++ (n ++ (codes " " ++ (a ++ codes "=\"")))) ++ (flat_map spell_part u ++ codes "\"/>")) s t
+empty_with schema n a u s t valid e =
+    spelled_as (sym (append-nil _) ∙ reach_value (codes "<") n (codes " ") a (codes "=\"") (flat_map spell_part u) (codes "\"") (codes "/>") []) (single schema (empty_tag n (attribute a u ∷ [])) s t valid e)
+
+-- Values with escapes, in the same way as contents.
+part_by : Bool → Bool → Bool → Bool → ℕ → Part
+part_by true p q r b = refers (named (codes "quot"))
+part_by false true q r b = refers (named (codes "amp"))
+part_by false false true r b = refers (named (codes "lt"))
+part_by false false false true b = refers (named (codes "gt"))
+part_by false false false false b = plain b
+
+part_of : ℕ → Part
+part_of b = part_by (b == 34) (b == 38) (b == 60) (b == 62) b
+
+part_by-spells : (o p q r : Bool) (b : ℕ) → spell_part (part_by o p q r b) ≡ cond o (codes "&quot;") (cond p (codes "&amp;") (cond q (codes "&lt;") (cond r (codes "&gt;") (b ∷ []))))
+unfolding part_by
+part_by-spells true p q r b = refl
+part_by-spells false true q r b = refl
+part_by-spells false false true r b = refl
+part_by-spells false false false true b = refl
+part_by-spells false false false false b = refl
+
+part_of-spells : (b : ℕ) → spell_part (part_of b) ≡ value_byte b
+unfolding part_of
+part_of-spells b = part_by-spells (b == 34) (b == 38) (b == 60) (b == 62) b
+
+part_by-valid : (o p q r : Bool) (b : ℕ) → o ≡ (b == 34) → p ≡ (b == 38) → q ≡ (b == 60) → r ≡ (b == 62) → IsTrue (is_part (part_by o p q r b))
+unfolding part_by
+part_by-valid true p q r b g h i j = refl
+part_by-valid false true q r b g h i j = refl
+part_by-valid false false true r b g h i j = refl
+part_by-valid false false false true b g h i j = refl
+part_by-valid false false false false b g h i j = rw (← i, ← j, ← h, ← g) refl
+
+-- the parts of a text as an attribute's value
+pub parts : List ℕ → List Part
+parts = map part_of
+
+pub parts-spell : (bs : List ℕ) → flat_map spell_part (parts bs) ≡ value bs
+unfolding parts
+parts-spell [] = refl
+parts-spell (b ∷ bs) = ap (λ l. l ++ flat_map spell_part (parts bs)) (part_of-spells b) ∙ ap (λ l. value_byte b ++ l) (parts-spell bs)
+
+pub parts-valid : (bs : List ℕ) → IsTrue (list_all is_part (parts bs))
+unfolding parts part_of
+parts-valid [] = refl
+parts-valid (b ∷ bs) = ap (λ t. t && list_all is_part (parts bs)) (part_by-valid (b == 34) (b == 38) (b == 60) (b == 62) b refl refl refl refl) ∙ parts-valid bs

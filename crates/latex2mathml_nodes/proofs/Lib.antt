@@ -1,0 +1,10 @@
+pub mod Balance
+pub mod Cells
+pub mod Elements
+pub mod Leads
+pub mod Leaves
+pub mod Members
+pub mod Prints
+pub mod Styles
+pub mod ValueTexts
+pub mod Widths

@@ -1,0 +1,20 @@
+use Rattle.std.proofs.Common.{rules, refl, append_assoc}
+use Rattle.std.proofs.Output.{has_written_append, has_written_of_eq}
+use Rattle.latex2mathml_nodes.proofs.Prints.{prints-more, members-more}
+use Rattle.latex2mathml_nodes.proofs.ast.print.+print.Goals as goal
+
+pub write_all-loop-node-preserved : goal.write_all-loop-node-preserved
+write_all-loop-node-preserved g t c = λ plain.
+    has_written_of_eq _ _ _ _ _ (prints-more c.args.nodes.now c.loop-node.node-index c.node-item.result c.loop-node-test.true c.node-item.is) (has_written_append _ _ _ _ _ _ (c.loop-node.invariant plain) (search rules))
+
+pub write_members-loop-node-preserved : goal.write_members-loop-node-preserved
+write_members-loop-node-preserved g t c = λ plain.
+    has_written_of_eq _ _ _ _ _ (members-more c.args.members.now c.loop-node.node-index c.node-item.result c.loop-node-test.true c.node-item.is) (has_written_append _ _ _ _ _ _ (c.loop-node.invariant plain) (search rules))
+
+pub write_applied-returns : goal.write_applied-returns
+write_applied-returns g t c = λ plain ok.
+    let name_opened = c.in_ok-write_str.ensures.writes plain refl in
+    let named = c.in_ok-write_content.ensures name_opened.plain refl in
+    let name_closed = c.in_ok-write_str-2.ensures.writes named.plain refl in
+    let all = c.write_node.ensures name_closed.plain ok in
+    has_written_of_eq _ _ _ _ _ (simp append_assoc) (has_written_append _ _ _ _ _ _ (has_written_append _ _ _ _ _ _ (has_written_append _ _ _ _ _ _ name_opened named) name_closed) all)

@@ -1,0 +1,9 @@
+pub mod Arguments
+pub mod Discreteness
+pub mod Markup
+pub mod MathSchema
+pub mod Print
+pub mod Productions
+pub mod Style
+pub mod Tree
+pub mod Width

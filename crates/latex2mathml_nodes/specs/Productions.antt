@@ -1,0 +1,69 @@
+-- Trees that a rule of the grammar makes of its parts, where they are more than one node of the parts.
+use Rattle.std.specs.Prelude.{ℕ, List, true, Option, Some, None, if◌then◌else◌, codes, [], ◌∷◌}
+use Rattle.std.specs.Char.{encode_utf8}
+use Rattle.std.specs.Str.{bytes_eq}
+use Rattle.latex2mathml_nodes.specs.Tree.{Tree, Trees, operator, overset, underset, frac, row, fenced, stretched, other_operator, matrix, style, no_trees, more_trees, trees_of}
+use Rattle.latex2mathml_tokens.specs.declared.DisplayStyle.{DisplayStyle}
+use Rattle.latex2mathml_tokens.specs.declared.attribute.LineThickness.TheVariants.{Length}
+use Rattle.latex2mathml_tokens.specs.declared.attribute.ColumnAlign.{ColumnAlign}
+use Rattle.latex2mathml_tokens.specs.declared.attribute.ColumnAlign.TheVariants.{Center, Left}
+
+-- the members of a group as one tree: one member is itself, none or several are a row
+abbrev pub grouped : List Tree → Tree
+grouped [] = row no_trees
+grouped (x ∷ []) = x
+grouped (x ∷ y ∷ ys) = row (trees_of (x ∷ y ∷ ys))
+
+-- the mark that a prime prints
+abbrev pub prime_mark : Tree
+prime_mark = operator 0x2032  -- ′
+
+-- a fraction without a line, between parentheses
+abbrev pub coefficient : Tree → Tree → Tree
+coefficient upper lower = fenced (codes "(") (codes ")") (frac upper lower (Length 0))
+
+-- a binomial coefficient: alone, or in a row that is set as in a block or as in a line of text
+abbrev pub binomial_tree : Option DisplayStyle → Tree → Tree → Tree
+binomial_tree None upper lower = coefficient upper lower
+binomial_tree (Some display) upper lower = style (Some display) (row (more_trees (coefficient upper lower) no_trees))
+
+-- a tree under a brace, which is a character; and under a brace with a label over it
+abbrev pub overbraced : ℕ → Tree → Tree
+overbraced c x = overset (operator c) x
+
+abbrev pub overbraced_with : ℕ → Tree → Tree → Tree
+overbraced_with c label x = overset (overset label (operator c)) x
+
+-- a tree over a brace; and over a brace with a label under it
+abbrev pub underbraced : ℕ → Tree → Tree
+underbraced c x = underset (operator c) x
+
+abbrev pub underbraced_with : ℕ → Tree → Tree → Tree
+underbraced_with c label x = underset (underset label (operator c)) x
+
+-- the operator that grows with what stands around it, where the tree is an operator
+abbrev pub stretched_of : Tree → Option Tree
+stretched_of (operator c) = Some (stretched true (encode_utf8 c))
+stretched_of (other_operator text) = Some (stretched true text)
+stretched_of x = None
+
+-- what a group gives to a matrix: the members where it is a row, otherwise itself as the one member
+abbrev pub spread : Tree → Trees
+spread (row members) = members
+spread x = more_trees x no_trees
+
+abbrev pub matrix_of : ColumnAlign → Tree → Tree
+matrix_of align group = matrix (spread group) align
+
+-- a matrix between fences
+abbrev pub fenced_matrix : List ℕ → List ℕ → Tree → Tree
+fenced_matrix opening close group = fenced opening close (matrix_of Center group)
+
+-- an environment of this name around a group, where there is one of the name
+abbrev pub environment_tree : List ℕ → Tree → Option Tree
+environment_tree name group =
+    if bytes_eq name (codes "matrix") then Some (matrix_of Center group) else
+    (if bytes_eq name (codes "align") then Some (matrix_of Left group) else
+    (if bytes_eq name (codes "pmatrix") then Some (fenced_matrix (codes "(") (codes ")") group) else
+    (if bytes_eq name (codes "bmatrix") then Some (fenced_matrix (codes "[") (codes "]") group) else
+    (if bytes_eq name (codes "vmatrix") then Some (fenced_matrix (codes "|") (codes "|") group) else None))))

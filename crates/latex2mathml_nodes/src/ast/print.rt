@@ -1,0 +1,518 @@
+//! Nodes to markup. Each part is written where it belongs; no text is made on the way.
+ghost use Rattle.std.specs.Prelude.{◌≡◌, Some, ◌++◌, codes, unsigned_abs};
+ghost use Rattle.std.specs.Char.{encode_utf8};
+ghost use Rattle.std.specs.Fmt.{WritesOnOk};
+ghost use Rattle.std.specs.List.{flat_map};
+ghost use Rattle.latex2mathml_tokens.specs.Attributes.{accent_text, variant_text};
+ghost use Rattle.latex2mathml_tokens.specs.Escape.{content, content_char, is_escaped, quoted, quoted_byte, value};
+ghost use Rattle.latex2mathml_nodes.specs.Print.{error_print, member_print, members_print, operator_print, print, prints};
+ghost use Rattle.latex2mathml_nodes.specs.Tree.{applied, fenced, frac, matrix, row, sized_paren, slashed, tree, trees};
+ghost use Rattle.latex2mathml_nodes.specs.Width.{thousandths, thousandths_text, width_text};
+
+use crate::ast::Node;
+use latex2mathml_tokens::DisplayStyle;
+use latex2mathml_tokens::attribute::{Accent, ColumnAlign, LineThickness, Variant};
+use std::fmt;
+use std::fmt::Display;
+
+/// Prints the markup of the node.
+impl fmt::Display for Node {
+    ghost output = { λ node. Some (print (tree node)) };
+
+    fn fmt<W: fmt::Write>(&self, f: &mut fmt::Formatter<W>) -> fmt::Result {
+        write_node(self, f)
+    }
+}
+
+/// Nodes side by side.
+#[derive(Drop)]
+pub(crate) struct Nodes<'a>(pub(crate) &'a [Node]);
+
+impl fmt::Display for Nodes<'_> {
+    ghost output = { λ nodes. Some (prints (trees nodes.0.now)) };
+
+    fn fmt<W: fmt::Write>(&self, f: &mut fmt::Formatter<W>) -> fmt::Result {
+        write_all(self.0, f)
+    }
+}
+
+#[cycle(print)]
+fn write_all<W: fmt::Write>(nodes: &[Node], f: &mut fmt::Formatter<W>) -> fmt::Result
+    ensures { WritesOnOk W.write_str_gives f.old result (prints (trees nodes.now)) f.new }
+{
+    for node in nodes {
+        write_node(node, f)?;
+    }
+    Ok(())
+}
+
+#[cycle(print)]
+fn write_node<W: fmt::Write>(node: &Node, f: &mut fmt::Formatter<W>) -> fmt::Result
+    ensures { WritesOnOk W.write_str_gives f.old result (print (tree node.now)) f.new }
+{
+    match node {
+        Node::Number(digits) => write_text("<mn>", digits, "</mn>", f),
+        Node::Letter(c, Variant::Italic) => write_char("<mi>", *c, "</mi>", f),
+        Node::Letter(c, variant) => write_letter(*c, *variant, "</mi>", f),
+        Node::Operator(c) => write_operator(*c, f),
+        Node::Function(name, None) => write_text("<mi>", name, "</mi>", f),
+        Node::Function(name, Some(x)) => write_applied(name, x, f),
+        Node::Space(width) => write_space(*width, f),
+        Node::Subscript(target, sub) => write_two("<msub>", target, sub, "</msub>", f),
+        Node::Superscript(target, sup) => write_two("<msup>", target, sup, "</msup>", f),
+        Node::SubSup { target, sub, sup } => write_three(
+            "<msubsup>",
+            target,
+            sub,
+            sup,
+            "</msubsup>",
+            f,
+        ),
+        Node::OverOp(c, accent, x) => write_accented("<mover>", x, *c, *accent, "</mo></mover>", f),
+        Node::UnderOp(c, accent, x) => write_accented(
+            "<munder>",
+            x,
+            *c,
+            *accent,
+            "</mo></munder>",
+            f,
+        ),
+        Node::Overset { over, target } => write_two("<mover>", target, over, "</mover>", f),
+        Node::Underset { under, target } => write_two("<munder>", target, under, "</munder>", f),
+        Node::Under(target, under) => write_two("<munder>", target, under, "</munder>", f),
+        Node::UnderOver {
+            target,
+            under,
+            over,
+        } => write_three("<munderover>", target, under, over, "</munderover>", f),
+        Node::Sqrt(None, x) => write_one("<msqrt>", x, "</msqrt>", f),
+        Node::Sqrt(Some(degree), x) => write_two("<mroot>", x, degree, "</mroot>", f),
+        Node::Frac(numerator, denominator, thickness) => write_fraction(
+            numerator,
+            denominator,
+            *thickness,
+            f,
+        ),
+        Node::Row(members) => write_row(members, f),
+        Node::Fenced {
+            opening,
+            close,
+            content,
+        } => write_fenced(opening, content, close, f),
+        Node::StrechedOp(true, text) => write_text("<mo stretchy=\"true\">", text, "</mo>", f),
+        Node::StrechedOp(false, text) => write_text("<mo stretchy=\"false\">", text, "</mo>", f),
+        Node::OtherOperator(text) => write_text("<mo>", text, "</mo>", f),
+        Node::SizedParen { size, paren } => write_sized(size, paren, f),
+        Node::Text(text) => write_text("<mtext>", text, "</mtext>", f),
+        Node::Matrix(members, align) => write_matrix(members, *align, f),
+        Node::Ampersand => f.write_str("<mtext>[PARSE ERROR: Ampersand]</mtext>"),
+        Node::NewLine => f.write_str("<mtext>[PARSE ERROR: NewLine]</mtext>"),
+        Node::Slashed(x) => write_slashed(x, f),
+        Node::Style(None, x) => write_one("<mstyle>", x, "</mstyle>", f),
+        Node::Style(Some(DisplayStyle::Block), x) => write_one(
+            "<mstyle displaystyle=\"true\">",
+            x,
+            "</mstyle>",
+            f,
+        ),
+        Node::Style(Some(DisplayStyle::Inline), x) => write_one(
+            "<mstyle displaystyle=\"false\">",
+            x,
+            "</mstyle>",
+            f,
+        ),
+        Node::Undefined(text) => write_undefined(text, f),
+    }
+}
+
+/// Writes a node between two tags.
+#[cycle(print)]
+fn write_one<W: fmt::Write>(
+    before: &str,
+    a: &Node,
+    after: &str,
+    f: &mut fmt::Formatter<W>,
+) -> fmt::Result
+    ensures { WritesOnOk W.write_str_gives f.old result
+        (before.now ++ (print (tree a.now) ++ after.now)) f.new }
+{
+    f.write_str(before)?;
+    write_node(a, f)?;
+    f.write_str(after)
+}
+
+/// Writes two nodes, one after the other, between two tags.
+#[cycle(print)]
+fn write_two<W: fmt::Write>(
+    before: &str,
+    a: &Node,
+    b: &Node,
+    after: &str,
+    f: &mut fmt::Formatter<W>,
+) -> fmt::Result
+    ensures { WritesOnOk W.write_str_gives f.old result
+        (before.now ++ (print (tree a.now) ++ (print (tree b.now) ++ after.now))) f.new }
+{
+    f.write_str(before)?;
+    write_node(a, f)?;
+    write_node(b, f)?;
+    f.write_str(after)
+}
+
+/// Writes three nodes, one after the other, between two tags.
+#[cycle(print)]
+fn write_three<W: fmt::Write>(
+    before: &str,
+    a: &Node,
+    b: &Node,
+    c: &Node,
+    after: &str,
+    f: &mut fmt::Formatter<W>,
+) -> fmt::Result
+    ensures { WritesOnOk W.write_str_gives f.old result (before.now ++ (print (tree a.now)
+        ++ (print (tree b.now) ++ (print (tree c.now) ++ after.now)))) f.new }
+{
+    f.write_str(before)?;
+    write_node(a, f)?;
+    write_node(b, f)?;
+    write_node(c, f)?;
+    f.write_str(after)
+}
+
+/// Writes a node, and then the sign over it or under it.
+#[cycle(print)]
+fn write_accented<W: fmt::Write>(
+    before: &str,
+    x: &Node,
+    c: char,
+    accent: Accent,
+    after: &str,
+    f: &mut fmt::Formatter<W>,
+) -> fmt::Result
+    ensures { WritesOnOk W.write_str_gives f.old result
+        (before.now ++ (print (tree x.now) ++ (codes "<mo accent=\"" ++ (accent_text accent
+        ++ (codes "\">" ++ (content_char c ++ after.now)))))) f.new }
+{
+    f.write_str(before)?;
+    write_node(x, f)?;
+    write_accent(c, accent, after, f)
+}
+
+#[cycle(print)]
+fn write_fraction<W: fmt::Write>(
+    a: &Node,
+    b: &Node,
+    thickness: LineThickness,
+    f: &mut fmt::Formatter<W>,
+) -> fmt::Result
+    ensures { WritesOnOk W.write_str_gives f.old result
+        (print (frac (tree a.now) (tree b.now) thickness)) f.new }
+{
+    f.write_str("<mfrac")?;
+    thickness.fmt(f)?;
+    write_two(">", a, b, "</mfrac>", f)
+}
+
+#[cycle(print)]
+fn write_fenced<W: fmt::Write>(
+    opening: &str,
+    x: &Node,
+    close: &str,
+    f: &mut fmt::Formatter<W>,
+) -> fmt::Result
+    ensures { WritesOnOk W.write_str_gives f.old result
+        (print (fenced opening.now close.now (tree x.now))) f.new }
+{
+    f.write_str("<mrow><mo stretchy=\"true\" form=\"prefix\">")?;
+    write_content(opening, f)?;
+    f.write_str("</mo>")?;
+    write_node(x, f)?;
+    write_text(
+        "<mo stretchy=\"true\" form=\"postfix\">",
+        close,
+        "</mo></mrow>",
+        f,
+    )
+}
+
+/// Writes a letter or an operator with a slash through it, and any other node as it is.
+#[cycle(print)]
+fn write_slashed<W: fmt::Write>(x: &Node, f: &mut fmt::Formatter<W>) -> fmt::Result
+    ensures { WritesOnOk W.write_str_gives f.old result (print (slashed (tree x.now))) f.new }
+{
+    match x {
+        Node::Letter(c, variant) => write_letter(*c, *variant, "&#x0338;</mi>", f),
+        Node::Operator(c) => write_char("<mo>", *c, "&#x0338;</mo>", f),
+        _ => write_node(x, f),
+    }
+}
+
+/// Writes the name of a function and what it is applied to.
+#[cycle(print)]
+fn write_applied<W: fmt::Write>(name: &str, x: &Node, f: &mut fmt::Formatter<W>) -> fmt::Result
+    ensures { WritesOnOk W.write_str_gives f.old result (print (applied name.now (tree x.now)))
+        f.new }
+{
+    f.write_str("<mi>")?;
+    write_content(name, f)?;
+    f.write_str("</mi><mo>&#x2061;</mo>")?;
+    write_node(x, f)
+}
+
+#[cycle(print)]
+fn write_row<W: fmt::Write>(members: &[Node], f: &mut fmt::Formatter<W>) -> fmt::Result
+    ensures { WritesOnOk W.write_str_gives f.old result (print (row (trees members.now))) f.new }
+{
+    f.write_str("<mrow>")?;
+    write_all(members, f)?;
+    f.write_str("</mrow>")
+}
+
+#[cycle(print)]
+fn write_matrix<W: fmt::Write>(
+    members: &[Node],
+    align: ColumnAlign,
+    f: &mut fmt::Formatter<W>,
+) -> fmt::Result
+    ensures { WritesOnOk W.write_str_gives f.old result
+        (print (matrix (trees members.now) align)) f.new }
+{
+    f.write_str("<mtable")?;
+    align.fmt(f)?;
+    f.write_str("><mtr><mtd>")?;
+    write_members(members, f)?;
+    f.write_str("</mtd></mtr></mtable>")
+}
+
+#[cycle(print)]
+fn write_members<W: fmt::Write>(members: &[Node], f: &mut fmt::Formatter<W>) -> fmt::Result
+    ensures { WritesOnOk W.write_str_gives f.old result (members_print (trees members.now)) f.new }
+{
+    for node in members {
+        write_member(node, f)?;
+    }
+    Ok(())
+}
+
+/// Writes a member of a matrix: the end of a cell or of a row of the matrix, or a node.
+#[cycle(print)]
+fn write_member<W: fmt::Write>(node: &Node, f: &mut fmt::Formatter<W>) -> fmt::Result
+    ensures { WritesOnOk W.write_str_gives f.old result
+        (member_print (tree node.now) (print (tree node.now))) f.new }
+{
+    match node {
+        Node::NewLine => f.write_str("</mtd></mtr><mtr><mtd>"),
+        Node::Ampersand => f.write_str("</mtd><mtd>"),
+        _ => write_node(node, f),
+    }
+}
+
+/// Writes a space whose width is in eighteenths of an em.
+fn write_space<W: fmt::Write>(width: i32, f: &mut fmt::Formatter<W>) -> fmt::Result
+    ensures { WritesOnOk W.write_str_gives f.old result
+        (codes "<mspace width=\"" ++ (width_text width ++ codes "em\"/>")) f.new }
+{
+    f.write_str("<mspace width=\"")?;
+    if width < 0 {
+        f.write_str("-")?;
+    }
+    write_thousandths(thousandths_of(width), f)?;
+    f.write_str("em\"/>")
+}
+
+/// The thousandths that are nearest to a number of eighteenths, without its sign.
+fn thousandths_of(width: i32) -> u64
+    ensures { result ≡ thousandths (unsigned_abs width) }
+{
+    (u64::from(width.unsigned_abs()) * 1000 + 9) / 18
+}
+
+/// Writes a number of thousandths as a decimal fraction, without zeros at its end.
+fn write_thousandths<W: fmt::Write>(number: u64, f: &mut fmt::Formatter<W>) -> fmt::Result
+    ensures { WritesOnOk W.write_str_gives f.old result (thousandths_text number) f.new }
+{
+    let whole = number / 1000;
+    write!(f, "{whole}")?;
+    let a = number % 1000 / 100 % 10;
+    let b = number % 1000 / 10 % 10;
+    let c = number % 1000 % 10;
+    if c != 0 {
+        write!(f, ".{a}{b}{c}")
+    } else if b != 0 {
+        write!(f, ".{a}{b}")
+    } else if a != 0 {
+        write!(f, ".{a}")
+    } else {
+        Ok(())
+    }
+}
+
+/// Writes a text as contents, between two tags.
+fn write_text<W: fmt::Write>(
+    before: &str,
+    text: &str,
+    after: &str,
+    f: &mut fmt::Formatter<W>,
+) -> fmt::Result
+    ensures { WritesOnOk W.write_str_gives f.old result
+        (before.now ++ (content text.now ++ after.now)) f.new }
+{
+    f.write_str(before)?;
+    write_content(text, f)?;
+    f.write_str(after)
+}
+
+/// Writes a character as contents, between two tags.
+fn write_char<W: fmt::Write>(
+    before: &str,
+    c: char,
+    after: &str,
+    f: &mut fmt::Formatter<W>,
+) -> fmt::Result
+    ensures { WritesOnOk W.write_str_gives f.old result
+        (before.now ++ (content_char c ++ after.now)) f.new }
+{
+    f.write_str(before)?;
+    write_content_char(c, f)?;
+    f.write_str(after)
+}
+
+/// Writes a letter with its style, and what stands after it.
+fn write_letter<W: fmt::Write>(
+    c: char,
+    variant: Variant,
+    after: &str,
+    f: &mut fmt::Formatter<W>,
+) -> fmt::Result
+    ensures { WritesOnOk W.write_str_gives f.old result
+        (codes "<mi mathvariant=\"" ++ (variant_text variant ++ (codes "\">"
+        ++ (content_char c ++ after.now)))) f.new }
+{
+    write!(f, "<mi mathvariant=\"{variant}\">")?;
+    write_content_char(c, f)?;
+    f.write_str(after)
+}
+
+/// Writes the sign over or under a node, and what stands after it.
+fn write_accent<W: fmt::Write>(
+    c: char,
+    accent: Accent,
+    after: &str,
+    f: &mut fmt::Formatter<W>,
+) -> fmt::Result
+    ensures { WritesOnOk W.write_str_gives f.old result
+        (codes "<mo accent=\"" ++ (accent_text accent ++ (codes "\">"
+        ++ (content_char c ++ after.now)))) f.new }
+{
+    write!(f, "<mo accent=\"{accent}\">")?;
+    write_content_char(c, f)?;
+    f.write_str(after)
+}
+
+/// Writes a parenthesis of a size of its own.
+fn write_sized<W: fmt::Write>(size: &str, paren: &str, f: &mut fmt::Formatter<W>) -> fmt::Result
+    ensures { WritesOnOk W.write_str_gives f.old result
+        (print (sized_paren size.now paren.now)) f.new }
+{
+    f.write_str("<mrow><mo maxsize=\"")?;
+    write_value(size, f)?;
+    f.write_str("\" minsize=\"")?;
+    write_value(size, f)?;
+    write_text("\">", paren, "</mo></mrow>", f)
+}
+
+fn write_operator<W: fmt::Write>(c: char, f: &mut fmt::Formatter<W>) -> fmt::Result
+    ensures { WritesOnOk W.write_str_gives f.old result (operator_print c) f.new }
+{
+    if c == '∂' {
+        f.write_str("<mo mathvariant=\"italic\">∂</mo>")
+    } else {
+        write_char("<mo>", c, "</mo>", f)
+    }
+}
+
+fn write_undefined<W: fmt::Write>(text: &str, f: &mut fmt::Formatter<W>) -> fmt::Result
+    ensures { WritesOnOk W.write_str_gives f.old result
+        (error_print (codes "Undefined(" ++ (quoted text.now ++ codes ")"))) f.new }
+{
+    f.write_str("<mtext>[PARSE ERROR: Undefined(\"")?;
+    write_quoted(text, f)?;
+    f.write_str("\")]</mtext>")
+}
+
+/// Writes what stands between the quotation marks of a text in quotes, as contents.
+fn write_quoted<W: fmt::Write>(text: &str, f: &mut fmt::Formatter<W>) -> fmt::Result
+    ensures { WritesOnOk W.write_str_gives f.old result
+        (content (flat_map quoted_byte text.now)) f.new }
+{
+    for c in text.chars() {
+        write_quoted_char(c, f)?;
+    }
+    Ok(())
+}
+
+fn write_quoted_char<W: fmt::Write>(c: char, f: &mut fmt::Formatter<W>) -> fmt::Result
+    ensures { WritesOnOk W.write_str_gives f.old result
+        (content (flat_map quoted_byte (encode_utf8 c))) f.new }
+{
+    match c {
+        '"' => f.write_str("\\\""),
+        '\\' => f.write_str("\\\\"),
+        _ => write_content_char(c, f),
+    }
+}
+
+/// Writes a text as contents: whole where no character of it is escaped.
+fn write_content<W: fmt::Write>(text: &str, f: &mut fmt::Formatter<W>) -> fmt::Result
+    ensures { WritesOnOk W.write_str_gives f.old result (content text.now) f.new }
+{
+    match text.find(|c: char| needs_escape(c)) {
+        Some(_) => write_escaped(text, f),
+        None => f.write_str(text),
+    }
+}
+
+fn needs_escape(c: char) -> bool
+    ensures { result ≡ is_escaped c }
+{
+    c == '&' || c == '<' || c == '>'
+}
+
+/// Writes a text as contents, character by character.
+fn write_escaped<W: fmt::Write>(text: &str, f: &mut fmt::Formatter<W>) -> fmt::Result
+    ensures { WritesOnOk W.write_str_gives f.old result (content text.now) f.new }
+{
+    for c in text.chars() {
+        write_content_char(c, f)?;
+    }
+    Ok(())
+}
+
+fn write_content_char<W: fmt::Write>(c: char, f: &mut fmt::Formatter<W>) -> fmt::Result
+    ensures { WritesOnOk W.write_str_gives f.old result (content_char c) f.new }
+{
+    match c {
+        '&' => f.write_str("&amp;"),
+        '<' => f.write_str("&lt;"),
+        '>' => f.write_str("&gt;"),
+        _ => f.write_char(c),
+    }
+}
+
+fn write_value<W: fmt::Write>(text: &str, f: &mut fmt::Formatter<W>) -> fmt::Result
+    ensures { WritesOnOk W.write_str_gives f.old result (value text.now) f.new }
+{
+    for c in text.chars() {
+        write_value_char(c, f)?;
+    }
+    Ok(())
+}
+
+fn write_value_char<W: fmt::Write>(c: char, f: &mut fmt::Formatter<W>) -> fmt::Result
+    ensures { WritesOnOk W.write_str_gives f.old result (value (encode_utf8 c)) f.new }
+{
+    match c {
+        '"' => f.write_str("&quot;"),
+        _ => write_content_char(c, f),
+    }
+}

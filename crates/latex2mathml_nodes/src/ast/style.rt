@@ -1,0 +1,30 @@
+//! The style of letters.
+ghost use Rattle.std.specs.Prelude.{◌≡◌};
+ghost use Rattle.latex2mathml_nodes.specs.Style.{all_styled, styled};
+ghost use Rattle.latex2mathml_nodes.specs.Tree.{tree, trees};
+
+use crate::ast::Node;
+use latex2mathml_tokens::attribute::Variant;
+
+impl Node {
+    /// Gives the style to a letter, and to each member of a row likewise. Nothing else changes, and no memory is taken.
+    #[cycle(style)]
+    pub fn set_variant(&mut self, variant: Variant)
+        ensures { tree self.new ≡ styled variant (tree self.old) }
+    {
+        match self {
+            Node::Letter(_, own) => *own = variant,
+            Node::Row(members) => set_all(members, variant),
+            _ => (),
+        }
+    }
+}
+
+#[cycle(style)]
+fn set_all(nodes: &mut [Node], variant: Variant)
+    ensures { trees nodes.new ≡ all_styled variant (trees nodes.old) }
+{
+    for node in nodes.iter_mut() {
+        node.set_variant(variant);
+    }
+}

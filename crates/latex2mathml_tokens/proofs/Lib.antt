@@ -1,0 +1,4 @@
+pub mod Errors
+pub mod Escapes
+pub mod Lookups
+pub mod Order

@@ -1,0 +1,202 @@
+-- What one comparison in a table in order tells of a look-up.
+use Rattle.std.proofs.Common.{◌≡◌, ℕ, ◌+◌, ◌*◌, ◌^◌, ◌<◌, ◌≤◌, Bool, true, false, ◌&&◌, List, [], ◌∷◌, ◌++◌, refl, sym, ap, subst, ◌∙◌, arith, map, take, drop, get_or, ◌/◌, ◌==◌, take-append-drop, drop-cons, add-one, Some, None, length}
+use Rattle.std.specs.declared.cmp.Ordering.{Ordering}
+use Rattle.std.specs.declared.cmp.Ordering.TheVariants.{Less, Equal, Greater}
+use Rattle.std.specs.Ordering.{nat_cmp, is_lt, is_eq, ordering_reverse}
+use Rattle.std.specs.Cmp.Lexicographic.{slice_cmp, pointwise, texts_ties}
+use Rattle.std.specs.Prelude.{nat_eq, ⊤}
+use Rattle.std.proofs.lemmas.Cmp.{nat_list_cmp_total}
+use Rattle.std.proofs.lemmas.Slice.Eq.{bytes_eq-Decides}
+use Rattle.std.proofs.lemmas.Bool.Decides.{nat_tests}
+use Rattle.latex2mathml_tokens.specs.Commands.{entry_token}
+use Rattle.latex2mathml_tokens.specs.Ordered.{ascending, before_first}
+use Rattle.latex2mathml_tokens.specs.Tok.{Tok}
+use Rattle.latex2mathml_tokens.specs.declared.token.meaning.Entry.{Entry}
+use Rattle.latex2mathml_tokens.specs.Entries.{entry_of}
+use Rattle.std.proofs.lemmas.List.{map-append, length-take, length-drop}
+use Rattle.std.proofs.Math.Nat.{pow-suc, mul-le-mul_right}
+use Rattle.std.proofs.Math.Pow.{pow_mono}
+
+abbrev Entries : Type 0
+Entries = List (List ℕ × Tok)
+
+-- the name is less than each entry's
+abbrev IsBefore : List ℕ → Entries → Type 0
+IsBefore name [] = ⊤
+IsBefore name (r ∷ rs) = (slice_cmp nat_cmp name r.0 ≡ Less) × IsBefore name rs
+
+-- each name is less than all later ones
+abbrev pub InOrder : Entries → Type 0
+InOrder [] = ⊤
+InOrder (r ∷ rs) = IsBefore r.0 rs × InOrder rs
+
+is_less : (o : Ordering) → is_lt o ≡ true → o ≡ Less
+is_less Less h = refl
+is_less Equal h = cc
+is_less Greater h = cc
+
+IsBefore-less : (a b : List ℕ) (rs : Entries) → slice_cmp nat_cmp a b ≡ Less → IsBefore b rs → IsBefore a rs
+IsBefore-less a b [] h k = tt
+IsBefore-less a b (r ∷ rs) h k = (nat_list_cmp_total.trans a b r.0 h k.0, IsBefore-less a b rs h k.1)
+
+and_left : (a b : Bool) → (a && b) ≡ true → a ≡ true
+and_left true b h = refl
+and_left false b h = h
+
+and_right : (a b : Bool) → (a && b) ≡ true → b ≡ true
+and_right true b h = h
+and_right false b h = cc
+
+first_after : (name : List ℕ) (rs : Entries) → before_first name rs ≡ true → InOrder rs → IsBefore name rs
+first_after name [] h a = tt
+first_after name (r ∷ rs) h a = (is_less _ h, IsBefore-less name r.0 rs (is_less _ h) a.0)
+
+pub InOrder-ascending : (rs : Entries) → ascending rs ≡ true → InOrder rs
+unfolding ascending
+InOrder-ascending [] h = tt
+InOrder-ascending (r ∷ rs) h =
+    let rest : InOrder rs = InOrder-ascending rs (and_right _ _ h) in
+    (first_after r.0 rs (and_left _ _ h) rest, rest)
+
+-- names that compare as unequal differ
+less_apart : (a b : List ℕ) → slice_cmp nat_cmp a b ≡ Less → pointwise nat_eq a b ≡ false
+less_apart a b h = texts_ties a b ∙ ap is_eq h
+
+greater_apart : (a b : List ℕ) → slice_cmp nat_cmp a b ≡ Less → pointwise nat_eq b a ≡ false
+greater_apart a b h = texts_ties b a ∙ ap is_eq (nat_list_cmp_total.antisymm b a ∙ ap ordering_reverse h)
+
+equal_names : (a b : List ℕ) → slice_cmp nat_cmp a b ≡ Equal → b ≡ a
+equal_names a b h = sym ((bytes_eq-Decides a b).0 (texts_ties a b ∙ ap is_eq h))
+
+none_after : (name : List ℕ) (rs : Entries) → IsBefore name rs → entry_token rs name ≡ None
+none_after name [] h = refl
+none_after name (r ∷ rs) h = rw (greater_apart name r.0 h.0) (none_after name rs h.1)
+
+IsBefore-middle : (a : List ℕ) (xs : Entries) (x : List ℕ × Tok) (ys : Entries) → IsBefore a (xs ++ x ∷ ys) → slice_cmp nat_cmp a x.0 ≡ Less
+IsBefore-middle a [] x ys h = h.0
+IsBefore-middle a (z ∷ xs) x ys h = IsBefore-middle a xs x ys h.1
+
+-- the entry of a lesser name stands left of x
+pub stands_left : (name : List ℕ) (xs : Entries) (x : List ℕ × Tok) (ys : Entries) → InOrder (xs ++ x ∷ ys) → slice_cmp nat_cmp name x.0 ≡ Less → entry_token (xs ++ x ∷ ys) name ≡ entry_token xs name
+stands_left name [] x ys a h = none_after name (x ∷ ys) (h, IsBefore-less name x.0 ys h a.0)
+stands_left name (z ∷ xs) x ys a h = rw (stands_left name xs x ys a.1 h)
+
+-- and that of a greater name right of x
+pub stands_right : (name : List ℕ) (xs : Entries) (x : List ℕ × Tok) (ys : Entries) → InOrder (xs ++ x ∷ ys) → slice_cmp nat_cmp x.0 name ≡ Less → entry_token (xs ++ x ∷ ys) name ≡ entry_token ys name
+stands_right name [] x ys a h = rw (less_apart x.0 name h)
+stands_right name (z ∷ xs) x ys a h =
+    rw (less_apart z.0 name (nat_list_cmp_total.trans z.0 x.0 name (IsBefore-middle z.0 xs x ys a.0) h)) (stands_right name xs x ys a.1 h)
+
+-- and that of the same name is x
+pub stands_here : (name : List ℕ) (xs : Entries) (x : List ℕ × Tok) (ys : Entries) → InOrder (xs ++ x ∷ ys) → x.0 ≡ name → entry_token (xs ++ x ∷ ys) name ≡ Some x.1
+stands_here name [] x ys a e = rw ((bytes_eq-Decides x.0 name).1 e)
+stands_here name (z ∷ xs) x ys a e =
+    rw (less_apart z.0 name (subst (λ n. slice_cmp nat_cmp z.0 n ≡ Less) e (IsBefore-middle z.0 xs x ys a.0))) (stands_here name xs x ys a.1 e)
+
+IsBefore-left : (a : List ℕ) (xs ys : Entries) → IsBefore a (xs ++ ys) → IsBefore a xs
+IsBefore-left a [] ys h = tt
+IsBefore-left a (z ∷ xs) ys h = (h.0, IsBefore-left a xs ys h.1)
+
+pub InOrder-left : (xs ys : Entries) → InOrder (xs ++ ys) → InOrder xs
+InOrder-left [] ys a = tt
+InOrder-left (z ∷ xs) ys a = (IsBefore-left z.0 xs ys a.0, InOrder-left xs ys a.1)
+
+pub InOrder-right : (xs ys : Entries) → InOrder (xs ++ ys) → InOrder ys
+InOrder-right [] ys a = a
+InOrder-right (z ∷ xs) ys a = InOrder-right xs ys a.1
+
+-- what the search keeps: the entries that are left decide the look-up, and n comparisons have left so few
+pub record Narrowed (table entries : List Entry) (name : List ℕ) (n : ℕ) : Type 0 where
+  pub same : entry_token (map entry_of table) name ≡ entry_token (map entry_of entries) name
+  pub ordered : InOrder (map entry_of entries)
+  pub halved : length entries * 2 ^ n ≤ 511
+  pub some : 0 < length table → 0 < length entries + n
+  pub few : n ≤ 9
+
+-- the entries before the one at m, that entry, and the entries behind it
+split_entries : (entries : List Entry) (m : ℕ) (d : Entry) → m < length entries → map entry_of entries ≡ map entry_of (take m entries) ++ entry_of (get_or entries m d) ∷ map entry_of (drop (m + 1) entries)
+split_entries entries m d h =
+    ap (map entry_of) (sym (take-append-drop m entries)) ∙ map-append entry_of (take m entries) (drop m entries) ∙ ap (λ r. map entry_of (take m entries) ++ map entry_of r) (drop-cons entries m d h ∙ ap (λ k. get_or entries m d ∷ drop k entries) (sym (add-one m)))
+
+double_le : (a p c : ℕ) → (a + a) * p ≤ c → a * (p * 2) ≤ c
+double_le a p c h = grind arith
+
+half_le : (a b n : ℕ) → a + a ≤ b → b * 2 ^ n ≤ 511 → a * 2 ^ (n + 1) ≤ 511
+half_le a b n h k =
+    let e : 2 ^ (n + 1) ≡ 2 ^ n * 2 = ap (λ j. 2 ^ j) (add-one n) ∙ pow-suc 2 n in
+    let m : (a + a) * 2 ^ n ≤ b * 2 ^ n = mul-le-mul_right (2 ^ n) h in
+    rw e (double_le a (2 ^ n) 511 (omega arith))
+
+at_most_nine : (a n : ℕ) → 0 < a → a * 2 ^ n ≤ 511 → n + 1 ≤ 9
+at_most_nine a n h k =
+    let one : 1 * 2 ^ n ≤ a * 2 ^ n = mul-le-mul_right (2 ^ n) h in
+    let big : 9 ≤ n → 2 ^ 9 ≤ 2 ^ n = λ g. pow_mono g in
+    grind (arith, one, big)
+
+take_half : (entries : List Entry) → length (take (length entries / 2) entries) + length (take (length entries / 2) entries) ≤ length entries
+take_half entries = simp length-take (omega arith)
+
+drop_half : (entries : List Entry) → 0 < length entries → length (drop (length entries / 2 + 1) entries) + length (drop (length entries / 2 + 1) entries) ≤ length entries
+drop_half entries h = simp length-drop (omega arith)
+
+nonempty : (entries : List Entry) → (length entries == 0) ≡ false → 0 < length entries
+nonempty entries h = grind (arith, nat_tests)
+
+-- the left half is left where the name is less than the middle entry's
+half_left : (table entries : List Entry) (name : List ℕ) (n : ℕ) (d : Entry) → Narrowed table entries name n → 0 < length entries → slice_cmp nat_cmp name (get_or entries (length entries / 2) d).name.now ≡ Less → Narrowed table (take (length entries / 2) entries) name (n + 1)
+half_left table entries name n d inv h less =
+    let m : ℕ = length entries / 2 in
+    let in_entries : m < length entries = omega arith in
+    let split = split_entries entries m d in_entries in
+    let a : InOrder (map entry_of (take m entries) ++ entry_of (get_or entries m d) ∷ map entry_of (drop (m + 1) entries)) = subst InOrder split inv.ordered in
+    record {
+      same = inv.same ∙ ap (λ r. entry_token r name) split ∙ stands_left name _ (entry_of (get_or entries m d)) _ a less;
+      ordered = InOrder-left _ _ a;
+      halved = half_le _ (length entries) n (take_half entries) inv.halved;
+      few = at_most_nine (length entries) n h inv.halved;
+      some = λ _. omega arith;
+    }
+
+-- and the right half where it is greater
+half_right : (table entries : List Entry) (name : List ℕ) (n : ℕ) (d : Entry) → Narrowed table entries name n → 0 < length entries → slice_cmp nat_cmp name (get_or entries (length entries / 2) d).name.now ≡ Greater → Narrowed table (drop (length entries / 2 + 1) entries) name (n + 1)
+half_right table entries name n d inv h greater =
+    let m : ℕ = length entries / 2 in
+    let in_entries : m < length entries = omega arith in
+    let split = split_entries entries m d in_entries in
+    let a : InOrder (map entry_of (take m entries) ++ entry_of (get_or entries m d) ∷ map entry_of (drop (m + 1) entries)) = subst InOrder split inv.ordered in
+    let right : InOrder (entry_of (get_or entries m d) ∷ map entry_of (drop (m + 1) entries)) = InOrder-right (map entry_of (take m entries)) _ a in
+    let less : slice_cmp nat_cmp (get_or entries m d).name.now name ≡ Less = nat_list_cmp_total.antisymm (get_or entries m d).name.now name ∙ ap ordering_reverse greater in
+    record {
+      same = inv.same ∙ ap (λ r. entry_token r name) split ∙ stands_right name _ (entry_of (get_or entries m d)) _ a less;
+      ordered = right.1;
+      halved = half_le _ (length entries) n (drop_half entries h) inv.halved;
+      few = at_most_nine (length entries) n h inv.halved;
+      some = λ _. omega arith;
+    }
+
+-- the middle entry is the answer where its name is equal
+pub found : (table entries : List Entry) (name : List ℕ) (n : ℕ) (d : Entry) (o : Ordering) → Narrowed table entries name n → (length entries == 0) ≡ false → o ≡ slice_cmp nat_cmp name (get_or entries (length entries / 2) d).name.now → o ≡ Equal → entry_token (map entry_of table) name ≡ Some (entry_of (get_or entries (length entries / 2) d)).1
+found table entries name n d o inv h' cmp is =
+    let h : 0 < length entries = nonempty entries h' in
+    let equal = sym cmp ∙ is in
+    let m : ℕ = length entries / 2 in
+    let in_entries : m < length entries = omega arith in
+    let split = split_entries entries m d in_entries in
+    let a : InOrder (map entry_of (take m entries) ++ entry_of (get_or entries m d) ∷ map entry_of (drop (m + 1) entries)) = subst InOrder split inv.ordered in
+    inv.same ∙ ap (λ r. entry_token r name) split ∙ stands_here name _ (entry_of (get_or entries m d)) _ a (equal_names name (get_or entries m d).name.now equal)
+
+-- no entry is, where none is left
+pub none_left : (table entries : List Entry) (name : List ℕ) (n : ℕ) → Narrowed table entries name n → length entries ≡ 0 → entry_token (map entry_of table) name ≡ None
+none_left table [] name n inv h = inv.same
+none_left table (r ∷ entries) name n inv h = absurd (omega arith)
+
+-- before the first comparison
+pub whole_table : (table : List Entry) (name : List ℕ) → ascending (map entry_of table) ≡ true → length table < 512 → Narrowed table table name 0
+whole_table table name a few = record { same = refl; ordered = InOrder-ascending _ a; halved = omega arith; some = λ h. omega arith; few = omega arith }
+
+-- the two halves, for the search's own variables
+pub kept_left : (table entries entries' : List Entry) (name : List ℕ) (n n' : ℕ) (d : Entry) (o : Ordering) → Narrowed table entries name n → (length entries == 0) ≡ false → o ≡ slice_cmp nat_cmp name (get_or entries (length entries / 2) d).name.now → o ≡ Less → entries' ≡ take (length entries / 2) entries → n' ≡ n + 1 → Narrowed table entries' name n'
+kept_left table entries entries' name n n' d o inv h cmp is e f = rw (e, f) (half_left table entries name n d inv (nonempty entries h) (sym cmp ∙ is))
+
+pub kept_right : (table entries entries' : List Entry) (name : List ℕ) (n n' : ℕ) (d : Entry) (o : Ordering) → Narrowed table entries name n → (length entries == 0) ≡ false → o ≡ slice_cmp nat_cmp name (get_or entries (length entries / 2) d).name.now → o ≡ Greater → entries' ≡ drop (length entries / 2 + 1) entries → n' ≡ n + 1 → Narrowed table entries' name n'
+kept_right table entries entries' name n n' d o inv h cmp is e f = rw (e, f) (half_right table entries name n d inv (nonempty entries h) (sym cmp ∙ is))

@@ -1,0 +1,17 @@
+-- The command table is in order, has 474 entries, and none of them has the empty name. All of it is computed.
+use Rattle.std.proofs.Common.{◌≡◌, [], true, refl, length}
+use Rattle.latex2mathml_tokens.specs.Commands.{command_entries, command_token}
+use Rattle.latex2mathml_tokens.specs.Ordered.{ascending}
+use Rattle.latex2mathml_tokens.specs.Tok.{Command}
+
+pub ascending-command_entries : ascending command_entries ≡ true
+unfolding ascending command_entries
+ascending-command_entries = refl
+
+pub length-command_entries : length command_entries ≡ 474
+unfolding command_entries
+length-command_entries = refl
+
+pub no_empty_name : command_token [] ≡ Command []
+unfolding command_token command_entries
+no_empty_name = refl

@@ -1,0 +1,10 @@
+pub mod Attributes
+pub mod Commands
+pub mod Discreteness
+pub mod Entries
+pub mod Escape
+pub mod Ordered
+pub mod Refusal
+pub mod Same
+pub mod Tok
+pub mod TokenText

@@ -1,0 +1,235 @@
+//! Tokens, and the tokens of commands.
+ghost use Rattle.std.specs.Prelude.{◌≡◌, ◌≤◌, ◌↔◌, IsOk, IsSome, IsTrue, IfOk};
+ghost use Rattle.latex2mathml_tokens.specs.Commands.{command_entries, command_token, entry_token};
+ghost use Rattle.latex2mathml_tokens.specs.Discreteness.{same_tok, tok-discrete};
+ghost use Rattle.latex2mathml_tokens.specs.Same.{same_laws};
+ghost use Rattle.latex2mathml_tokens.specs.Tok.{tok};
+
+mod meaning;
+mod search;
+mod table;
+pub mod text;
+
+use crate::DisplayStyle;
+use crate::attribute::{Accent, Variant};
+use search::look_up;
+use std::alloc::{AllocError, Global};
+
+/// What a slice of a formula stands for.
+#[derive(Debug, Drop)]
+pub enum Token {
+    /// A character that stands for nothing, which is the NUL.
+    Illegal(char),
+    /// The end of the formula. No slice of a text is this token: it stands in refusals and marked
+    /// errors.
+    EOF,
+    /// The beginning of an environment.
+    Begin,
+    /// The end of an environment.
+    End,
+    /// `&`
+    Ampersand,
+    /// The end of a row of a matrix.
+    NewLine,
+    /// Before an opening fence.
+    Left,
+    /// Before a closing fence.
+    Right,
+    /// Before an operator that is stretched.
+    Middle,
+    /// A parenthesis, or `:=`.
+    Paren(&'static str),
+    /// `{`
+    LBrace,
+    /// `}`
+    RBrace,
+    /// A fraction.
+    Frac,
+    /// `_`
+    Underscore,
+    /// `^`
+    Circumflex,
+    /// A binomial, and how it is set, where that is said.
+    Binom(Option<DisplayStyle>),
+    /// Before what stands over, and what it stands over.
+    Overset,
+    /// Before what stands under, and what it stands under.
+    Underset,
+    /// A brace over what follows.
+    Overbrace(char),
+    /// A brace under what follows.
+    Underbrace(char),
+    /// A root.
+    Sqrt,
+    /// An integral, whose limits are scripts.
+    Integral(char),
+    /// The name of a function that takes a limit under it.
+    Lim(&'static str),
+    /// A space, in eighteenths of an em.
+    Space(i32),
+    /// The style of what follows.
+    Style(Variant),
+    /// The size of the bracket that follows, in ems with their unit.
+    Big(&'static str),
+    /// A sign over what follows.
+    Over(char, Accent),
+    /// A sign under what follows.
+    Under(char, Accent),
+    /// An operator of one character.
+    Operator(char),
+    /// An operator that takes limits under and over it.
+    BigOp(char),
+    /// A letter, or any other character that stands for itself, and its style.
+    Letter(char, Variant),
+    /// Digits, with at most one period.
+    Number(String),
+    /// The name of a function.
+    Function(&'static str),
+    /// Before the name of a function that is spelled out.
+    OperatorName,
+    /// Before what a slash strikes through.
+    Slashed,
+    /// Before words.
+    Text,
+    /// A command that the table does not have, by its name without the backslash.
+    Command(String),
+}
+
+impl Token {
+    /// The token that the command with this name stands for, where a name is written without its
+    /// backslash.
+    ///
+    /// A name that the command table has takes no memory and is always `Ok`. Any other is a
+    /// [`Token::Command`] of itself, and an `Err` where memory for that name is not found, which leaves nothing behind.
+    pub fn from_command(alloc: Global, command: &str) -> Result<Token, AllocError>
+        ensures token { IfOk result (λ token. tok token ≡ command_token command.now) }
+        ensures in_table { IsSome (entry_token command_entries command.now) → IsOk result }
+    {
+        let mut compared = 0;
+        Token::from_command_counted(alloc, command, &mut compared)
+    }
+
+    /// The same, with how many names of the command table were compared, also where there is an `Err`.
+    #[tactic(auto, unfolding(crate::specs::Commands::command_token))]
+    pub fn from_command_counted(
+        alloc: Global,
+        command: &str,
+        compared: &mut u128,
+    ) -> Result<Token, AllocError>
+        ensures token { IfOk result (λ token. tok token ≡ command_token command.now) }
+        ensures in_table { IsSome (entry_token command_entries command.now) → IsOk result }
+        ensures at_least { 1 ≤ compared.new }
+        ensures at_most { compared.new ≤ 9 }
+    {
+        let (entry, comparisons) = look_up(command);
+        *compared = comparisons;
+        match entry {
+            Some(entry) => Ok(entry.meaning.token()),
+            None => Ok(Token::Command(String::from_str(alloc, command)?)),
+        }
+    }
+
+    /// A token with the same contents, or an `Err` where memory for its text is not found.
+    pub fn clone(&self, alloc: Global) -> Result<Token, AllocError>
+        ensures { IfOk result (λ copy. tok copy ≡ tok self.now) }
+    {
+        match self {
+            Token::Illegal(c) => Ok(Token::Illegal(*c)),
+            Token::EOF => Ok(Token::EOF),
+            Token::Begin => Ok(Token::Begin),
+            Token::End => Ok(Token::End),
+            Token::Ampersand => Ok(Token::Ampersand),
+            Token::NewLine => Ok(Token::NewLine),
+            Token::Left => Ok(Token::Left),
+            Token::Right => Ok(Token::Right),
+            Token::Middle => Ok(Token::Middle),
+            Token::Paren(text) => Ok(Token::Paren(text)),
+            Token::LBrace => Ok(Token::LBrace),
+            Token::RBrace => Ok(Token::RBrace),
+            Token::Frac => Ok(Token::Frac),
+            Token::Underscore => Ok(Token::Underscore),
+            Token::Circumflex => Ok(Token::Circumflex),
+            Token::Binom(display) => Ok(Token::Binom(*display)),
+            Token::Overset => Ok(Token::Overset),
+            Token::Underset => Ok(Token::Underset),
+            Token::Overbrace(c) => Ok(Token::Overbrace(*c)),
+            Token::Underbrace(c) => Ok(Token::Underbrace(*c)),
+            Token::Sqrt => Ok(Token::Sqrt),
+            Token::Integral(c) => Ok(Token::Integral(*c)),
+            Token::Lim(text) => Ok(Token::Lim(text)),
+            Token::Space(width) => Ok(Token::Space(*width)),
+            Token::Style(variant) => Ok(Token::Style(*variant)),
+            Token::Big(text) => Ok(Token::Big(text)),
+            Token::Over(c, accent) => Ok(Token::Over(*c, *accent)),
+            Token::Under(c, accent) => Ok(Token::Under(*c, *accent)),
+            Token::Operator(c) => Ok(Token::Operator(*c)),
+            Token::BigOp(c) => Ok(Token::BigOp(*c)),
+            Token::Letter(c, variant) => Ok(Token::Letter(*c, *variant)),
+            Token::Number(text) => Ok(Token::Number(String::from_str(alloc, text)?)),
+            Token::Function(text) => Ok(Token::Function(text)),
+            Token::OperatorName => Ok(Token::OperatorName),
+            Token::Slashed => Ok(Token::Slashed),
+            Token::Text => Ok(Token::Text),
+            Token::Command(text) => Ok(Token::Command(String::from_str(alloc, text)?)),
+        }
+    }
+}
+
+/// Two tokens are equal where their contents are. Written out, and not derived, so that the contract says so.
+impl PartialEq for Token {
+    ghost eq = { λ a b. same_tok (tok a) (tok b) };
+
+    ghost laws = { same_laws tok-discrete tok };
+
+    fn eq(&self, other: &Token) -> bool
+        ensures answer { result ≡ same_tok (tok self.now) (tok other.now) }
+        ensures contents { IsTrue result ↔ (tok self.now ≡ tok other.now) }
+    {
+        same_contents(self, other)
+    }
+}
+
+fn same_contents(a: &Token, b: &Token) -> bool
+    ensures { IsTrue result ↔ (tok a.now ≡ tok b.now) }
+{
+    match a {
+        Token::Illegal(c) => matches!(b, Token::Illegal(other) if c == other),
+        Token::EOF => matches!(b, Token::EOF),
+        Token::Begin => matches!(b, Token::Begin),
+        Token::End => matches!(b, Token::End),
+        Token::Ampersand => matches!(b, Token::Ampersand),
+        Token::NewLine => matches!(b, Token::NewLine),
+        Token::Left => matches!(b, Token::Left),
+        Token::Right => matches!(b, Token::Right),
+        Token::Middle => matches!(b, Token::Middle),
+        Token::Paren(text) => matches!(b, Token::Paren(other) if text == other),
+        Token::LBrace => matches!(b, Token::LBrace),
+        Token::RBrace => matches!(b, Token::RBrace),
+        Token::Frac => matches!(b, Token::Frac),
+        Token::Underscore => matches!(b, Token::Underscore),
+        Token::Circumflex => matches!(b, Token::Circumflex),
+        Token::Binom(display) => matches!(b, Token::Binom(other) if display == other),
+        Token::Overset => matches!(b, Token::Overset),
+        Token::Underset => matches!(b, Token::Underset),
+        Token::Overbrace(c) => matches!(b, Token::Overbrace(other) if c == other),
+        Token::Underbrace(c) => matches!(b, Token::Underbrace(other) if c == other),
+        Token::Sqrt => matches!(b, Token::Sqrt),
+        Token::Integral(c) => matches!(b, Token::Integral(other) if c == other),
+        Token::Lim(text) => matches!(b, Token::Lim(other) if text == other),
+        Token::Space(width) => matches!(b, Token::Space(other) if width == other),
+        Token::Style(variant) => matches!(b, Token::Style(other) if variant == other),
+        Token::Big(text) => matches!(b, Token::Big(other) if text == other),
+        Token::Over(c, accent) => matches!(b, Token::Over(d, other) if c == d && accent == other),
+        Token::Under(c, accent) => matches!(b, Token::Under(d, other) if c == d && accent == other),
+        Token::Operator(c) => matches!(b, Token::Operator(other) if c == other),
+        Token::BigOp(c) => matches!(b, Token::BigOp(other) if c == other),
+        Token::Letter(c, variant) =>
+            matches!(b, Token::Letter(d, other) if c == d && variant == other),
+        Token::Number(text) => matches!(b, Token::Number(other) if text == other),
+        Token::Function(text) => matches!(b, Token::Function(other) if text == other),
+        Token::OperatorName => matches!(b, Token::OperatorName),
+        Token::Slashed => matches!(b, Token::Slashed),
+        Token::Text => matches!(b, Token::Text),
+        Token::Command(text) => matches!(b, Token::Command(other) if text == other),
+    }
+}

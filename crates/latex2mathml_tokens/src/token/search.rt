@@ -1,0 +1,66 @@
+//! The look-up in the command table.
+ghost use Rattle.std.specs.Prelude.{◌≡◌, ◌+◌, ◌<◌, ◌≤◌, ◌^◌, map, length, MatchOption, IsTrue, Some, None};
+ghost use Rattle.std.specs.Ordering.{nat_cmp};
+ghost use Rattle.std.specs.Cmp.Lexicographic.{slice_cmp};
+ghost use Rattle.latex2mathml_tokens.specs.Commands.{command_entries, entry_token};
+ghost use Rattle.latex2mathml_tokens.specs.Ordered.{ascending};
+ghost use Rattle.latex2mathml_tokens.specs.Entries.{entry_of};
+
+use crate::token::meaning::Entry;
+use crate::token::table::table;
+use std::cmp::Ordering;
+
+/// The entry of the command with this name, where it has one, and how many names were compared.
+pub(crate) fn look_up(name: &str) -> (Option<Entry>, u128)
+    ensures entry { MatchOption result.0 (entry_token command_entries name.now ≡ None)
+        (λ entry. entry_token command_entries name.now ≡ Some (entry_of entry).1) }
+    ensures at_least { 1 ≤ result.1 }
+    ensures at_most { result.1 ≤ 9 }
+{
+    search(entries(), name)
+}
+
+/// The entries of the table: each name is less than the next, and there are fewer than 512.
+fn entries() -> &'static [Entry]
+    ensures same { map entry_of result.now ≡ command_entries }
+    ensures ordered { IsTrue (ascending (map entry_of result.now)) }
+    ensures few { length result.now < 512 }
+    ensures some { 0 < length result.now }
+{
+    table()
+}
+
+/// The entry with this name among entries in order, and how many names were compared. The entries that are
+/// left are halved by each comparison, until one is equal or none is left.
+fn search(table: &[Entry], name: &str) -> (Option<Entry>, u128)
+    requires ordered { IsTrue (ascending (map entry_of table.now)) }
+    requires few { length table.now < 512 }
+    ensures entry { MatchOption result.0 (entry_token (map entry_of table.now) name.now ≡ None)
+        (λ entry. entry_token (map entry_of table.now) name.now ≡ Some (entry_of entry).1) }
+    ensures at_least { 0 < length table.now → 1 ≤ result.1 }
+    ensures at_most { result.1 ≤ 9 }
+{
+    let mut entries = table;
+    let mut comparisons = 0;
+    while !entries.is_empty() {
+        let middle = entries.len() / 2;
+        let entry = &entries[middle];
+        match compare(name, entry, &mut comparisons) {
+            Ordering::Equal => return (Some(*entry), comparisons),
+            Ordering::Less => entries = &entries[..middle],
+            Ordering::Greater => entries = &entries[middle + 1..],
+        }
+    }
+    (None, comparisons)
+}
+
+/// How the name stands to the entry's name. It counts the comparison, and nothing else of the look-up
+/// reads an entry's name.
+fn compare(name: &str, entry: &Entry, comparisons: &mut u128) -> Ordering
+    requires { comparisons.old + 1 < 2 ^ 128 }
+    ensures counts { comparisons.new ≡ comparisons.old + 1 }
+    ensures order { result ≡ slice_cmp nat_cmp name.now entry.now.name.now }
+{
+    *comparisons += 1;
+    name.cmp(entry.name)
+}
