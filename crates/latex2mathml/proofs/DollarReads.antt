@@ -1,17 +1,18 @@
 -- What is read of tokens without dollar signs is trees without them, and so a formula without one has no rendering
 -- with one. The productions are named in `free_rule` alone.
-use Rattle.std.proofs.Common.{◌≡◌, ℕ, true, List, [], ◌∷◌, Option, Some, None, refl, sym, subst}
-use Rattle.std.specs.Str.{IsUtf8, chars}
-use Rattle.latex2mathml_nodes.specs.Productions.{grouped}
+use Rattle.std.proofs.Common.{◌≡◌, ◌==◌, ℕ, Bool, true, false, List, [], ◌∷◌, Option, Some, None, codes, cond, refl, sym, subst}
+use Rattle.std.specs.Str.{IsUtf8, byte, bytes_eq, chars, encode_utf8_all}
 use Rattle.latex2mathml.specs.DocumentLaws.{KeepsDollarFree}
 use Rattle.latex2mathml.specs.Dollars.{is_other, IsDollarFree}
-use Rattle.latex2mathml_formulas.specs.Grammar.{Sort, sized, Rule, gives, refuses, reads_part, reads_members, reads_sign, takes_token, sees_token, takes_letters, rule, primed, scripted, Outcome, Read, Refused, first_or_end, letter_of, AreLetters, Reads, core_at_end, core_begun, single_read, node_read, ReadsRule, rule_gives, rule_refuses, part_read, part_refused, members_read, members_refused, sign_stands, sign_missing, token_taken, token_at_end, token_seen, letters_taken, ReadsAll, formula_ends, group_ends, never_closed, member_read, later_refused, member_refused, Reading}
+use Rattle.latex2mathml_formulas.specs.Grammar.{Sort, environment, sized, stretching, with_fence, Rule, gives, refuses, reads_part, reads_members, reads_sign, takes_token, sees_token, takes_letters, rule, primed, scripted, Outcome, Read, Refused, first_or_end, letter_of, AreLetters, Reads, core_at_end, core_begun, single_read, node_read, ReadsRule, rule_gives, rule_refuses, part_read, part_refused, members_read, members_refused, sign_stands, sign_missing, token_taken, token_at_end, token_seen, letters_taken, ReadsAll, formula_ends, group_ends, never_closed, member_read, later_refused, member_refused, Reading}
+use Rattle.latex2mathml_nodes.specs.Productions.{environment_tree, fence_of, fenced_matrix, matrix_of, spread, stretched_of, grouped}
 use Rattle.latex2mathml_formulas.specs.Rendering.{IsRendering}
-use Rattle.latex2mathml_tokens.specs.Tok.{Tok, EOF, Ampersand, Paren, LBrace, NewLine, Frac, Binom, Overset, Underset, Overbrace, Underbrace, Sqrt, Integral, Lim, BigOp, Style, Big, Over, Under, Letter, Number, Operator, Space, Function}
+use Rattle.latex2mathml_tokens.specs.Tok.{Tok, EOF, Begin, Ampersand, Paren, LBrace, NewLine, Left, Right, Middle, Frac, Binom, Overset, Underset, Overbrace, Underbrace, Sqrt, Integral, Lim, BigOp, Style, Big, Over, Under, Letter, Number, Operator, Space, Function, OperatorName, Slashed, Text}
 use Rattle.latex2mathml_nodes.specs.Style.{styled, all_styled}
-use Rattle.latex2mathml_nodes.specs.Tree.{Tree, Trees, letter, row, no_trees, more_trees, trees_of}
+use Rattle.latex2mathml_nodes.specs.Tree.{Tree, Trees, letter, operator, other_operator, row, no_trees, more_trees, trees_of}
+use Rattle.latex2mathml_tokens.specs.declared.attribute.ColumnAlign.TheVariants as align
 use Rattle.latex2mathml_tokens.specs.declared.attribute.Variant.{Variant}
-use Rattle.latex2mathml.proofs.DollarTexts.{free_chars, free_more}
+use Rattle.latex2mathml.proofs.DollarTexts.{free_char, free_chars, free_encoded, free_more}
 use Rattle.latex2mathml.proofs.DollarTokens.{IsFree, AreFree, free_tokens, free_token_text}
 use Rattle.latex2mathml.proofs.DollarTrees.{IsFreeTree, AreFreeTrees, free_math}
 
@@ -45,6 +46,45 @@ free_size : (size : List ℕ) (t : Tok) → IsDollarFree size → IsFree t → I
 free_size size (Paren text) h i = (h, i)
 free_size size t h i = tt
 
+-- a fence of a token without a dollar sign
+free_found : (place t : Tok) (fence : Option (List ℕ)) (then : List ℕ → Rule) → ((text : List ℕ) → fence ≡ Some text → IsDollarFree text) → ((text : List ℕ) → IsDollarFree text → IsFreeRule (then text)) → IsFreeRule (with_fence place t fence then)
+free_found place t (Some text) then h k = k text (h text refl)
+free_found place t None then h k = tt
+
+free_period : (b : Bool) (text : List ℕ) → cond b (Some []) None ≡ Some text → IsDollarFree text
+free_period true text e = let none : [] ≡ text = cc in subst IsDollarFree none refl
+free_period false text e = absurd cc
+
+free_fence_text : (t : Tok) (text : List ℕ) → IsFree t → fence_of t ≡ Some text → IsDollarFree text
+free_fence_text (Paren own) text h e = let same : own ≡ text = cc in subst IsDollarFree same h
+free_fence_text (Operator c) text h e = free_period (c == byte ".") text e
+free_fence_text t text h e = absurd cc
+
+free_fence : (place t : Tok) (then : List ℕ → Rule) → IsFree t → ((text : List ℕ) → IsDollarFree text → IsFreeRule (then text)) → IsFreeRule (with_fence place t (fence_of t) then)
+free_fence place t then h k = free_found place t (fence_of t) then (λ text e. free_fence_text t text h e) k
+
+free_stretch : (t : Tok) (x : Tree) → IsFreeTree x → IsFreeRule (stretching t (stretched_of x))
+free_stretch t (operator c) h = free_char c h
+free_stretch t (other_operator text) h = h
+free_stretch t x h = tt
+
+free_spread : (x : Tree) → IsFreeTree x → AreFreeTrees (spread x)
+free_spread (row members) h = h
+free_spread x h = (h, tt)
+
+free_choice : (name : List ℕ) (b : Bool) (x : Tree) (others : Option Tree) → IsFreeTree x → IsFreeRule (environment name others) → IsFreeRule (environment name (cond b (Some x) others))
+free_choice name true x others h i = h
+free_choice name false x others h i = i
+
+free_environment : (name : List ℕ) (x : Tree) → IsFreeTree x → IsFreeRule (environment name (environment_tree name x))
+free_environment name x h =
+    let members = free_spread x h in
+    free_choice name (bytes_eq name (codes "matrix")) (matrix_of align.Center x) _ members
+    (free_choice name (bytes_eq name (codes "align")) (matrix_of align.Left x) _ members
+    (free_choice name (bytes_eq name (codes "pmatrix")) (fenced_matrix (codes "(") (codes ")") x) _ (refl, refl, members)
+    (free_choice name (bytes_eq name (codes "bmatrix")) (fenced_matrix (codes "[") (codes "]") x) _ (refl, refl, members)
+    (free_choice name (bytes_eq name (codes "vmatrix")) (fenced_matrix (codes "|") (codes "|") x) None (refl, refl, members) tt))))
+
 -- each production
 free_rule : (t : Tok) → IsFree t → IsFreeRule (rule t)
 free_rule (Number digits) h = h
@@ -71,6 +111,12 @@ free_rule (Integral c) h = (λ x i. (λ y k. (h, i, k), (h, i)), (λ y k. (λ x 
 free_rule (Lim name) h = (λ x i. (h, i), h)
 free_rule (Style variant) h = λ x k. free_style variant x k
 free_rule (Big size) h = λ t k. free_size size t h k
+free_rule Text h = λ before i cs k behind j. free_encoded cs k
+free_rule OperatorName h = λ before i cs k behind j. free_encoded cs k
+free_rule Slashed h = λ before i x k behind j. k
+free_rule Left h = λ t i. free_fence Left t _ i (λ opening k xs f u j. free_fence Right u _ j (λ close l. (k, l, free_grouped xs f)))
+free_rule Middle h = λ t i x k. free_stretch t x k
+free_rule Begin h = λ before i cs k behind j xs f again l ds m last n. free_environment (encode_utf8_all cs) (grouped xs) (free_grouped xs f)
 free_rule t h = free_token_text t h
 
 -- what follows a core, and what follows a single

@@ -1,5 +1,5 @@
 -- Each document has exactly one answer or exactly one refusal.
-use Rattle.std.proofs.Common.{◌≡◌, ◌≢◌, ◌⊎◌, ℕ, zero, suc, ◌+◌, ◌<◌, ◌≤◌, List, [], ◌∷◌, ◌++◌, length, length-append, ⊎_elim, inl, inr, refl, sym, ap, ◌∙◌, append_assoc, arith, subst}
+use Rattle.std.proofs.Common.{◌≡◌, ◌≢◌, ◌⊎◌, ℕ, zero, suc, ◌<◌, ◌≤◌, List, [], ◌∷◌, ◌++◌, length, length-append, ⊎_elim, inl, inr, refl, sym, ap, ◌∙◌, append_assoc, arith, subst}
 use Rattle.latex2mathml.specs.DocumentLaws.{HasOneOutcome}
 use Rattle.latex2mathml.specs.Documents.{Piece, prose, inline, display, piece_text, IsPlain, IsPiece, HasCut, HasNoCut, PieceAnswer, PiecesAnswer, IsAnswer, PieceRefuses, FirstRefused, IsRefusal}
 use Rattle.latex2mathml.specs.Dollars.{dollar}

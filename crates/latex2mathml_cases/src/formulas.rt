@@ -277,16 +277,7 @@ fn is_marked(alloc: Global, formula: &str, text: &str) -> Result<bool, Fail> {
 
 #[test]
 fn marked_tokens(rt: HostRuntime) -> Result<(), Fail> {
-    for (formula, text) in [
-        ("\\text", "Text"),
-        ("\\left", "Left"),
-        ("\\right", "Right"),
-        ("\\middle", "Middle"),
-        ("\\begin", "Begin"),
-        ("\\end", "End"),
-        ("\\operatorname", "OperatorName"),
-        ("\\slashed", "Slashed"),
-    ] {
+    for (formula, text) in [("\\right", "Right"), ("\\end", "End")] {
         assert!(rt; is_marked(rt.alloc(), formula, text)?, "{formula}");
     }
     Ok(())

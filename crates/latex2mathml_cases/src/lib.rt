@@ -16,6 +16,8 @@ mod counts;
 #[cfg(test)]
 mod documents;
 #[cfg(test)]
+mod environments;
+#[cfg(test)]
 mod faults;
 #[cfg(test)]
 mod formulas;
@@ -31,6 +33,8 @@ mod markup;
 mod nodes;
 #[cfg(test)]
 mod productions;
+#[cfg(test)]
+mod refusals;
 #[cfg(test)]
 mod sizes;
 #[cfg(test)]

@@ -1,4 +1,4 @@
-//! Roots, fractions, accents, sets, braces, styles, limits and sizes.
+//! Roots, fractions, accents, sets, braces, styles, limits, sizes, texts, slashes and fences.
 
 use crate::formulas::has;
 use std::test::Fail;
@@ -268,6 +268,92 @@ fn sizes(rt: HostRuntime) -> Result<(), Fail> {
             r"\Biggr\}",
             r#"<mrow><mo maxsize="2.470em" minsize="2.470em">}</mo></mrow>"#,
         ),
+    ] {
+        assert!(rt; has(rt.alloc(), formula, contents)?, "{formula}");
+    }
+    Ok(())
+}
+
+#[test]
+fn texts(rt: HostRuntime) -> Result<(), Fail> {
+    for (formula, contents) in [
+        (r"\text{ab c}", "<mtext>abc</mtext>"),
+        (
+            r"\text{a1}",
+            r#"<mtext>a</mtext><mtext>[PARSE ERROR: Undefined("RBrace")]</mtext>"#,
+        ),
+        (r"\text{\alpha é}", "<mtext>αé</mtext>"),
+        (r"\text\sqrt x", "<mtext>x</mtext>"),
+        (r"\text{$}", "<mtext>$</mtext>"),
+        (r"\text", "<mtext></mtext>"),
+        (r"\operatorname{sn} x", "<mi>sn</mi><mi>x</mi>"),
+    ] {
+        assert!(rt; has(rt.alloc(), formula, contents)?, "{formula}");
+    }
+    Ok(())
+}
+
+#[test]
+fn slashes(rt: HostRuntime) -> Result<(), Fail> {
+    for (formula, contents) in [
+        (r"\slashed{\partial}", "<mo>∂&#x0338;</mo>"),
+        (
+            r"\slashed x y",
+            r#"<mi mathvariant="italic">y&#x0338;</mi>"#,
+        ),
+        (r"\slashed{p^2}", "<msup><mi>p</mi><mn>2</mn></msup>"),
+        (
+            r"\slashed",
+            r#"<mtext>[PARSE ERROR: Undefined("EOF")]</mtext>"#,
+        ),
+    ] {
+        assert!(rt; has(rt.alloc(), formula, contents)?, "{formula}");
+    }
+    Ok(())
+}
+
+#[test]
+fn fences(rt: HostRuntime) -> Result<(), Fail> {
+    for (formula, contents) in [
+        (
+            r"\left( x \right)",
+            r#"<mrow><mo stretchy="true" form="prefix">(</mo><mi>x</mi><mo stretchy="true" form="postfix">)</mo></mrow>"#,
+        ),
+        (
+            r"\left( x \right.",
+            r#"<mrow><mo stretchy="true" form="prefix">(</mo><mi>x</mi><mo stretchy="true" form="postfix"></mo></mrow>"#,
+        ),
+        (
+            r"\left.5\right)",
+            r#"<mrow><mo stretchy="true" form="prefix"></mo><mn>5</mn><mo stretchy="true" form="postfix">)</mo></mrow>"#,
+        ),
+        (
+            r"\left:=\right:=",
+            r#"<mrow><mo stretchy="true" form="prefix">:=</mo><mrow></mrow><mo stretchy="true" form="postfix">:=</mo></mrow>"#,
+        ),
+        (
+            r"\left\{ x  ( x + 2 ) \right\}",
+            r#"<mrow><mo stretchy="true" form="prefix">{</mo><mrow><mi>x</mi><mo>(</mo><mi>x</mi><mo>+</mo><mn>2</mn><mo>)</mo></mrow><mo stretchy="true" form="postfix">}</mo></mrow>"#,
+        ),
+        (
+            r"\left\{ x \middle| y \right]",
+            r#"<mrow><mo stretchy="true" form="prefix">{</mo><mrow><mi>x</mi><mo stretchy="true">|</mo><mi>y</mi></mrow><mo stretchy="true" form="postfix">]</mo></mrow>"#,
+        ),
+        (
+            r"\right",
+            r#"<mtext>[PARSE ERROR: Undefined("Right")]</mtext>"#,
+        ),
+    ] {
+        assert!(rt; has(rt.alloc(), formula, contents)?, "{formula}");
+    }
+    Ok(())
+}
+
+#[test]
+fn stretched_operators(rt: HostRuntime) -> Result<(), Fail> {
+    for (formula, contents) in [
+        (r"\middle\sum", r#"<mo stretchy="true">∑</mo>"#),
+        (r"\middle{(}", r#"<mo stretchy="true">(</mo>"#),
     ] {
         assert!(rt; has(rt.alloc(), formula, contents)?, "{formula}");
     }

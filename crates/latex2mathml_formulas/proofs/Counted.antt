@@ -1,13 +1,11 @@
 -- The slices that begin with a backslash are no more than the tokens that are left.
-use Rattle.std.proofs.Common.{◌≡◌, ℕ, ◌+◌, ◌*◌, ◌≤◌, Bool, false, true, List, [], ◌∷◌, length, refl, sym, ap, subst, ◌∙◌, Option, Some, None, arith}
+use Rattle.std.proofs.Common.{◌≡◌, ◌≤◌, List, length, sym, subst, Option, Some, None, arith}
 use Rattle.std.proofs.lemmas.List.{length-map}
 use Rattle.std.proofs.lemmas.List.Sums.{count_by-le-length}
-use Rattle.latex2mathml_formulas.specs.Counts.{begins_with_backslash, backslashes, IsTokenCount, IsComparisonCount}
-use Rattle.latex2mathml_formulas.specs.Cutting.{slices_of}
+use Rattle.latex2mathml_formulas.specs.Counts.{begins_with_backslash, backslashes}
 use Rattle.latex2mathml_formulas.specs.Spelling.{Slice}
-use Rattle.latex2mathml_formulas.specs.Unread.{Left, GoesOn, Unread, left_of, token_list}
+use Rattle.latex2mathml_formulas.specs.Unread.{Unread, left_of, token_list}
 use Rattle.latex2mathml_tokens.specs.declared.token.Token.{Token}
-use Rattle.latex2mathml_formulas.proofs.OneList.{cut}
 
 -- as many tokens as slices
 token_list-length : (ss : List Slice) → length (token_list ss) ≡ length ss

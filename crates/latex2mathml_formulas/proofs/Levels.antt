@@ -1,9 +1,10 @@
 -- Where the outcome of a rule leads, step by step, whatever the rule is.
 use Rattle.std.proofs.Common.{◌≡◌, ◌≢◌, ◌⊎◌, ℕ, inl, inr, List, [], ◌∷◌, ◌++◌, Option, Some, None, refl, sym, ap, subst, ◌∙◌, append_assoc, append-nil}
+use Rattle.std.specs.Str.{encode_utf8_all}
 use Rattle.latex2mathml_nodes.specs.Productions.{prime_mark}
-use Rattle.latex2mathml_formulas.specs.Grammar.{Sort, core, single, node, Rule, gives, refuses, reads_part, reads_members, reads_sign, takes_token, sees_token, takes_letters, rule, first_or_end, AreLetters, prime, primed, scripted, Outcome, Read, Refused, first, Reads, core_at_end, core_begun, single_read, node_read, rule_gives, rule_refuses, token_taken, token_at_end, token_seen, letters_taken, part_read, part_refused, members_read, members_refused, sign_stands, sign_missing, ReadsAll, group_ends, never_closed, member_read, later_refused, member_refused}
+use Rattle.latex2mathml_formulas.specs.Grammar.{Sort, core, single, node, Rule, gives, reads_part, reads_members, reads_sign, takes_token, sees_token, takes_letters, rule, a_name, first_or_end, AreLetters, prime, primed, scripted, Outcome, Read, Refused, first, Reads, core_at_end, core_begun, single_read, node_read, rule_gives, token_taken, token_at_end, token_seen, letters_taken, part_read, part_refused, members_read, members_refused, sign_stands, sign_missing, ReadsAll, group_ends, never_closed, member_read, later_refused, member_refused}
 use Rattle.latex2mathml_formulas.specs.Frames.{script}
-use Rattle.latex2mathml_formulas.specs.Marks.{MarkStands, mark_token, rest_of, sign_token}
+use Rattle.latex2mathml_formulas.specs.Marks.{LettersStand, MarkStands, NameStands, mark_token, rest_of, sign_token}
 use Rattle.latex2mathml_formulas.specs.Levels.{Standing, awaits_part, awaits_members, end_token, MayBegin, RuleLeads, Then, As, behind, Level, part, members, due_of, sort_of, Leads, Takes, Made, entered}
 use Rattle.latex2mathml_tokens.specs.Refusal.{Refusal, UnexpectedToken}
 use Rattle.latex2mathml_tokens.specs.Tok.{Tok, EOF, Underscore, Circumflex}
@@ -50,12 +51,21 @@ skipped then K [] to same k = subst (RuleLeads (then EOF) K) (sym same) (λ o d.
 skipped then K (t ∷ ts) to same k = subst (RuleLeads (then t) K) (sym same) (λ o d. k o (token_taken d))
 
 -- .. and sees one
-pub looked : (then : Tok → Rule) (K : Outcome Tree → Type 0) (place : List Tok) → RuleLeads (sees_token then) K place → RuleLeads (then (first_or_end place)) K place
-looked then K place k = λ o d. k o (token_seen d)
+pub looked : (then : Tok → Rule) (K : Outcome Tree → Type 0) (place to : List Tok) → to ≡ place → RuleLeads (sees_token then) K place → RuleLeads (then (first_or_end place)) K to
+looked then K place to same k = subst (RuleLeads (then (first_or_end place)) K) (sym same) (λ o d. k o (token_seen d))
 
 -- .. and takes letters
 pub spelled : (then : List ℕ → Rule) (K : Outcome Tree → Type 0) (cs : List ℕ) (place to : List Tok) → AreLetters cs place to → RuleLeads (takes_letters then) K place → RuleLeads (then cs) K to
 spelled then K cs place to are k = λ o d. k o (letters_taken cs are d)
+
+-- .. and takes a name
+pub named : (then : List ℕ → Rule) (K : Outcome Tree → Type 0) (bytes : List ℕ) (place to : List Tok) → NameStands bytes place to → RuleLeads (a_name then) K place → RuleLeads (then bytes) K to
+named then K bytes place to h k =
+    let letters : LettersStand bytes (rest_of place) h.0 = h.1 in
+    let last : List ℕ → Rule = λ cs. takes_token (λ t. then (encode_utf8_all cs)) in
+    let letters_next = skipped (λ t. takes_letters last) K place (rest_of place) refl k in
+    let taken = skipped (λ t. then (encode_utf8_all letters.0)) K h.0 to h.2 (spelled last K letters.0 (rest_of place) h.0 letters.1 letters_next) in
+    subst (λ bs. RuleLeads (then bs) K to) (sym letters.2) taken
 
 -- A core is due, or a part that begins with one.
 

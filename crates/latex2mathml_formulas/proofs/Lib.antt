@@ -6,6 +6,7 @@ pub mod Counting
 pub mod FirstSlices
 pub mod Levels
 pub mod MathElements
+pub mod Names
 pub mod Numbers
 pub mod OneList
 pub mod OneReading

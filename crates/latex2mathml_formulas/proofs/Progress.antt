@@ -1,6 +1,7 @@
 -- Counts that go on from step to step.
-use Rattle.std.proofs.Common.{◌≡◌, ℕ, ◌+◌, ◌≤◌, ◌∷◌, length, ap, ◌∙◌, arith}
+use Rattle.std.proofs.Common.{◌≡◌, ℕ, ◌+◌, ◌≤◌, List, [], ◌∷◌, length, ap, ◌∙◌, arith}
 use Rattle.std.proofs.lemmas.List.Sums.{sum_by-cons}
+use Rattle.latex2mathml_formulas.specs.Marks.{rest_of}
 use Rattle.latex2mathml_formulas.specs.Openers.{OpensFor, openers, opens}
 use Rattle.latex2mathml_tokens.specs.Tok.{Tok, Number, Letter, Operator, Paren}
 use Rattle.latex2mathml_formulas.specs.Unread.{GoesOn, Left}
@@ -32,3 +33,21 @@ OpensFor-taken t a b c m n stood counts h =
     let fewer : openers a.list ≡ opens t + openers b.list = ap openers stood ∙ sum_by-cons opens t b.list in
     let one = opens-≤ t in
     record { taken = omega arith; openers = omega arith }
+
+rest-length : (l : List Tok) → length (rest_of l) ≤ length l
+rest-length [] = omega arith
+rest-length (t ∷ ts) = omega arith
+
+rest-openers : (l : List Tok) → openers (rest_of l) ≤ openers l
+rest-openers [] = omega arith
+rest-openers (t ∷ ts) = omega (arith, sum_by-cons opens t ts)
+
+-- a token is passed over, where one is left
+pub rest-shorter : (a b : Left) → b.list ≡ rest_of a.list → length b.list ≤ length a.list
+rest-shorter a b passed = omega (arith, ap length passed, rest-length a.list)
+
+pub OpensFor-rest : (a b : Left) → b.list ≡ rest_of a.list → GoesOn a b → OpensFor a b 0 0
+OpensFor-rest a b passed counts =
+    let shorter = rest-shorter a b passed in
+    let fewer = ap openers passed in
+    record { taken = omega arith; openers = omega (arith, rest-openers a.list) }

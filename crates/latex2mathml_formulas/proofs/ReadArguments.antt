@@ -1,12 +1,14 @@
 -- A reading holds no function with an argument. Only `keeps` names tokens: it has a line for each rule that does more
 -- than give a tree without parts.
-use Rattle.std.proofs.Common.{ℕ, List, [], ◌∷◌, Option, Some, None}
-use Rattle.latex2mathml_nodes.specs.Productions.{grouped}
+use Rattle.std.proofs.Common.{ℕ, Bool, true, false, List, [], ◌∷◌, Option, Some, None, codes, cond}
+use Rattle.std.specs.Str.{bytes_eq, encode_utf8_all}
 use Rattle.latex2mathml_nodes.specs.Arguments.{HasNoArgument, HaveNoArgument}
-use Rattle.latex2mathml_formulas.specs.Grammar.{Sort, sized, Rule, gives, refuses, reads_part, reads_members, reads_sign, takes_token, sees_token, takes_letters, rule, primed, scripted, Outcome, Read, Refused, first_or_end, Reads, core_at_end, core_begun, single_read, node_read, ReadsRule, rule_gives, rule_refuses, part_read, part_refused, members_read, members_refused, sign_stands, sign_missing, token_taken, token_at_end, token_seen, letters_taken, ReadsAll, formula_ends, group_ends, never_closed, member_read, later_refused, member_refused, Reading}
-use Rattle.latex2mathml_tokens.specs.Tok.{Tok, EOF, Paren, LBrace, Frac, Binom, Overset, Underset, Overbrace, Underbrace, Sqrt, Integral, Lim, BigOp, Style, Big, Over, Under}
+use Rattle.latex2mathml_formulas.specs.Grammar.{Sort, environment, sized, stretching, with_fence, Rule, gives, refuses, reads_part, reads_members, reads_sign, takes_token, sees_token, takes_letters, rule, primed, scripted, Outcome, Read, Refused, first_or_end, Reads, core_at_end, core_begun, single_read, node_read, ReadsRule, rule_gives, rule_refuses, part_read, part_refused, members_read, members_refused, sign_stands, sign_missing, token_taken, token_at_end, token_seen, letters_taken, ReadsAll, formula_ends, group_ends, never_closed, member_read, later_refused, member_refused, Reading}
+use Rattle.latex2mathml_nodes.specs.Productions.{environment_tree, fence_of, fenced_matrix, matrix_of, spread, stretched_of, grouped}
+use Rattle.latex2mathml_tokens.specs.Tok.{Tok, EOF, Begin, Paren, LBrace, Left, Right, Middle, Frac, Binom, Overset, Underset, Overbrace, Underbrace, Sqrt, Integral, Lim, BigOp, Style, Big, Over, Under, OperatorName, Slashed, Text}
 use Rattle.latex2mathml_nodes.specs.Style.{styled, all_styled}
-use Rattle.latex2mathml_nodes.specs.Tree.{Tree, Trees, letter, row, no_trees, more_trees, trees_of}
+use Rattle.latex2mathml_nodes.specs.Tree.{Tree, Trees, letter, operator, other_operator, row, no_trees, more_trees, trees_of}
+use Rattle.latex2mathml_tokens.specs.declared.attribute.ColumnAlign.TheVariants as align
 use Rattle.latex2mathml_tokens.specs.declared.attribute.Variant.{Variant}
 
 -- no function in any of the trees has an argument
@@ -43,6 +45,32 @@ keeps_size : (size : List ℕ) (t : Tok) → Keeps (sized size t)
 keeps_size size (Paren text) = tt
 keeps_size size t = tt
 
+keeps_fence : (place t : Tok) (fence : Option (List ℕ)) (then : List ℕ → Rule) → ((text : List ℕ) → Keeps (then text)) → Keeps (with_fence place t fence then)
+keeps_fence place t (Some text) then h = h text
+keeps_fence place t None then h = tt
+
+keeps_stretch : (t : Tok) (x : Tree) → Keeps (stretching t (stretched_of x))
+keeps_stretch t (operator c) = tt
+keeps_stretch t (other_operator text) = tt
+keeps_stretch t x = tt
+
+keeps_spread : (x : Tree) → HasNoArgument x → HaveNoArgument (spread x)
+keeps_spread (row members) h = h
+keeps_spread x h = (h, tt)
+
+keeps_choice : (name : List ℕ) (b : Bool) (x : Tree) (others : Option Tree) → HasNoArgument x → Keeps (environment name others) → Keeps (environment name (cond b (Some x) others))
+keeps_choice name true x others h i = h
+keeps_choice name false x others h i = i
+
+keeps_environment : (name : List ℕ) (x : Tree) → HasNoArgument x → Keeps (environment name (environment_tree name x))
+keeps_environment name x h =
+    let members = keeps_spread x h in
+    keeps_choice name (bytes_eq name (codes "matrix")) (matrix_of align.Center x) _ members
+    (keeps_choice name (bytes_eq name (codes "align")) (matrix_of align.Left x) _ members
+    (keeps_choice name (bytes_eq name (codes "pmatrix")) (fenced_matrix (codes "(") (codes ")") x) _ members
+    (keeps_choice name (bytes_eq name (codes "bmatrix")) (fenced_matrix (codes "[") (codes "]") x) _ members
+    (keeps_choice name (bytes_eq name (codes "vmatrix")) (fenced_matrix (codes "|") (codes "|") x) None members tt))))
+
 -- the rule of each token
 keeps : (t : Tok) → Keeps (rule t)
 keeps LBrace = keeps_group
@@ -61,6 +89,12 @@ keeps (Integral c) = (λ x h. (λ y i. (tt, h, i), (tt, h)), (λ y i. (λ x h. (
 keeps (Lim name) = (λ x h. (tt, h), tt)
 keeps (Style variant) = λ x h. keeps_style variant x h
 keeps (Big size) = λ t. keeps_size size t
+keeps Text = λ before cs behind. tt
+keeps OperatorName = λ before cs behind. tt
+keeps Slashed = λ before x h behind. h
+keeps Left = λ t. keeps_fence Left t (fence_of t) _ (λ opening xs h u. keeps_fence Right u (fence_of u) _ (λ close. keeps_group xs h))
+keeps Middle = λ t x h. keeps_stretch t x
+keeps Begin = λ before cs behind xs h again ds last. keeps_environment (encode_utf8_all cs) (grouped xs) (keeps_group xs h)
 keeps t = tt
 
 keeps_primed : (x : Tree) → HasNoArgument x → Keeps (primed x)

@@ -1,12 +1,16 @@
 -- Signs and tokens that the parser takes where they stand.
-use Rattle.std.proofs.Common.{◌≡◌, ◌≢◌, Bool, true, false, List, [], ◌∷◌, Some, Global, Bor, ℕ, refl, sym, subst, ap, ◌∙◌}
+use Rattle.std.proofs.Common.{◌≡◌, ◌≢◌, Bool, true, false, List, [], ◌∷◌, Some, Bor, ℕ, None, refl, sym, subst, ap, ◌∙◌}
 use Rattle.std.specs.Prelude.{MatchBool}
-use Rattle.latex2mathml_formulas.specs.Grammar.{Sort, Rule, refuses, first, sized, Outcome, Refused, rule_refuses}
+use Rattle.latex2mathml_formulas.specs.Grammar.{Sort, Rule, a_fence, with_fence, refuses, first, first_or_end, sized, Outcome, Refused, rule_refuses}
 use Rattle.latex2mathml_formulas.specs.Levels.{RuleLeads, Level, Made}
-use Rattle.latex2mathml_tokens.specs.Refusal.{Refusal, UnexpectedToken}
+use Rattle.latex2mathml_formulas.specs.Marks.{rest_of}
+use Rattle.latex2mathml_nodes.specs.Productions.{fence_of}
+use Rattle.latex2mathml_tokens.specs.Refusal.{Refusal, MissingParensethis, UnexpectedToken}
 use Rattle.latex2mathml_tokens.specs.Tok.{Tok, Paren, tok}
+use Rattle.latex2mathml_nodes.specs.Tree.{Tree}
 use Rattle.latex2mathml_tokens.specs.declared.token.Token.{Token}
 use Rattle.latex2mathml_tokens.specs.declared.token.Token.TheVariants as token
+use Rattle.latex2mathml_formulas.proofs.Levels.{skipped}
 
 -- a sign that was found
 pub sign_found : (place to : List Tok) (t u : Tok) (b : Bool) → t ≡ u → b ≡ true → MatchBool b (place ≡ t ∷ to) ((first place ≢ Some t) × (to ≡ place)) → place ≡ u ∷ to
@@ -30,3 +34,16 @@ same_rule l s r q place same k = subst (λ x. RuleLeads x (Made s l) place) same
 pub not_sized : (size : List ℕ) (got : Token) → ((x : Bor (List ℕ)) → got ≡ token.Paren x → ⊥) → sized size (tok got) ≡ refuses (UnexpectedToken (Paren []) (tok got))
 not_sized size (token.Paren x) h = absurd (h x refl)
 not_sized size t h = refl
+
+-- a token was taken where a fence must stand
+fence_taken : (location t : Tok) (then : List ℕ → Rule) (K : Outcome Tree → Type 0) (place to : List Tok) → t ≡ first_or_end place → to ≡ rest_of place → RuleLeads (a_fence location then) K place → RuleLeads (with_fence location t (fence_of t) then) K to
+fence_taken location t then K place to stood same k =
+    subst (λ u. RuleLeads (with_fence location u (fence_of u) then) K to) (sym stood) (skipped (λ u. with_fence location u (fence_of u) then) K place to same k)
+
+-- .. which is one
+pub fence_found : (location t : Tok) (then : List ℕ → Rule) (K : Outcome Tree → Type 0) (text : List ℕ) (place to : List Tok) → fence_of t ≡ Some text → t ≡ first_or_end place → to ≡ rest_of place → RuleLeads (a_fence location then) K place → RuleLeads (then text) K to
+fence_found location t then K text place to is stood same k = subst (λ f. RuleLeads (with_fence location t f then) K to) is (fence_taken location t then K place to stood same k)
+
+-- .. which is none
+pub fence_missing : (location t : Tok) (then : List ℕ → Rule) (K : Outcome Tree → Type 0) (place to : List Tok) → fence_of t ≡ None → t ≡ first_or_end place → to ≡ rest_of place → RuleLeads (a_fence location then) K place → RuleLeads (refuses (MissingParensethis location t)) K to
+fence_missing location t then K place to is stood same k = subst (λ f. RuleLeads (with_fence location t f then) K to) is (fence_taken location t then K place to stood same k)

@@ -1,6 +1,6 @@
 -- Frames put on the parser's stack and taken off it.
-use Rattle.std.proofs.Common.{◌≡◌, ◌≢◌, ◌⊎◌, inl, inr, ◌+◌, List, [], ◌∷◌, ◌++◌, map, Option, Some, Vec, Global, refl, sym, ap, subst, ◌∙◌, sum_by, arith}
-use Rattle.std.specs.Prelude.{MatchOption}
+use Rattle.std.proofs.Common.{◌≡◌, ◌≢◌, ◌⊎◌, inl, inr, ℕ, ◌+◌, List, [], ◌∷◌, ◌++◌, map, Option, None, Some, Bor, Vec, Global, refl, sym, ap, subst, ◌∙◌, sum_by, arith}
+use Rattle.std.specs.Prelude.{MatchOption, String, option_map}
 use Rattle.std.proofs.lemmas.List.{map-append}
 use Rattle.std.proofs.lemmas.List.Sums.{sum_by-append}
 use Rattle.latex2mathml_formulas.specs.Frames.{Holds, stands, made, awaits, due_inside, innermost, enter, inside, whole, weight, state_weight, rest_of_work}
@@ -147,14 +147,16 @@ group_open input fs end d k = inside_denies (whole input) fs _ (unclosed (inside
 pub work-push : (fs gs : List Frame) (f : Frame) → gs ≡ fs ++ f ∷ [] → rest_of_work state.Next gs ≡ sum_by weight fs + weight f + state_weight state.Next (awaits f)
 work-push fs gs f e = rw (sum_by-push fs gs f e, innermost-push fs gs f e) refl
 
--- only a group and a degree wait for members
-pub only_groups : (fs gs : List Frame) (f : Frame) (end : GroupEnd) → gs ≡ fs ++ f ∷ [] → innermost gs ≡ due.Member end → ((ms : Vec Node Global) → f ≡ frame.Group ms → ⊥) → ((ms : Vec Node Global) → f ≡ frame.Degree ms → ⊥) → ⊥
-only_groups fs gs f end e d no_group no_degree = awaits_members f (sym (innermost-push fs gs f e) ∙ d) no_group no_degree
+-- only a group, a degree, a fence and an environment wait for members
+pub only_groups : (fs gs : List Frame) (f : Frame) (end : GroupEnd) → gs ≡ fs ++ f ∷ [] → innermost gs ≡ due.Member end → ((ms : Vec Node Global) → f ≡ frame.Group ms → ⊥) → ((ms : Vec Node Global) → f ≡ frame.Degree ms → ⊥) → ((opening : Bor (List ℕ)) (ms : Vec Node Global) → f ≡ frame.Fence opening ms → ⊥) → ((name : String Global) (ms : Vec Node Global) → f ≡ frame.Environment name ms → ⊥) → ⊥
+only_groups fs gs f end e d no_group no_degree no_fence no_environment = awaits_members f (sym (innermost-push fs gs f e) ∙ d) no_group no_degree no_fence no_environment
   where
-    awaits_members : (f : Frame) → awaits f ≡ due.Member end → ((ms : Vec Node Global) → f ≡ frame.Group ms → ⊥) → ((ms : Vec Node Global) → f ≡ frame.Degree ms → ⊥) → ⊥
-    awaits_members (frame.Group ms) e no_group no_degree = no_group ms refl
-    awaits_members (frame.Degree ms) e no_group no_degree = no_degree ms refl
-    awaits_members f e no_group no_degree = cc
+    awaits_members : (f : Frame) → awaits f ≡ due.Member end → ((ms : Vec Node Global) → f ≡ frame.Group ms → ⊥) → ((ms : Vec Node Global) → f ≡ frame.Degree ms → ⊥) → ((opening : Bor (List ℕ)) (ms : Vec Node Global) → f ≡ frame.Fence opening ms → ⊥) → ((name : String Global) (ms : Vec Node Global) → f ≡ frame.Environment name ms → ⊥) → ⊥
+    awaits_members (frame.Group ms) e no_group no_degree no_fence no_environment = no_group ms refl
+    awaits_members (frame.Degree ms) e no_group no_degree no_fence no_environment = no_degree ms refl
+    awaits_members (frame.Fence opening ms) e no_group no_degree no_fence no_environment = no_fence opening ms refl
+    awaits_members (frame.Environment name ms) e no_group no_degree no_fence no_environment = no_environment name ms refl
+    awaits_members f e no_group no_degree no_fence no_environment = cc
 
 -- a token of the code, as what it is
 pub of_token : (l : Level) (t u : Token) (place : List Tok) → t ≡ u → RuleLeads (rule (tok t)) (Made core l) place → RuleLeads (rule (tok u)) (Made core l) place
@@ -193,3 +195,12 @@ some_stood l t to e h = cc
 -- a token that was found was taken
 pub found_token : (found : Option Token) (t : Token) (old new : List Tok) → found ≡ Some t → MatchOption found ((old ≡ []) × (new ≡ [])) (λ u. old ≡ tok u ∷ new) → old ≡ tok t ∷ new
 found_token found t old new e h = subst (λ o. MatchOption o ((old ≡ []) × (new ≡ [])) (λ u. old ≡ tok u ∷ new)) e h
+
+-- a node that was made where the tree of one is wanted
+pub node_made : (made : Option Node) (x : Node) (wanted : Option Tree) → made ≡ Some x → option_map tree made ≡ wanted → wanted ≡ Some (tree x)
+node_made made x wanted is e = sym e ∙ ap (option_map tree) is
+
+-- .. and that was not made
+pub no_node_made : (made : Option Node) (wanted : Option Tree) → ((x : Node) → made ≡ Some x → ⊥) → option_map tree made ≡ wanted → wanted ≡ None
+no_node_made None wanted h e = sym e
+no_node_made (Some x) wanted h e = absurd (h x refl)

@@ -1,5 +1,5 @@
 -- What one step of the lexer takes from the slices that are left, and how many names it compares.
-use Rattle.std.proofs.Common.{◌≡◌, ℕ, ◌+◌, ◌*◌, ◌^◌, ◌<◌, ◌≤◌, Bool, false, ◌&&◌, List, [], ◌∷◌, ◌++◌, length, refl, sym, ap, subst, ◌∙◌, None, Some, append_assoc, append-nil, arith}
+use Rattle.std.proofs.Common.{◌≡◌, ℕ, ◌+◌, ◌*◌, ◌^◌, ◌<◌, ◌≤◌, Bool, false, ◌&&◌, List, [], ◌∷◌, ◌++◌, length, refl, sym, ap, subst, ◌∙◌, Some, arith}
 use Rattle.std.proofs.lemmas.Str.{encodes-chars, length-le-encodes}
 use Rattle.std.specs.Str.{chars, encode_utf8_all, IsUtf8}
 use Rattle.latex2mathml_formulas.specs.Characters.{Stops, head, is_empty, is_space}
@@ -7,11 +7,11 @@ use Rattle.std.specs.List.{AllPass}
 use Rattle.latex2mathml_formulas.specs.Counts.{begins_with_backslash, backslash_count, backslashes}
 use Rattle.latex2mathml_formulas.specs.Cutting.{slice, slices_of}
 use Rattle.latex2mathml_formulas.specs.Lexing.{BeginsWith, IsLongestRun, IsRead}
-use Rattle.latex2mathml_formulas.specs.Spelling.{SpellsAt, Slice, IsStep, HasTokens, takes_digit}
+use Rattle.latex2mathml_formulas.specs.Spelling.{SpellsAt, Slice, IsStep, takes_digit}
 use Rattle.latex2mathml_tokens.specs.Tok.{Tok}
-use Rattle.latex2mathml_formulas.specs.Unread.{Unread, IsTaken, token_list}
+use Rattle.latex2mathml_formulas.specs.Unread.{IsTaken}
 use Rattle.latex2mathml_formulas.proofs.Counting.{count_one}
-use Rattle.latex2mathml_formulas.proofs.OneList.{Begun, begun, cut, cut_step, cut_end}
+use Rattle.latex2mathml_formulas.proofs.OneList.{Begun, begun, cut_step, cut_end}
 use Rattle.latex2mathml_formulas.proofs.Tokenizing.{not_empty}
 
 not_short : 1 ≤ 0 → ⊥

@@ -1,13 +1,13 @@
 -- What the parser's frames stand for: each is a rule that was begun, at the part that it waits for. These words serve
 -- the contracts of the parser's functions.
-use Rattle.std.specs.Prelude.{◌≡◌, ℕ, ◌+◌, ◌*◌, List, [], ◌∷◌, map, length, sum_by, IfSome, MatchResult, Result}
-use Rattle.latex2mathml_formulas.specs.Grammar.{Sort, core, single, node, operand, Rule, gives, reads_part, of_one, of_two, of_degree, with_second, limits, with_limit, Read, Refused, Reads}
+use Rattle.std.specs.Prelude.{◌≡◌, ℕ, ◌+◌, ◌*◌, List, [], ◌∷◌, map, length, string_bytes, sum_by, IfSome, MatchResult, Result}
+use Rattle.latex2mathml_formulas.specs.Grammar.{Sort, core, single, node, operand, Rule, gives, of_one, of_degree, with_second, limits, under_slash, closing, stretching, ending, Read, Refused, Reads}
 use Rattle.latex2mathml_formulas.specs.Levels.{Standing, awaits_part, awaits_members, due_in, Level, part, Leads, Takes, Made, entered}
 use Rattle.latex2mathml_formulas.specs.Marks.{sign_token}
-use Rattle.latex2mathml_nodes.specs.Productions.{binomial_tree, overbraced, overbraced_with, underbraced, underbraced_with, grouped}
+use Rattle.latex2mathml_nodes.specs.Productions.{binomial_tree, overbraced, overbraced_with, stretched_of, underbraced, underbraced_with, grouped}
 use Rattle.latex2mathml_tokens.specs.Refusal.{refusal_of}
 use Rattle.latex2mathml_nodes.specs.Style.{styled}
-use Rattle.latex2mathml_tokens.specs.Tok.{Tok}
+use Rattle.latex2mathml_tokens.specs.Tok.{Tok, tok}
 use Rattle.latex2mathml_nodes.specs.Tree.{Tree, tree, operator, function, subscript, superscript, sub_sup, over_op, under_op, overset, underset, under, under_over, root, sqrt, frac}
 use Rattle.latex2mathml_tokens.specs.declared.attribute.LineThickness.TheVariants.{Medium}
 use Rattle.latex2mathml_tokens.specs.declared.error.LatexError.{LatexError}
@@ -17,7 +17,7 @@ use Rattle.latex2mathml_formulas.specs.declared.parse.frames.Due.{Due}
 use Rattle.latex2mathml_formulas.specs.declared.parse.frames.Due.TheVariants as due
 use Rattle.latex2mathml_formulas.specs.declared.parse.frames.Frame.{Frame}
 use Rattle.latex2mathml_formulas.specs.declared.parse.frames.Frame.TheVariants as frame
-use Rattle.latex2mathml_formulas.specs.declared.parse.frames.GroupEnd.TheVariants.{Brace, Bracket}
+use Rattle.latex2mathml_formulas.specs.declared.parse.frames.GroupEnd.TheVariants as group_end
 use Rattle.latex2mathml_formulas.specs.declared.parse.frames.Sign.{Sign}
 use Rattle.latex2mathml_formulas.specs.declared.parse.frames.Sign.TheVariants.{Sub, Sup}
 use Rattle.latex2mathml_formulas.specs.declared.parse.operands.Binary.{Binary}
@@ -93,14 +93,18 @@ with_limits op = limits (bare op) (limit op Sub) (limit op Sup) (both_limits op)
 
 -- the rule that was begun, at the part that is to be read next
 abbrev pub stands : Frame → Standing
-stands (frame.Group members) = awaits_members Brace (map tree members.items) (λ xs. gives (grouped xs))
-stands (frame.Degree members) = awaits_members Bracket (map tree members.items) of_degree
+stands (frame.Group members) = awaits_members group_end.Brace (map tree members.items) (λ xs. gives (grouped xs))
+stands (frame.Degree members) = awaits_members group_end.Bracket (map tree members.items) of_degree
 stands (frame.One rule) = awaits_part operand (λ x. gives (unary_tree rule x))
 stands (frame.First rule) = awaits_part operand (λ x. of_one (binary_tree rule x))
 stands (frame.Second rule x) = awaits_part operand (λ y. gives (binary_tree rule (tree x) y))
 stands (frame.Single rule) = awaits_part single (after_first rule)
 stands (frame.Behind rule x) = awaits_part single (λ y. gives (pair_tree rule (tree x) y))
 stands (frame.Limit name) = awaits_part single (λ x. gives (under (function name.now) x))
+stands frame.Slashed = awaits_part node under_slash
+stands (frame.Fence opening members) = awaits_members group_end.Right (map tree members.items) (closing opening.now)
+stands (frame.Stretch got) = awaits_part single (λ x. stretching (tok got) (stretched_of x))
+stands (frame.Environment name members) = awaits_members group_end.End (map tree members.items) (ending (string_bytes name))
 stands (frame.Script sign x) = awaits_part node (λ y. gives (script sign (tree x) y))
 
 -- what the frame is a rule of
@@ -149,6 +153,8 @@ abbrev pub weight : Frame → ℕ
 weight (frame.Group members) = 1
 weight (frame.Degree members) = 1
 weight (frame.First rule) = 5
+weight (frame.Fence opening members) = 1
+weight (frame.Environment name members) = 1
 weight f = 2
 
 abbrev pub state_weight : State → Due → ℕ

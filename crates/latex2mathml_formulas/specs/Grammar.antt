@@ -1,13 +1,13 @@
 -- The grammar: what a list of tokens is read as, or why it is refused. A table has a rule for each token that can begin
 -- a core; three small relations say how rules are read, and they are the same for every rule.
 use Rattle.std.specs.Prelude.{◌≡◌, ◌≢◌, ℕ, Bool, true, false, List, [], ◌∷◌, Option, Some, None, codes}
-use Rattle.std.specs.Str.{byte}
-use Rattle.latex2mathml_nodes.specs.Productions.{binomial_tree, overbraced, overbraced_with, underbraced, underbraced_with, grouped, prime_mark}
-use Rattle.latex2mathml_tokens.specs.Refusal.{Refusal, UnexpectedToken}
+use Rattle.std.specs.Str.{byte, encode_utf8_all}
+use Rattle.latex2mathml_nodes.specs.Productions.{binomial_tree, environment_tree, fence_of, overbraced, overbraced_with, stretched_of, underbraced, underbraced_with, grouped, prime_mark}
+use Rattle.latex2mathml_tokens.specs.Refusal.{Refusal, UnexpectedToken, MissingParensethis, UnknownEnvironment}
 use Rattle.latex2mathml_nodes.specs.Style.{styled}
-use Rattle.latex2mathml_tokens.specs.Tok.{Tok, EOF, Ampersand, Paren, LBrace, RBrace, NewLine, Frac, Underscore, Circumflex, Binom, Overset, Underset, Overbrace, Underbrace, Sqrt, Integral, Lim, Letter, Number, Operator, BigOp, Space, Style, Big, Over, Under, Function}
+use Rattle.latex2mathml_tokens.specs.Tok.{Tok, EOF, Begin, End, Ampersand, Paren, LBrace, RBrace, NewLine, Left, Right, Middle, Frac, Underscore, Circumflex, Binom, Overset, Underset, Overbrace, Underbrace, Sqrt, Integral, Lim, Letter, Number, Operator, BigOp, Space, Style, Big, Over, Under, Function, OperatorName, Slashed, Text}
 use Rattle.latex2mathml_tokens.specs.TokenText.{token_text}
-use Rattle.latex2mathml_nodes.specs.Tree.{Tree, number, letter, operator, function, space, other_operator, subscript, superscript, sub_sup, over_op, under_op, overset, underset, under, under_over, root, sqrt, frac, sized_paren, ampersand, new_line, undefined, no_trees, trees_of, row}
+use Rattle.latex2mathml_nodes.specs.Tree.{Tree, number, letter, operator, function, space, other_operator, subscript, superscript, sub_sup, over_op, under_op, overset, underset, under, under_over, root, sqrt, frac, fenced, sized_paren, words, ampersand, new_line, slashed, undefined, no_trees, trees_of, row}
 use Rattle.latex2mathml_tokens.specs.declared.attribute.LineThickness.TheVariants.{Medium}
 
 -- what a part of a rule may be: a core, a single, which is a core with what stands directly behind it, or a node, which
@@ -76,6 +76,41 @@ abbrev pub sized : List ℕ → Tok → Rule
 sized size (Paren text) = gives (sized_paren size text)
 sized size t = refuses (UnexpectedToken (Paren []) t)
 
+-- a name, which follows as its bytes: letters behind a token and before another, whatever the two are
+abbrev pub a_name : (List ℕ → Rule) → Rule
+a_name then = takes_token (λ before. takes_letters (λ cs. takes_token (λ behind. then (encode_utf8_all cs))))
+
+-- what follows the node under a slash: a token, whatever it is
+abbrev pub under_slash : Tree → Rule
+under_slash x = takes_token (λ behind. gives (slashed x))
+
+-- what follows a fence, where the token behind this one is a fence
+abbrev pub with_fence : Tok → Tok → Option (List ℕ) → (List ℕ → Rule) → Rule
+with_fence location t (Some text) then = then text
+with_fence location t None then = refuses (MissingParensethis location t)
+
+-- a fence, which must stand next behind this token, and what follows its text
+abbrev pub a_fence : Tok → (List ℕ → Rule) → Rule
+a_fence location then = takes_token (λ t. with_fence location t (fence_of t) then)
+
+-- what follows the members between two fences
+abbrev pub closing : List ℕ → List Tree → Rule
+closing opening xs = a_fence Right (λ close. gives (fenced opening close (grouped xs)))
+
+-- the stretched operator, or else the refusal of the token that was seen
+abbrev pub stretching : Tok → Option Tree → Rule
+stretching t (Some x) = gives x
+stretching t None = refuses (MissingParensethis Middle t)
+
+-- the environment of this name, where there is one
+abbrev pub environment : List ℕ → Option Tree → Rule
+environment name (Some x) = gives x
+environment name None = refuses (UnknownEnvironment name)
+
+-- what follows the members of an environment: a name, which need not be the same
+abbrev pub ending : List ℕ → List Tree → Rule
+ending name xs = a_name (λ again. environment name (environment_tree name (grouped xs)))
+
 -- the rule of a token that stands where a core begins
 abbrev pub rule : Tok → Rule
 rule (Number digits) = gives (number digits)
@@ -101,6 +136,12 @@ rule (Integral c) = limits (operator c) (subscript (operator c)) (superscript (o
 rule (Lim name) = reads_sign Underscore (with_limit name) (gives (function name))
 rule (Style variant) = of_one (styled variant)
 rule (Big size) = takes_token (sized size)
+rule Text = a_name (λ name. gives (words name))
+rule OperatorName = a_name (λ name. gives (function name))
+rule Slashed = takes_token (λ before. reads_part node under_slash)
+rule Left = a_fence Left (λ opening. reads_members Right (closing opening))
+rule Middle = sees_token (λ t. reads_part single (λ x. stretching t (stretched_of x)))
+rule Begin = a_name (λ name. reads_members End (ending name))
 rule t = gives (undefined (token_text t))
 
 -- a rule without parts: it gives its tree at once

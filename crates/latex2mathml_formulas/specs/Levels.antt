@@ -2,17 +2,19 @@
 -- functions; they know no frame. A continuation K says of each outcome what it leads to.
 use Rattle.std.specs.Prelude.{◌≢◌, List, [], ◌∷◌, ◌++◌, Some, codes}
 use Rattle.latex2mathml_formulas.specs.Grammar.{Sort, core, single, node, Rule, primed, scripted, Outcome, Read, Refused, Reads, ReadsRule, ReadsAll}
-use Rattle.latex2mathml_tokens.specs.Tok.{Tok, Paren, RBrace}
+use Rattle.latex2mathml_tokens.specs.Tok.{Tok, End, Paren, RBrace, Right}
 use Rattle.latex2mathml_nodes.specs.Tree.{Tree}
 use Rattle.latex2mathml_formulas.specs.declared.parse.frames.Due.{Due}
 use Rattle.latex2mathml_formulas.specs.declared.parse.frames.Due.TheVariants as due
 use Rattle.latex2mathml_formulas.specs.declared.parse.frames.GroupEnd.{GroupEnd}
-use Rattle.latex2mathml_formulas.specs.declared.parse.frames.GroupEnd.TheVariants.{Brace, Bracket}
+use Rattle.latex2mathml_formulas.specs.declared.parse.frames.GroupEnd.TheVariants as group_end
 
 -- the token that ends a group
 abbrev pub end_token : GroupEnd → Tok
-end_token Brace = RBrace
-end_token Bracket = Paren (codes "]")
+end_token group_end.Brace = RBrace
+end_token group_end.Bracket = Paren (codes "]")
+end_token group_end.Right = Right
+end_token group_end.End = End
 
 -- what a rule that was begun waits for: a part, or the members that follow those which were read; and what follows it
 pub data Standing : Type 0 where

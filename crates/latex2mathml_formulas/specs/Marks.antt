@@ -1,6 +1,7 @@
--- What stands next in a list of tokens: the marks that go on with what was read.
-use Rattle.std.specs.Prelude.{◌≡◌, ◌≢◌, List, [], ◌∷◌, Option, Some, None}
-use Rattle.latex2mathml_formulas.specs.Grammar.{prime}
+-- What stands next in a list of tokens: the marks that go on with what was read, and names.
+use Rattle.std.specs.Prelude.{◌≡◌, ◌≢◌, ℕ, List, [], ◌∷◌, Option, Some, None}
+use Rattle.std.specs.Str.{encode_utf8_all}
+use Rattle.latex2mathml_formulas.specs.Grammar.{AreLetters, prime}
 use Rattle.latex2mathml_tokens.specs.Tok.{Tok, Underscore, Circumflex}
 use Rattle.latex2mathml_formulas.specs.declared.parse.frames.Mark.{Mark}
 use Rattle.latex2mathml_formulas.specs.declared.parse.frames.Mark.TheVariants.{Prime, Script}
@@ -24,3 +25,11 @@ mark_token (Script sign) = sign_token sign
 abbrev pub MarkStands : Option Mark → Option Tok → Type 0
 MarkStands (Some mark) t = t ≡ Some (mark_token mark)
 MarkStands None t = (t ≢ Some prime) × (t ≢ Some Underscore) × (t ≢ Some Circumflex)
+
+-- letters stand next, whose characters have these bytes, and the other tokens are left behind them
+abbrev pub LettersStand : List ℕ → List Tok → List Tok → Type 0
+LettersStand bytes ts rest = (cs : List ℕ) × AreLetters cs ts rest × (bytes ≡ encode_utf8_all cs)
+
+-- letters of these bytes stand behind the next token, and the other tokens but one are left behind them
+abbrev pub NameStands : List ℕ → List Tok → List Tok → Type 0
+NameStands bytes ts rest = (ms : List Tok) × LettersStand bytes (rest_of ts) ms × (rest ≡ rest_of ms)

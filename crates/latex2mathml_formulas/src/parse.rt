@@ -1,13 +1,14 @@
 //! Tokens to trees: one loop over a stack of frames. Each step is proved to lead to what the grammar
 //! says of the tokens that were left before it.
-ghost use Rattle.std.specs.Prelude.{◌≡◌, ◌≢◌, ◌∷◌, ◌++◌, ◌+◌, ◌*◌, ◌<◌, ◌≤◌, [], IfOk, IsTrue, List, MatchOption, OnOk, Some, length, map, sum_by, vec_len};
+ghost use Rattle.std.specs.Prelude.{◌≡◌, ◌≢◌, ◌∷◌, ◌++◌, ◌+◌, ◌*◌, ◌<◌, ◌≤◌, [], IfOk, IsTrue, List, MatchOption, None, OnOk, Some, length, map, string_bytes, sum_by, vec_len};
 ghost use Rattle.latex2mathml_formulas.specs.Openers.{OpensFor, opens};
 ghost use Rattle.latex2mathml_formulas.specs.Frames.{Answers, Holds, after_first, awaits, enter, innermost, inside, rest_of_work, script as a_script, state_weight, weight, whole, with_limits, work};
-ghost use Rattle.latex2mathml_formulas.specs.Grammar.{Read, Reads, Refused, core as a_core, first, gives, is_plain, node as a_node, of_one, of_two, prime, reads_part, rule, single as a_single, a_root, sized, takes_token};
+ghost use Rattle.latex2mathml_formulas.specs.Grammar.{Read, Reads, Refused, closing, core as a_core, ending, first, gives, is_plain, node as a_node, of_one, of_two, prime, reads_part, rule, single as a_single, a_root, sized, stretching, takes_token, under_slash};
 ghost use Rattle.latex2mathml_formulas.specs.Marks.{sign_token};
+ghost use Rattle.latex2mathml_nodes.specs.Productions.{fence_of, stretched_of};
 ghost use Rattle.latex2mathml_formulas.specs.Levels.{Leads, Made, RuleLeads, Takes, end_token};
 ghost use Rattle.latex2mathml_tokens.specs.Refusal.{IfRefused};
-ghost use Rattle.latex2mathml_tokens.specs.Tok.{Tok, Lim, tok};
+ghost use Rattle.latex2mathml_tokens.specs.Tok.{Tok, Begin, Left, Lim, Middle, Slashed, tok};
 ghost use Rattle.latex2mathml_tokens.specs.TokenText.{token_text};
 ghost use Rattle.latex2mathml_nodes.specs.Tree.{function as a_function, tree, under, undefined};
 ghost use Rattle.latex2mathml_formulas.specs.Unread.{GoesOn};
@@ -106,7 +107,7 @@ fn next(alloc: Global, tokens: &mut Tokens, frames: &mut Frames) -> Result<State
         return at_end(alloc, due);
     };
     if due.ends_at(&token) {
-        return close(frames);
+        return close(alloc, tokens, frames);
     }
     begin(alloc, token, tokens, frames)
 }
@@ -127,15 +128,16 @@ fn at_end(alloc: Global, due: Due) -> Result<State, LatexError>
 }
 
 /// Ends the innermost group, whose end was taken.
-fn close(frames: &mut Frames) -> Result<State, LatexError>
+fn close(alloc: Global, tokens: &mut Tokens, frames: &mut Frames) -> Result<State, LatexError>
     requires { (end : GroupEnd) × (innermost frames.old.stack.items ≡ Due.Member end) }
-    ensures holds { (input : List Tok) (end : GroupEnd) (place : List Tok)
+    ensures holds { (input : List Tok) (end : GroupEnd)
         → innermost frames.old.stack.items ≡ Due.Member end
-        → Leads (inside (whole input) frames.old.stack.items) (end_token end ∷ place)
-        → Answers input frames.new.stack.items place result }
-    ensures greatest { frames.new.greatest ≤ frames.old.greatest }
-    ensures falls { IfOk result (λ next. rest_of_work next frames.new.stack.items
-        < sum_by weight frames.old.stack.items + 16) }
+        → Leads (inside (whole input) frames.old.stack.items) (end_token end ∷ tokens.old.list)
+        → Answers input frames.new.stack.items tokens.new.list result }
+    ensures counts { GoesOn tokens.old tokens.new }
+    ensures frames { OpensFor tokens.old tokens.new frames.old.greatest frames.new.greatest }
+    ensures falls { IfOk result (λ next. work next frames.new.stack.items tokens.new.list
+        < 16 * length tokens.old.list + sum_by weight frames.old.stack.items + 16) }
 {
     let Some(frame) = frames.pop() else {
         unreachable!()
@@ -145,8 +147,57 @@ fn close(frames: &mut Frames) -> Result<State, LatexError>
         Frame::Degree(members) => {
             put_back(Frame::One(Unary::Root(Node::of_group(members))), frames)
         }
+        Frame::Fence(opening, members) => close_fence(alloc, opening, members, tokens),
+        Frame::Environment(name, members) => end_environment(alloc, name, members, tokens),
         _ => unreachable!(),
     }
+}
+
+/// Ends a fence whose members were read.
+fn close_fence(
+    alloc: Global,
+    opening: &'static str,
+    members: Vec<Node>,
+    tokens: &mut Tokens,
+) -> Result<State, LatexError>
+    ensures holds { (input : List Tok) (fs : List Frame)
+        → RuleLeads (closing opening.now (map tree members.items)) (Made a_core (inside (whole input) fs)) tokens.old.list
+        → Answers input fs tokens.new.list result }
+    ensures counts { GoesOn tokens.old tokens.new }
+    ensures fewer { OpensFor tokens.old tokens.new 0 0 }
+    ensures falls { IfOk result (λ next. (d : Due) → 16 * length tokens.new.list + state_weight next d
+        ≤ 16 * length tokens.old.list + 4) }
+{
+    let token = tokens.take_or_end(alloc)?;
+    let Some(close) = fence_of(&token) else {
+        return Err(LatexError::MissingParensethis {
+            location: Token::Right,
+            got: token,
+        });
+    };
+    Ok(State::Core(Node::fenced(alloc, opening, close, members)?))
+}
+
+/// Ends an environment whose members were read.
+fn end_environment(
+    alloc: Global,
+    name: String,
+    members: Vec<Node>,
+    tokens: &mut Tokens,
+) -> Result<State, LatexError>
+    ensures holds { (input : List Tok) (fs : List Frame)
+        → RuleLeads (ending (string_bytes name) (map tree members.items)) (Made a_core (inside (whole input) fs)) tokens.old.list
+        → Answers input fs tokens.new.list result }
+    ensures counts { GoesOn tokens.old tokens.new }
+    ensures fewer { OpensFor tokens.old tokens.new 0 0 }
+    ensures falls { IfOk result (λ next. (d : Due) → 16 * length tokens.new.list + state_weight next d
+        ≤ 16 * length tokens.old.list + 4) }
+{
+    let _ = tokens.name(alloc)?;
+    let Some(x) = Node::environment(alloc, name.as_str(), members)? else {
+        return Err(LatexError::UnknownEnvironment(name));
+    };
+    Ok(State::Core(x))
 }
 
 /// Begins the rule of a token that was taken where a core is due.
@@ -180,6 +231,12 @@ fn begin(
         Token::Integral(c) => limits(alloc, Limited::Integral(c), tokens, frames),
         Token::Lim(name) => limit(alloc, name, tokens, frames),
         Token::Big(size) => sized(alloc, size, tokens),
+        Token::Text => Ok(State::Core(Node::words(tokens.name(alloc)?))),
+        Token::OperatorName => Ok(State::Core(Node::function(tokens.name(alloc)?))),
+        Token::Slashed => slash(alloc, tokens, frames),
+        Token::Left => open_fence(alloc, tokens, frames),
+        Token::Middle => stretch(alloc, tokens, frames),
+        Token::Begin => begin_environment(alloc, tokens, frames),
         other => Ok(State::Core(plain(alloc, other)?)),
     }
 }
@@ -262,6 +319,84 @@ fn sized(alloc: Global, size: &'static str, tokens: &mut Tokens) -> Result<State
             got,
         }),
     }
+}
+
+/// A slash, behind which a token is passed over.
+fn slash(alloc: Global, tokens: &mut Tokens, frames: &mut Frames) -> Result<State, LatexError>
+    ensures holds { (input : List Tok)
+        → RuleLeads (rule Slashed) (Made a_core (inside (whole input) frames.old.stack.items)) tokens.old.list
+        → Answers input frames.new.stack.items tokens.new.list result }
+    ensures counts { GoesOn tokens.old tokens.new }
+    ensures frames { OpensFor tokens.old tokens.new (frames.old.greatest + 1) frames.new.greatest }
+    ensures falls { IfOk result (λ next. work next frames.new.stack.items tokens.new.list
+        ≤ 16 * length tokens.old.list + sum_by weight frames.old.stack.items + 12) }
+{
+    tokens.skip(alloc)?;
+    open(Frame::Slashed, frames)
+}
+
+/// A fence, which must stand next, and members behind it.
+fn open_fence(alloc: Global, tokens: &mut Tokens, frames: &mut Frames) -> Result<State, LatexError>
+    ensures holds { (input : List Tok)
+        → RuleLeads (rule Left) (Made a_core (inside (whole input) frames.old.stack.items)) tokens.old.list
+        → Answers input frames.new.stack.items tokens.new.list result }
+    ensures counts { GoesOn tokens.old tokens.new }
+    ensures frames { OpensFor tokens.old tokens.new (frames.old.greatest + 1) frames.new.greatest }
+    ensures falls { IfOk result (λ next. work next frames.new.stack.items tokens.new.list
+        ≤ 16 * length tokens.old.list + sum_by weight frames.old.stack.items + 12) }
+{
+    let token = tokens.take_or_end(alloc)?;
+    let Some(opening) = fence_of(&token) else {
+        return Err(LatexError::MissingParensethis {
+            location: Token::Left,
+            got: token,
+        });
+    };
+    open(Frame::Fence(opening, Vec::new(alloc)), frames)
+}
+
+/// What a token prints as a fence, where it is one: a period prints nothing.
+fn fence_of(token: &Token) -> Option<&'static str>
+    ensures { MatchOption result (fence_of (tok token.now) ≡ None)
+        (λ text. fence_of (tok token.now) ≡ Some text.now) }
+{
+    match token {
+        Token::Paren(text) => Some(text),
+        Token::Operator('.') => Some(""),
+        _ => None,
+    }
+}
+
+/// An operator that is to be stretched. The token that stands next is kept for the refusal.
+fn stretch(alloc: Global, tokens: &mut Tokens, frames: &mut Frames) -> Result<State, LatexError>
+    ensures holds { (input : List Tok)
+        → RuleLeads (rule Middle) (Made a_core (inside (whole input) frames.old.stack.items)) tokens.old.list
+        → Answers input frames.new.stack.items tokens.new.list result }
+    ensures counts { GoesOn tokens.old tokens.new }
+    ensures frames { OpensFor tokens.old tokens.new (frames.old.greatest + 1) frames.new.greatest }
+    ensures falls { IfOk result (λ next. work next frames.new.stack.items tokens.new.list
+        ≤ 16 * length tokens.old.list + sum_by weight frames.old.stack.items + 12) }
+{
+    let got = tokens.seen(alloc)?;
+    open(Frame::Stretch(got), frames)
+}
+
+/// An environment: its name, and members behind it.
+fn begin_environment(
+    alloc: Global,
+    tokens: &mut Tokens,
+    frames: &mut Frames,
+) -> Result<State, LatexError>
+    ensures holds { (input : List Tok)
+        → RuleLeads (rule Begin) (Made a_core (inside (whole input) frames.old.stack.items)) tokens.old.list
+        → Answers input frames.new.stack.items tokens.new.list result }
+    ensures counts { GoesOn tokens.old tokens.new }
+    ensures frames { OpensFor tokens.old tokens.new (frames.old.greatest + 1) frames.new.greatest }
+    ensures falls { IfOk result (λ next. work next frames.new.stack.items tokens.new.list
+        ≤ 16 * length tokens.old.list + sum_by weight frames.old.stack.items + 12) }
+{
+    let name = tokens.name(alloc)?;
+    open(Frame::Environment(name, Vec::new(alloc)), frames)
 }
 
 /// Opens a frame, whose next part is due then.
@@ -434,6 +569,15 @@ fn deliver(
         Frame::Single(rule) => after_first(alloc, rule, x, tokens, frames),
         Frame::Behind(rule, first) => Ok(State::Core(rule.two(alloc, first, x)?)),
         Frame::Limit(name) => Ok(State::Core(limited(alloc, name, x)?)),
+        Frame::Slashed => slashed(alloc, x, tokens),
+        Frame::Fence(opening, members) => put_back(
+            Frame::Fence(opening, with(members, x)?),
+            frames,
+        ),
+        Frame::Stretch(got) => stretched(alloc, got, x),
+        Frame::Environment(name, members) => {
+            put_back(Frame::Environment(name, with(members, x)?), frames)
+        }
         Frame::Script(sign, target) => Ok(State::Part(script(alloc, sign, target, x)?)),
     }
 }
@@ -459,6 +603,36 @@ fn after_first(
         return put_back(Frame::Behind(rule, x), frames);
     }
     Ok(State::Core(rule.one(alloc, x)?))
+}
+
+/// A node with a slash, behind which a token is passed over.
+fn slashed(alloc: Global, x: Node, tokens: &mut Tokens) -> Result<State, LatexError>
+    ensures holds { (input : List Tok) (fs : List Frame)
+        → RuleLeads (under_slash (tree x)) (Made a_core (inside (whole input) fs)) tokens.old.list
+        → Answers input fs tokens.new.list result }
+    ensures counts { GoesOn tokens.old tokens.new }
+    ensures fewer { OpensFor tokens.old tokens.new 0 0 }
+    ensures falls { IfOk result (λ next. (d : Due) → 16 * length tokens.new.list + state_weight next d
+        ≤ 16 * length tokens.old.list + 4) }
+{
+    tokens.skip(alloc)?;
+    Ok(State::Core(Node::slashed(alloc, x)?))
+}
+
+/// An operator that is stretched, or the refusal of the token that stood behind `\middle`.
+fn stretched(alloc: Global, got: Token, x: Node) -> Result<State, LatexError>
+    ensures holds { (input place : List Tok) (fs : List Frame)
+        → RuleLeads (stretching (tok got) (stretched_of (tree x))) (Made a_core (inside (whole input) fs)) place
+        → Answers input fs place result }
+    ensures falls { IfOk result (λ next. (d : Due) → state_weight next d ≤ 4) }
+{
+    let Some(operator) = Node::stretched(alloc, x)? else {
+        return Err(LatexError::MissingParensethis {
+            location: Token::Middle,
+            got,
+        });
+    };
+    Ok(State::Core(operator))
 }
 
 /// The name of a function with a limit under it.

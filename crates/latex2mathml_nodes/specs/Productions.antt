@@ -1,7 +1,9 @@
--- Trees that a rule of the grammar makes of its parts, where they are more than one node of the parts.
-use Rattle.std.specs.Prelude.{ℕ, List, true, Option, Some, None, if◌then◌else◌, codes, [], ◌∷◌}
+-- Trees that a rule of the grammar makes of its parts, where they are more than one node of the parts, and the texts of
+-- fences.
+use Rattle.std.specs.Prelude.{ℕ, ◌==◌, List, [], true, Option, Some, None, if◌then◌else◌, codes, ◌∷◌}
 use Rattle.std.specs.Char.{encode_utf8}
-use Rattle.std.specs.Str.{bytes_eq}
+use Rattle.std.specs.Str.{byte, bytes_eq}
+use Rattle.latex2mathml_tokens.specs.Tok.{Tok, Operator, Paren}
 use Rattle.latex2mathml_nodes.specs.Tree.{Tree, Trees, operator, overset, underset, frac, row, fenced, stretched, other_operator, matrix, style, no_trees, more_trees, trees_of}
 use Rattle.latex2mathml_tokens.specs.declared.DisplayStyle.{DisplayStyle}
 use Rattle.latex2mathml_tokens.specs.declared.attribute.LineThickness.TheVariants.{Length}
@@ -40,6 +42,12 @@ underbraced c x = underset (operator c) x
 
 abbrev pub underbraced_with : ℕ → Tree → Tree → Tree
 underbraced_with c label x = underset (underset label (operator c)) x
+
+-- what a token prints as a fence: a parenthesis its text, and a period nothing
+abbrev pub fence_of : Tok → Option (List ℕ)
+fence_of (Paren text) = Some text
+fence_of (Operator c) = if c == byte "." then Some [] else None
+fence_of t = None
 
 -- the operator that grows with what stands around it, where the tree is an operator
 abbrev pub stretched_of : Tree → Option Tree

@@ -42,6 +42,8 @@ pub(crate) enum GroupEnd {
     Brace,
     /// `]`
     Bracket,
+    Right,
+    End,
 }
 
 impl GroupEnd {
@@ -51,6 +53,8 @@ impl GroupEnd {
         match self {
             GroupEnd::Brace => Token::RBrace,
             GroupEnd::Bracket => Token::Paren("]"),
+            GroupEnd::Right => Token::Right,
+            GroupEnd::End => Token::End,
         }
     }
 
@@ -61,6 +65,8 @@ impl GroupEnd {
         match self {
             GroupEnd::Brace => matches!(token, Token::RBrace),
             GroupEnd::Bracket => matches!(token, Token::Paren("]")),
+            GroupEnd::Right => matches!(token, Token::Right),
+            GroupEnd::End => matches!(token, Token::End),
         }
     }
 }
@@ -115,6 +121,14 @@ pub(crate) enum Frame {
     Behind(Pair, Node),
     /// The name of a function that waits for the limit under it.
     Limit(&'static str),
+    /// A slash that waits for what it strikes through.
+    Slashed,
+    /// The opening fence, and the members behind it.
+    Fence(&'static str, Vec<Node>),
+    /// The token behind `\\middle`, where the operator is due.
+    Stretch(Token),
+    /// The name of an environment, and its members.
+    Environment(String, Vec<Node>),
     /// What carries a script.
     Script(Sign, Node),
 }
@@ -127,9 +141,12 @@ impl Frame {
         match self {
             Frame::Group(_) => Due::Member(GroupEnd::Brace),
             Frame::Degree(_) => Due::Member(GroupEnd::Bracket),
+            Frame::Fence(_, _) => Due::Member(GroupEnd::Right),
+            Frame::Environment(_, _) => Due::Member(GroupEnd::End),
             Frame::One(_) | Frame::First(_) | Frame::Second(_, _) => Due::Node,
-            Frame::Single(_) | Frame::Behind(_, _) | Frame::Limit(_) => Due::Single,
-            Frame::Script(_, _) => Due::Node,
+            Frame::Slashed | Frame::Script(_, _) => Due::Node,
+            Frame::Single(_) | Frame::Behind(_, _) => Due::Single,
+            Frame::Limit(_) | Frame::Stretch(_) => Due::Single,
         }
     }
 }

@@ -1,10 +1,11 @@
 //! The tokens of a text, one ahead.
-ghost use Rattle.std.specs.Prelude.{◌≡◌, ◌≢◌, ◌+◌, ◌*◌, ◌≤◌, ◌∷◌, [], true, false, Some, IfOk, IfSome, MatchBool, MatchOption, OnErr, OnOk, length};
+ghost use Rattle.std.specs.Prelude.{◌≡◌, ◌≢◌, ◌+◌, ◌*◌, ◌≤◌, ◌∷◌, [], true, false, Some, IfOk, IfSome, MatchBool, MatchOption, OnErr, OnOk, length, string_bytes};
 ghost use Rattle.std.specs.Str.{chars};
 ghost use Rattle.latex2mathml_formulas.specs.Counts.{backslashes};
 ghost use Rattle.latex2mathml_formulas.specs.Cutting.{slices_of};
-ghost use Rattle.latex2mathml_formulas.specs.Grammar.{first, first_or_end};
-ghost use Rattle.latex2mathml_formulas.specs.Marks.{MarkStands, rest_of};
+ghost use Rattle.latex2mathml_formulas.specs.Grammar.{first, first_letter, first_or_end, letter_of};
+ghost use Rattle.latex2mathml_formulas.specs.Marks.{LettersStand, MarkStands, NameStands, rest_of};
+ghost use Rattle.latex2mathml_formulas.specs.Openers.{OpensFor};
 ghost use Rattle.latex2mathml_tokens.specs.Tok.{tok};
 ghost use Rattle.latex2mathml_formulas.specs.Unread.{GoesOn, token_list};
 
@@ -141,6 +142,68 @@ impl<'a> Tokens<'a> {
         }
     }
 
+    /// A copy of the next token, or `EOF` where none is left. It is left where it is.
+    pub(crate) fn seen(&mut self, alloc: Global) -> Result<Token, AllocError>
+        ensures token { IfOk result (λ token. tok token ≡ first_or_end self.old.list) }
+        ensures list { self.new.list ≡ self.old.list }
+        ensures counts { GoesOn self.old self.new }
+    {
+        if !self.look(alloc)? {
+            return Ok(Token::EOF);
+        }
+        match self.ahead() {
+            Some(token) => token.clone(alloc),
+            None => Ok(Token::EOF),
+        }
+    }
+
+    /// A name: a token, whatever it is, letters, and another token.
+    pub(crate) fn name(&mut self, alloc: Global) -> Result<String, AllocError>
+        ensures name { IfOk result (λ name. NameStands (string_bytes name) self.old.list self.new.list) }
+        ensures shorter { length self.new.list ≤ length self.old.list }
+        ensures counts { GoesOn self.old self.new }
+        ensures fewer { OpensFor self.old self.new 0 0 }
+    {
+        self.skip(alloc)?;
+        let name = self.letters(alloc)?;
+        self.skip(alloc)?;
+        Ok(name)
+    }
+
+    /// The letters that stand next, as many as there are, of any variant.
+    fn letters(&mut self, alloc: Global) -> Result<String, AllocError>
+        ensures letters { IfOk result (λ text. LettersStand (string_bytes text) self.old.list self.new.list) }
+        ensures shorter { length self.new.list ≤ length self.old.list }
+        ensures counts { GoesOn self.old self.new }
+        ensures fewer { OpensFor self.old self.new 0 0 }
+    {
+        let mut letters = String::new(alloc);
+        while let Some(c) = self.take_letter(alloc)? {
+            letters.push(c)?;
+        }
+        Ok(letters)
+    }
+
+    /// Takes the next token, where it is a letter, and answers its character.
+    fn take_letter(&mut self, alloc: Global) -> Result<Option<char>, AllocError>
+        ensures letter { IfOk result (λ letter. letter ≡ first_letter self.old.list) }
+        ensures list { IfOk result (λ letter. MatchOption letter
+            (self.new.list ≡ self.old.list)
+            (λ c. self.new.list ≡ rest_of self.old.list)) }
+        ensures kept { OnErr result (self.new.list ≡ self.old.list) }
+        ensures counts { GoesOn self.old self.new }
+    {
+        self.look(alloc)?;
+        let letter = match self.ahead() {
+            Some(token) => letter_of(token),
+            None => None,
+        };
+        if letter.is_some() {
+            let _ = self.next.take();
+        }
+        Ok(letter)
+    }
+
     /// Whether no token is left.
     pub(crate) fn is_at_end(&mut self, alloc: Global) -> Result<bool, AllocError>
         ensures list { self.new.list ≡ self.old.list }
@@ -180,6 +243,16 @@ fn mark_of(token: &Token) -> Option<Mark>
         Token::Operator('\'') => Some(Mark::Prime),
         Token::Underscore => Some(Mark::Script(Sign::Sub)),
         Token::Circumflex => Some(Mark::Script(Sign::Sup)),
+        _ => None,
+    }
+}
+
+/// The character of a letter.
+fn letter_of(token: &Token) -> Option<char>
+    ensures { result ≡ letter_of (tok token.now) }
+{
+    match token {
+        Token::Letter(c, _) => Some(*c),
         _ => None,
     }
 }

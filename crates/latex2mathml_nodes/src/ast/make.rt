@@ -1,8 +1,8 @@
 //! Nodes made of the parts that the parser has read.
-ghost use Rattle.std.specs.Prelude.{◌≡◌, ◌∷◌, [], Some, true, IfOk, map, option_map};
+ghost use Rattle.std.specs.Prelude.{◌≡◌, ◌∷◌, [], Some, true, IfOk, map, option_map, string_bytes};
 ghost use Rattle.std.specs.Char.{encode_utf8};
 ghost use Rattle.latex2mathml_nodes.specs.Productions.{binomial_tree, coefficient, environment_tree, fenced_matrix, matrix_of, overbraced, overbraced_with, spread, stretched_of, underbraced, underbraced_with, grouped, prime_mark};
-ghost use Rattle.latex2mathml_nodes.specs.Tree.{optional_tree, tree, trees, subscript, superscript, sub_sup, over_op, under_op, overset, underset, under, under_over, root, root_tree, sqrt, frac, fenced, sized_paren, slashed, stretched, style, row, trees_of};
+ghost use Rattle.latex2mathml_nodes.specs.Tree.{optional_tree, tree, trees, function, subscript, superscript, sub_sup, over_op, under_op, overset, underset, under, under_over, root, root_tree, sqrt, frac, fenced, sized_paren, slashed, stretched, style, row, trees_of, words};
 
 use crate::ast::Node;
 use latex2mathml_tokens::DisplayStyle;
@@ -20,6 +20,19 @@ impl Node {
             }
         }
         Node::Row(members)
+    }
+
+    /// The name of a function.
+    pub fn function(name: String) -> Node
+        ensures { tree result ≡ function (string_bytes name) }
+    {
+        Node::Function(name, None)
+    }
+
+    pub fn words(text: String) -> Node
+        ensures { tree result ≡ words (string_bytes text) }
+    {
+        Node::Text(text)
     }
 
     /// A node with a prime.

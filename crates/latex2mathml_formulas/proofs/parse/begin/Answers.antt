@@ -1,12 +1,13 @@
 use Rattle.std.proofs.Common.{ap, map, refl}
 use Rattle.latex2mathml_formulas.specs.Frames.{inside, whole}
-use Rattle.latex2mathml_formulas.specs.Grammar.{core}
-use Rattle.latex2mathml_nodes.specs.Tree.{tree}
+use Rattle.latex2mathml_formulas.specs.Grammar.{core, gives}
+use Rattle.latex2mathml_formulas.specs.Levels.{Made}
+use Rattle.latex2mathml_nodes.specs.Tree.{function, tree, words}
 use Rattle.latex2mathml_formulas.specs.declared.parse.frames.Frame.TheVariants.{Group, One, First, Single}
 use Rattle.latex2mathml_formulas.specs.declared.parse.operands.Binary.TheVariants as binary
 use Rattle.latex2mathml_formulas.specs.declared.parse.operands.Pair.TheVariants as pair
 use Rattle.latex2mathml_formulas.specs.declared.parse.operands.Unary.TheVariants as unary
-use Rattle.latex2mathml_formulas.proofs.Levels.{given_at}
+use Rattle.latex2mathml_formulas.proofs.Levels.{given, given_at, named}
 use Rattle.latex2mathml_formulas.proofs.Stacks.{members_awaited, of_token, part_awaited}
 use Rattle.latex2mathml_formulas.proofs.parse.begin.Goals as goal
 
@@ -78,3 +79,25 @@ returns-in-Lim-clause-holds c = λ input k. c.limit.ensures.holds input (of_toke
 
 pub returns-in-Big-clause-holds : goal.returns-in-Big-clause-holds
 returns-in-Big-clause-holds c = λ input k. c.sized.ensures.holds input c.args.frames.now.stack.items (of_token (inside (whole input) c.args.frames.now.stack.items) _ _ _ c.in-Big.is k)
+
+pub returns-in_ok-name-in-Text-clause-holds : goal.returns-in_ok-name-in-Text-clause-holds
+returns-in_ok-name-in-Text-clause-holds c = λ input k.
+    let l = inside (whole input) c.args.frames.now.stack.items in
+    given l core _ _ _ c.words.ensures (named (λ name. gives (words name)) (Made core l) _ _ _ c.in_ok-name-in-Text.ensures.name (of_token l _ _ _ c.in-Text.is k))
+
+pub returns-in_ok-name-in-OperatorName-clause-holds : goal.returns-in_ok-name-in-OperatorName-clause-holds
+returns-in_ok-name-in-OperatorName-clause-holds c = λ input k.
+    let l = inside (whole input) c.args.frames.now.stack.items in
+    given l core _ _ _ c.function.ensures (named (λ name. gives (function name)) (Made core l) _ _ _ c.in_ok-name-in-OperatorName.ensures.name (of_token l _ _ _ c.in-OperatorName.is k))
+
+pub returns-in-Slashed-clause-holds : goal.returns-in-Slashed-clause-holds
+returns-in-Slashed-clause-holds c = λ input k. c.slash.ensures.holds input (of_token (inside (whole input) c.args.frames.now.stack.items) _ _ _ c.in-Slashed.is k)
+
+pub returns-in-Left-clause-holds : goal.returns-in-Left-clause-holds
+returns-in-Left-clause-holds c = λ input k. c.open_fence.ensures.holds input (of_token (inside (whole input) c.args.frames.now.stack.items) _ _ _ c.in-Left.is k)
+
+pub returns-in-Middle-clause-holds : goal.returns-in-Middle-clause-holds
+returns-in-Middle-clause-holds c = λ input k. c.stretch.ensures.holds input (of_token (inside (whole input) c.args.frames.now.stack.items) _ _ _ c.in-Middle.is k)
+
+pub returns-in-Begin-clause-holds : goal.returns-in-Begin-clause-holds
+returns-in-Begin-clause-holds c = λ input k. c.begin_environment.ensures.holds input (of_token (inside (whole input) c.args.frames.now.stack.items) _ _ _ c.in-Begin.is k)

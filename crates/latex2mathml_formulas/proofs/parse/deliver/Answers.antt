@@ -1,7 +1,7 @@
 use Rattle.std.proofs.Common.{ap, refl}
 use Rattle.latex2mathml_formulas.specs.Frames.{inside, made, stands, whole}
 use Rattle.latex2mathml_formulas.specs.Grammar.{core, node}
-use Rattle.latex2mathml_formulas.specs.declared.parse.frames.Frame.TheVariants.{Group, Degree, Second}
+use Rattle.latex2mathml_formulas.specs.declared.parse.frames.Frame.TheVariants.{Group, Degree, Second, Fence, Environment}
 use Rattle.latex2mathml_formulas.proofs.Levels.{given, node_due}
 use Rattle.latex2mathml_formulas.proofs.Stacks.{map-push, member_added, part_awaited, part_delivered}
 use Rattle.latex2mathml_formulas.proofs.parse.deliver.Goals as goal
@@ -50,3 +50,23 @@ pub returns-in_ok-limited-in-Limit-clause-holds : goal.returns-in_ok-limited-in-
 returns-in_ok-limited-in-Limit-clause-holds c = λ input k.
     let l = inside (whole input) c.args.frames.now.stack.items in
     given l core _ _ _ c.in_ok-limited-in-Limit.ensures (part_delivered l c.args.frame _ _ _ _ _ (ap stands c.in-Limit.is) (ap made c.in-Limit.is) k)
+
+pub returns-in-Slashed-clause-holds : goal.returns-in-Slashed-clause-holds
+returns-in-Slashed-clause-holds c = λ input k.
+    let l = inside (whole input) c.args.frames.now.stack.items in
+    c.slashed.ensures.holds input c.args.frames.now.stack.items (part_delivered l c.args.frame _ _ _ _ _ (ap stands c.in-Slashed.is) (ap made c.in-Slashed.is) k)
+
+pub returns-in_ok-with-in-Fence-clause-holds : goal.returns-in_ok-with-in-Fence-clause-holds
+returns-in_ok-with-in-Fence-clause-holds c = λ input k.
+    c.put_back-in-Fence.ensures.holds input _
+    (member_added (inside (whole input) c.args.frames.now.stack.items) c.args.frame (Fence c.in-Fence.opening c.in_ok-with-in-Fence.field-0) _ _ _ _ _ _ (ap stands c.in-Fence.is) refl (ap made c.in-Fence.is) (map-push _ _ _ c.in_ok-with-in-Fence.ensures) k)
+
+pub returns-in-Stretch-clause-holds : goal.returns-in-Stretch-clause-holds
+returns-in-Stretch-clause-holds c = λ input k.
+    let l = inside (whole input) c.args.frames.now.stack.items in
+    c.stretched.ensures.holds input _ c.args.frames.now.stack.items (part_delivered l c.args.frame _ _ _ _ _ (ap stands c.in-Stretch.is) (ap made c.in-Stretch.is) k)
+
+pub returns-in_ok-with-in-Environment-clause-holds : goal.returns-in_ok-with-in-Environment-clause-holds
+returns-in_ok-with-in-Environment-clause-holds c = λ input k.
+    c.put_back-in-Environment.ensures.holds input _
+    (member_added (inside (whole input) c.args.frames.now.stack.items) c.args.frame (Environment c.in-Environment.name c.in_ok-with-in-Environment.field-0) _ _ _ _ _ _ (ap stands c.in-Environment.is) refl (ap made c.in-Environment.is) (map-push _ _ _ c.in_ok-with-in-Environment.ensures) k)

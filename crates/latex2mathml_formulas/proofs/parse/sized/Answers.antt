@@ -1,6 +1,6 @@
 use Rattle.std.proofs.Common.{ap, sym, ◌∙◌}
 use Rattle.latex2mathml_formulas.specs.Frames.{inside, whole}
-use Rattle.latex2mathml_formulas.specs.Grammar.{core, first_or_end, sized}
+use Rattle.latex2mathml_formulas.specs.Grammar.{core, sized}
 use Rattle.latex2mathml_formulas.specs.Levels.{Made}
 use Rattle.latex2mathml_tokens.specs.Tok.{tok}
 use Rattle.latex2mathml_formulas.proofs.Levels.{given, skipped}

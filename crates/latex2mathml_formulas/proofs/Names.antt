@@ -1,0 +1,43 @@
+-- Names that are taken letter by letter.
+use Rattle.std.proofs.Common.{◌≡◌, ℕ, List, [], ◌∷◌, ◌++◌, Option, None, Some, refl, sym, subst, ap, ◌∙◌, append_assoc, append-nil}
+use Rattle.std.specs.Prelude.{MatchOption}
+use Rattle.std.specs.Char.{encode_utf8}
+use Rattle.std.specs.Str.{encode_utf8_all}
+use Rattle.std.proofs.lemmas.Str.{encodes-append}
+use Rattle.latex2mathml_formulas.specs.Grammar.{AreLetters, first_letter}
+use Rattle.latex2mathml_formulas.specs.Marks.{LettersStand, rest_of}
+use Rattle.latex2mathml_tokens.specs.Tok.{Tok}
+
+-- letters of these bytes were taken, and whatever letters stand next belong to them
+abbrev pub AreTaken : List ℕ → List Tok → List Tok → Type 0
+AreTaken bytes old place = (taken : List ℕ) × (bytes ≡ encode_utf8_all taken) × ((cs : List ℕ) (to : List Tok) → AreLetters cs place to → AreLetters (taken ++ cs) old to)
+
+pub none_taken : (bytes : List ℕ) (l : List Tok) → bytes ≡ [] → AreTaken bytes l l
+none_taken bytes l e = ([], e, λ cs to d. d)
+
+one_letter : (c : ℕ) (cs : List ℕ) (place next to : List Tok) → first_letter place ≡ Some c → next ≡ rest_of place → AreLetters cs next to → AreLetters (c ∷ cs) place to
+one_letter c cs [] next to h same d = absurd cc
+one_letter c cs (t ∷ ts) next to h same d = (t, (ts, refl, h, subst (λ l. AreLetters cs l to) same d))
+
+-- a letter was taken
+pub letter_taken : (bytes more : List ℕ) (c : ℕ) (old place next : List Tok) → first_letter place ≡ Some c → next ≡ rest_of place → more ≡ bytes ++ encode_utf8 c → AreTaken bytes old place → AreTaken more old next
+letter_taken bytes more c old place next h same grown k =
+    let last : encode_utf8 c ≡ encode_utf8_all (c ∷ []) = sym (append-nil (encode_utf8 c)) in
+    let spelled = ap (λ bs. bs ++ encode_utf8 c) k.1 ∙ ap (λ bs. encode_utf8_all k.0 ++ bs) last ∙ sym (encodes-append k.0 (c ∷ [])) in
+    (k.0 ++ c ∷ [], grown ∙ spelled, λ cs to d. subst (λ ds. AreLetters ds old to) (sym (append_assoc k.0 (c ∷ []) cs)) (k.2 (c ∷ cs) to (one_letter c cs place next to h same d)))
+
+-- no letter stands next
+pub all_taken : (bytes : List ℕ) (old place to : List Tok) → first_letter place ≡ None → to ≡ place → AreTaken bytes old place → LettersStand bytes old to
+all_taken bytes old place to h same k =
+    let ends : AreLetters [] place to = (sym same, subst (λ l. first_letter l ≡ None) (sym same) h) in
+    (k.0, subst (λ cs. AreLetters cs old to) (append-nil k.0) (k.2 [] to ends), k.1)
+
+-- what was found of the token that stands next
+
+pub found_taken : (found : Option ℕ) (c : ℕ) (place next : List Tok) → found ≡ Some c → MatchOption found (next ≡ place) (λ d. next ≡ rest_of place) → next ≡ rest_of place
+found_taken (Some d) c place next e h = h
+found_taken None c place next e h = absurd cc
+
+pub none_found : (found : Option ℕ) (place next : List Tok) → found ≡ None → MatchOption found (next ≡ place) (λ d. next ≡ rest_of place) → next ≡ place
+none_found (Some d) place next e h = absurd cc
+none_found None place next e h = h
