@@ -35,6 +35,10 @@ fn comparisons(rt: HostRuntime) -> Result<(), Fail> {
     assert_eq!(rt; few.tokens, 3);
     assert!(rt; few.comparisons >= 3);
     assert!(rt; few.comparisons <= 27);
+    let fraction = steps(rt.alloc(), "\\frac12");
+    assert_eq!(rt; fraction.tokens, 3);
+    assert!(rt; fraction.comparisons >= 1);
+    assert!(rt; fraction.comparisons <= 9);
     Ok(())
 }
 
@@ -44,6 +48,11 @@ fn refused(rt: HostRuntime) -> Result<(), Fail> {
     assert!(rt; result.is_err());
     assert!(rt; steps.tokens <= 3);
     assert_eq!(rt; steps.comparisons, 0);
+    let formula = "\\left< x \\right>";
+    let (result, steps) = latex_to_mathml_counted(rt.alloc(), formula, DisplayStyle::Inline);
+    assert!(rt; result.is_err());
+    assert!(rt; steps.tokens <= 5);
+    assert!(rt; steps.comparisons <= 18);
     Ok(())
 }
 

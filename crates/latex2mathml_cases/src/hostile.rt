@@ -112,6 +112,17 @@ fn deep_scripts(rt: HostRuntime) -> Result<(), Fail> {
     Ok(())
 }
 
+#[test]
+fn deep_fences(rt: HostRuntime) -> Result<(), Fail> {
+    let alloc = rt.alloc();
+    let formula = nested(alloc, r"\left(", "x", r"\right)", DEEP)?;
+    let opening = r#"<mrow><mo stretchy="true" form="prefix">(</mo>"#;
+    let close = r#"<mo stretchy="true" form="postfix">)</mo></mrow>"#;
+    let contents = nested(alloc, opening, "<mi>x</mi>", close, DEEP)?;
+    assert!(rt; has(alloc, formula.as_str(), contents.as_str())?);
+    Ok(())
+}
+
 /// A formula is a function of its text: asked twice, it answers the same.
 #[test]
 fn answers_again(rt: HostRuntime) -> Result<(), Fail> {

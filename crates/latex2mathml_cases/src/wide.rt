@@ -43,6 +43,24 @@ fn many_groups(rt: HostRuntime) -> Result<(), Fail> {
     Ok(())
 }
 
+/// A matrix of so many rows, and an empty one behind them.
+#[test]
+fn many_rows(rt: HostRuntime) -> Result<(), Fail> {
+    let alloc = rt.alloc();
+    let rows = 100_000;
+    let formula = framed(alloc, r"\begin{matrix}", r"a\\", rows, r"\end{matrix}")?;
+    let (before, after) = ("<mtable><mtr><mtd>", "</mtd></mtr></mtable>");
+    let contents = framed(
+        alloc,
+        before,
+        "<mi>a</mi></mtd></mtr><mtr><mtd>",
+        rows,
+        after,
+    )?;
+    assert!(rt; has(alloc, formula.as_str(), contents.as_str())?);
+    Ok(())
+}
+
 /// A row of so many letters, and `last` behind them.
 fn wide_row(alloc: Global, count: usize, last: Node) -> Result<Node, AllocError> {
     let mut members = Vec::new(alloc);

@@ -125,7 +125,7 @@ pub(crate) enum Frame {
     Slashed,
     /// The opening fence, and the members behind it.
     Fence(&'static str, Vec<Node>),
-    /// The token behind `\\middle`, where the operator is due.
+    /// The token behind `\middle`, where the operator is due.
     Stretch(Token),
     /// The name of an environment, and its members.
     Environment(String, Vec<Node>),

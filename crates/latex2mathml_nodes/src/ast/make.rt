@@ -29,6 +29,7 @@ impl Node {
         Node::Function(name, None)
     }
 
+    /// Words, as they stand.
     pub fn words(text: String) -> Node
         ensures { tree result ≡ words (string_bytes text) }
     {
