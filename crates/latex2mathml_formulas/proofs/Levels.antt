@@ -1,8 +1,9 @@
 -- Where the outcome of a rule leads, step by step, whatever the rule is.
 use Rattle.std.proofs.Common.{◌≡◌, ◌≢◌, ◌⊎◌, ℕ, inl, inr, List, [], ◌∷◌, ◌++◌, Option, Some, None, refl, sym, ap, subst, ◌∙◌, append_assoc, append-nil}
+use Rattle.std.specs.Prelude.{IsNone}
 use Rattle.std.specs.Str.{encode_utf8_all}
 use Rattle.latex2mathml_nodes.specs.Productions.{prime_mark}
-use Rattle.latex2mathml_formulas.specs.Grammar.{Sort, core, single, node, Rule, gives, reads_part, reads_members, reads_sign, takes_token, sees_token, takes_letters, rule, a_name, first_or_end, AreLetters, prime, primed, scripted, Outcome, Read, Refused, first, Reads, core_at_end, core_begun, single_read, node_read, rule_gives, token_taken, token_at_end, token_seen, letters_taken, part_read, part_refused, members_read, members_refused, sign_stands, sign_missing, ReadsAll, group_ends, never_closed, member_read, later_refused, member_refused}
+use Rattle.latex2mathml_formulas.specs.Grammar.{Sort, core, single, node, Rule, gives, reads_part, reads_members, reads_sign, takes_token, sees_token, takes_letters, rule, a_name, first_or_end, AreLetters, prime, primed, scripted, Outcome, Read, Refused, first, Reads, ReadsRule, core_at_end, core_begun, single_read, node_read, rule_gives, token_taken, token_at_end, token_seen, letters_taken, part_read, part_refused, members_read, members_refused, sign_stands, sign_missing, ReadsAll, group_ends, never_closed, member_read, later_refused, member_refused}
 use Rattle.latex2mathml_formulas.specs.Frames.{script}
 use Rattle.latex2mathml_formulas.specs.Marks.{LettersStand, MarkStands, NameStands, mark_token, rest_of, sign_token}
 use Rattle.latex2mathml_formulas.specs.Levels.{Standing, awaits_part, awaits_members, end_token, MayBegin, RuleLeads, Then, As, behind, Level, part, members, due_of, sort_of, Leads, Takes, Made, entered}
@@ -279,3 +280,18 @@ unclosed (part node K) end e k = cc
 unclosed (members other K) end e k =
     let same : end_token end ≡ end_token other = ap end_token cc in
     k _ (subst (λ t. ReadsAll (Some (end_token other)) [] (Refused (UnexpectedToken t EOF))) (sym same) never_closed)
+
+-- where no mark was found, no sign stands next
+pub unmarked : (found : Option Mark) (l m : List Tok) → IsNone found → m ≡ l → MarkStands found (first l) → (first m ≢ Some prime) × (first m ≢ Some Underscore) × (first m ≢ Some Circumflex)
+unmarked None l m h same stands = subst (λ k. (first k ≢ Some prime) × (first k ≢ Some Underscore) × (first k ≢ Some Circumflex)) (sym same) stands
+unmarked (Some mark) l m h same stands = absurd cc
+
+-- a rule without parts is read at once
+pub gives_read : (r : Rule) (x : Tree) (place : List Tok) → r ≡ gives x → ReadsRule r place (Read x place)
+gives_read r x place is = subst (λ k. ReadsRule k place (Read x place)) (sym is) rule_gives
+
+-- a token without parts, behind which no mark stands, is a node
+pub lone_node : (t : Tok) (x : Tree) (l place : List Tok) → l ≡ t ∷ place → rule t ≡ gives x → first place ≢ Some prime → first place ≢ Some Underscore → first place ≢ Some Circumflex → Reads node l (Read x place)
+lone_node t x l place stood is h i j =
+    subst (λ k. Reads node k (Read x place)) (sym stood)
+    (node_read (part_read (single_read (part_read (core_begun (gives_read (rule t) x place is)) (sign_missing h rule_gives))) (sign_missing i (sign_missing j rule_gives))))

@@ -4,7 +4,7 @@ use Rattle.std.specs.Prelude.{MatchOption, String, option_map}
 use Rattle.std.proofs.lemmas.List.{map-append}
 use Rattle.std.proofs.lemmas.List.Sums.{sum_by-append}
 use Rattle.latex2mathml_formulas.specs.Frames.{Holds, stands, made, awaits, due_inside, innermost, enter, inside, whole, weight, state_weight, rest_of_work}
-use Rattle.latex2mathml_formulas.specs.Grammar.{Sort, core, node, Rule, reads_part, reads_members, rule, Outcome, Read, Refused, Reads}
+use Rattle.latex2mathml_formulas.specs.Grammar.{Sort, core, node, Rule, gives, reads_part, reads_members, rule, Outcome, Read, Refused, Reads}
 use Rattle.latex2mathml_formulas.specs.Levels.{Standing, awaits_part, awaits_members, due_in, end_token, MayBegin, RuleLeads, Level, due_of, Leads, Takes, Made, entered}
 use Rattle.latex2mathml_tokens.specs.Refusal.{Refusal, UnexpectedToken}
 use Rattle.latex2mathml_tokens.specs.Tok.{Tok, EOF, tok}
@@ -19,7 +19,7 @@ use Rattle.latex2mathml_formulas.specs.declared.parse.frames.Frame.{Frame}
 use Rattle.latex2mathml_formulas.specs.declared.parse.frames.Frame.TheVariants as frame
 use Rattle.latex2mathml_formulas.specs.declared.parse.frames.GroupEnd.{GroupEnd}
 use Rattle.latex2mathml_tokens.specs.declared.token.Token.{Token}
-use Rattle.latex2mathml_formulas.proofs.Levels.{part_leads, begun, begun_at_end, group_begun, group_grown, group_ended, Denies, made_refused, entered_denies, unclosed}
+use Rattle.latex2mathml_formulas.proofs.Levels.{part_leads, gives_read, begun, begun_at_end, group_begun, group_grown, group_ended, Denies, made_refused, entered_denies, unclosed}
 
 -- what is due is what the innermost frame awaits
 pub due_inside_push : (fs : List Frame) (f : Frame) (d : Due) → due_inside d (fs ++ f ∷ []) ≡ awaits f
@@ -183,6 +183,10 @@ no_end d fs place to t e same may = subst (λ p. MayBegin (innermost fs) p) (sym
 pub node_begun : (input to : List Tok) (fs : List Frame) (t : Tok) → fs ≡ [] → input ≡ t ∷ to → RuleLeads (rule t) (Made core (inside (whole input) fs)) to
 node_begun input to fs t none same =
     subst (λ hs. RuleLeads (rule t) (Made core (inside (whole input) hs)) to) (sym none) (token_begun input [] input to t tt same (λ o d. d))
+
+-- a token without parts begins a node of the formula
+pub symbol_begun : (input to : List Tok) (fs : List Frame) (t : Tok) (x : Node) → fs ≡ [] → input ≡ t ∷ to → rule t ≡ gives (tree x) → Holds input fs to (state.Core x)
+symbol_begun input to fs t x none same is = node_begun input to fs t none same _ (gives_read (rule t) (tree x) to is)
 
 -- a node of the formula is read
 pub node_ended : (input : List Tok) (fs : List Frame) (place : List Tok) (s : State) (x : Node) → s ≡ state.End x → Holds input fs place s → (fs ≡ []) × Reads node input (Read (tree x) place)

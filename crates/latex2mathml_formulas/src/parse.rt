@@ -1,6 +1,6 @@
 //! Tokens to trees: one loop over a stack of frames. Each step is proved to lead to what the grammar
 //! says of the tokens that were left before it.
-ghost use Rattle.std.specs.Prelude.{◌≡◌, ◌≢◌, ◌∷◌, ◌++◌, ◌+◌, ◌*◌, ◌<◌, ◌≤◌, [], IfOk, IsTrue, List, MatchOption, None, OnOk, Some, length, map, string_bytes, sum_by, vec_len};
+ghost use Rattle.std.specs.Prelude.{◌≡◌, ◌≢◌, ◌∷◌, ◌++◌, ◌+◌, ◌*◌, ◌<◌, ◌≤◌, [], IfOk, IsTrue, List, MatchOption, MatchResult, None, OnOk, Some, length, map, string_bytes, sum_by, vec_len};
 ghost use Rattle.latex2mathml_formulas.specs.Openers.{OpensFor, opens};
 ghost use Rattle.latex2mathml_formulas.specs.Frames.{Answers, Holds, after_first, awaits, enter, innermost, inside, rest_of_work, script as a_script, state_weight, weight, whole, with_limits, work};
 ghost use Rattle.latex2mathml_formulas.specs.Grammar.{Read, Reads, Refused, closing, core as a_core, ending, first, gives, is_plain, node as a_node, of_one, of_two, prime, reads_part, rule, single as a_single, a_root, sized, stretching, takes_token, under_slash};
@@ -61,10 +61,40 @@ pub(crate) fn next_node(
     let Some(token) = tokens.take(alloc)? else {
         return Ok(None);
     };
-    let mut state = begin(alloc, token, tokens, frames)?;
+    // Most nodes are one token, and open no frame.
+    match symbol(token) {
+        Ok(x) => {
+            if tokens.mark(alloc)?.is_none() {
+                return Ok(Some(x));
+            }
+            Ok(Some(rest_of_node(alloc, State::Core(x), tokens, frames)?))
+        }
+        Err(token) => {
+            let state = begin(alloc, token, tokens, frames)?;
+            Ok(Some(rest_of_node(alloc, state, tokens, frames)?))
+        }
+    }
+}
+
+/// Goes on until the node of the formula is read.
+#[inline(never)]
+fn rest_of_node(
+    alloc: Global,
+    begun: State,
+    tokens: &mut Tokens,
+    frames: &mut Frames,
+) -> Result<Node, LatexError>
+    ensures node { (input : List Tok) → Holds input frames.old.stack.items tokens.old.list begun
+        → IfOk result (λ x. (frames.new.stack.items ≡ []) × Reads a_node input (Read (tree x) tokens.new.list)) }
+    ensures refused { (input : List Tok) → Holds input frames.old.stack.items tokens.old.list begun
+        → IfRefused result (λ r. Reads a_node input (Refused r)) }
+    ensures counts { GoesOn tokens.old tokens.new }
+    ensures frames { OpensFor tokens.old tokens.new frames.old.greatest frames.new.greatest }
+{
+    let mut state = begun;
     'steps: loop {
         match state {
-            State::End(node) => return Ok(Some(node)),
+            State::End(node) => return Ok(node),
             going_on => state = step(alloc, going_on, tokens, frames)?,
         }
     }
@@ -109,7 +139,10 @@ fn next(alloc: Global, tokens: &mut Tokens, frames: &mut Frames) -> Result<State
     if due.ends_at(&token) {
         return close(alloc, tokens, frames);
     }
-    begin(alloc, token, tokens, frames)
+    match symbol(token) {
+        Ok(x) => Ok(State::Core(x)),
+        Err(token) => begin(alloc, token, tokens, frames),
+    }
 }
 
 /// What is due where no token is left.
@@ -664,6 +697,19 @@ fn script(alloc: Global, sign: Sign, target: Node, x: Node) -> Result<Node, Allo
     match sign {
         Sign::Sub => Node::subscript(alloc, target, x),
         Sign::Sup => Node::superscript(alloc, target, x),
+    }
+}
+
+/// The node of a token of the kinds that there are most of, or the token itself.
+fn symbol(token: Token) -> Result<Node, Token>
+    ensures { MatchResult result (λ x. rule (tok token) ≡ gives (tree x)) (λ other. tok other ≡ tok token) }
+{
+    match token {
+        Token::Number(digits) => Ok(Node::Number(digits)),
+        Token::Letter(c, variant) => Ok(Node::Letter(c, variant)),
+        Token::Operator(c) => Ok(Node::Operator(c)),
+        Token::Paren(text) => Ok(Node::OtherOperator(text)),
+        other => Err(other),
     }
 }
 
