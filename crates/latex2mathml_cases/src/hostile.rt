@@ -1,7 +1,8 @@
 //! Inputs that nobody would write.
 
 use crate::formulas::has;
-use latex2mathml::{DisplayStyle, latex_to_mathml};
+use latex2mathml::token::Token;
+use latex2mathml::{DisplayStyle, LatexError, latex_to_mathml};
 use std::alloc::{AllocError, Global};
 use std::test::Fail;
 
@@ -130,5 +131,37 @@ fn answers_again(rt: HostRuntime) -> Result<(), Fail> {
     let once = latex_to_mathml(alloc, "\\foo <1.5", DisplayStyle::Block)?;
     let again = latex_to_mathml(alloc, "\\foo <1.5", DisplayStyle::Block)?;
     assert!(rt; once == again);
+    Ok(())
+}
+
+/// Whether the formula is answered, or refused because it ends too soon.
+fn is_answered_or_too_short(alloc: Global, formula: &str) -> bool {
+    match latex_to_mathml(alloc, formula, DisplayStyle::Inline) {
+        Ok(_) => true,
+        Err(
+            LatexError::UnexpectedToken {
+                expected: _,
+                got: Token::EOF,
+            },
+        ) => true,
+        Err(_) => false,
+    }
+}
+
+/// A formula that was cut off anywhere.
+#[test]
+fn beginnings(rt: HostRuntime) -> Result<(), Fail> {
+    let mut beginning = String::new(rt.alloc());
+    for c in r"\erf ( x ) = \frac{ 2 }{ \sqrt{ \pi } } \int_0^x e^{- t^2} \, dt".chars() {
+        assert!(rt;
+            is_answered_or_too_short(rt.alloc(), beginning.as_str()),
+            "{beginning}"
+        );
+        beginning.push(c)?;
+    }
+    assert!(rt;
+        is_answered_or_too_short(rt.alloc(), beginning.as_str()),
+        "{beginning}"
+    );
     Ok(())
 }
