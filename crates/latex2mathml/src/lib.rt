@@ -11,11 +11,13 @@ ghost use Rattle.latex2mathml_tokens.specs.Refusal.{IfRefused, refusal_of};
 
 mod document;
 mod error;
+mod files;
 mod input;
 pub mod laws;
 mod stream;
 
 pub use error::{FileFault, WriteCause};
+pub use files::{Unconverted, convert_html};
 pub use input::{Reading, read_document};
 pub use latex2mathml_formulas::{Steps, latex_to_mathml, latex_to_mathml_counted};
 pub use latex2mathml_nodes::ast;

@@ -3,7 +3,7 @@ use Rattle.std.proofs.Common.{◌≡◌, ℕ, List, Result, Ok, Err, IfErr, OnOk
 use Rattle.std.specs.Io.KnownBytes.{Appends}
 use Rattle.latex2mathml.specs.Streams.{CanGoOn, IsStopped, Output}
 use Rattle.latex2mathml.specs.declared.error.FileFault.{FileFault}
-use Rattle.latex2mathml.specs.declared.error.FileFault.TheVariants.{Read, NotText, Refused, Write}
+use Rattle.latex2mathml.specs.declared.error.FileFault.TheVariants.{List as Unlisted, Entry, TooDeep, Read, NotText, Refused, Create, Write}
 use Rattle.latex2mathml_app.specs.Serving.{IsPut, Whole, Stopped}
 
 -- a writing of a line ends in one of these ways
@@ -17,6 +17,10 @@ put line errors (Err (Write written cause)) taken ready stopped = Stopped writte
 put line errors (Err Read) taken ready stopped = absurd stopped
 put line errors (Err NotText) taken ready stopped = absurd stopped
 put line errors (Err (Refused error)) taken ready stopped = absurd stopped
+put line errors (Err Unlisted) taken ready stopped = absurd stopped
+put line errors (Err Entry) taken ready stopped = absurd stopped
+put line errors (Err TooDeep) taken ready stopped = absurd stopped
+put line errors (Err Create) taken ready stopped = absurd stopped
 
 -- what holds of a line holds of the line that it is
 pub put_same : (line text : List ℕ) (errors : Output) → line ≡ text → IsPut line errors → IsPut text errors
