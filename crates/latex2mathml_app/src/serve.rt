@@ -5,9 +5,7 @@ ghost use Rattle.latex2mathml.specs.Streams.{CanGoOn};
 ghost use Rattle.latex2mathml_app.specs.Serving.{AreFilesTold, ArePut, AskFor, AskForFiles, AskForNoFiles, AskForNoJob, IsPut, IsServed, fault_line, unconverted_line, word_of, wrong_words};
 
 use crate::job::{Job, run};
-use latex2mathml::{
-    FileFault, LatexError, Sink, Source, Unconverted, convert_html, write_document,
-};
+use latex2mathml::{FileFault, Sink, Source, Unconverted, convert_html, write_document};
 use std::alloc::Global;
 use std::rt::Files;
 use thiserror::Error;
@@ -16,6 +14,9 @@ use thiserror::Error;
 #[derive(Debug, Drop, Error)]
 #[error("usage: latex2mathml inline | block | document | html PATH")]
 struct Usage;
+
+/// The line that tells want of memory, for which no memory has to be found.
+const OUT_OF_MEMORY: &str = "LaTeX2MathML Error: Memory could not be found.\n";
 
 const DONE: u8 = 0;
 
@@ -139,16 +140,14 @@ fn convert<F: Files + Alloc + Clone + Drop, E: Sink>(
         result }
 {
     let Ok(unconverted) = convert_html(rt, alloc, path) else {
-        let fault = FileFault::Refused(LatexError::OutOfMemory);
-        put_fault(alloc, errors, &fault);
+        put_line(errors, OUT_OF_MEMORY);
         return REFUSED;
     };
-    put_all_unconverted(alloc, errors, unconverted.as_slice());
     if unconverted.is_empty() {
-        DONE
-    } else {
-        REFUSED
+        return DONE;
     }
+    put_all_unconverted(alloc, errors, unconverted.as_slice());
+    REFUSED
 }
 
 /// Puts out a line for each of these, up to one that the stream does not take whole.
