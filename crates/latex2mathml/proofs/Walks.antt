@@ -1,5 +1,5 @@
 -- Why a document was not converted, and what the walks of the entries of a directory list.
-use Rattle.std.proofs.Common.{◌≡◌, ◌≢◌, ℕ, ◌+◌, ◌-◌, ◌<◌, ◌≤◌, Bool, List, [], ◌∷◌, ◌++◌, Result, Ok, Err, All, IfErr, OnOk, String, length, take, refl, sym, ap, ◌∙◌, subst, append-nil, append_assoc, arith, string_bytes, slice_index_or}
+use Rattle.std.proofs.Common.{◌≡◌, ◌≢◌, ℕ, ◌+◌, ◌-◌, ◌<◌, ◌≤◌, Bool, List, [], ◌∷◌, ◌++◌, Result, Ok, Err, All, IfErr, OnOk, String, length, take, refl, sym, ap, ◌∙◌, subst, append-nil, append_assoc, string_bytes, slice_index_or}
 use Rattle.std.proofs.lemmas.List.{take_all, take_more}
 use Rattle.std.specs.declared.alloc.Global.{Global}
 use Rattle.latex2mathml.specs.Files.{Ascend, AreWalks, IsListed, IsReadingFault, IsWalk, IsWritingFault, Listed, NoMore, Next, entry_path}

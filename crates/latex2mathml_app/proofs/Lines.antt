@@ -1,5 +1,5 @@
 -- What putting out a line comes to.
-use Rattle.std.proofs.Common.{◌≡◌, ◌≢◌, ◌==◌, ◌↔◌, ℕ, suc, ◌+◌, ◌<◌, ◌≤◌, Bool, true, false, IsTrue, List, [], ◌∷◌, ◌++◌, Option, None, Some, Result, Ok, Err, IfErr, OnOk, inl, inr, length, map, take, drop, refl, sym, ap, ◌∙◌, subst, append-nil, append_assoc, arith, take-append-drop, slice_index_or}
+use Rattle.std.proofs.Common.{◌≡◌, ◌==◌, ◌↔◌, ℕ, suc, ◌+◌, ◌<◌, ◌≤◌, Bool, true, false, IsTrue, List, [], ◌∷◌, ◌++◌, Option, None, Some, Result, Ok, Err, IfErr, OnOk, inl, inr, length, true-eqb, map, take, drop, refl, sym, ap, ◌∙◌, subst, append-nil, append_assoc, arith, take-append-drop, slice_index_or}
 use Rattle.std.proofs.KnownBytes.{Appends-trans}
 use Rattle.std.proofs.Math.Seq.{drop-cons}
 use Rattle.std.proofs.lemmas.List.{map-append, take_more}
@@ -11,7 +11,7 @@ use Rattle.latex2mathml.specs.declared.error.FileFault.TheVariants.{List as Unli
 use Rattle.latex2mathml.specs.declared.error.WriteCause.{WriteCause}
 use Rattle.latex2mathml.specs.declared.error.WriteCause.TheVariants.{Failed, TookNothing}
 use Rattle.latex2mathml.specs.declared.files.Unconverted.{Unconverted}
-use Rattle.latex2mathml_app.specs.Serving.{AreSaid, ArePut, StoppedAt, IsPut, Whole, LeftOut, Stopped, unconverted_line}
+use Rattle.latex2mathml_app.specs.Serving.{AreSaid, ArePut, AreTold, IsSilent, done, not_done, StoppedAt, IsPut, Whole, LeftOut, Stopped, unconverted_line}
 
 -- a writing of a line ends in one of these ways
 pub put : (line : List ℕ) (errors : Output) (result : Result Unit FileFault)
@@ -121,5 +121,11 @@ two (a ∷ []) first second least most is also = absurd (omega arith)
 two (a ∷ b ∷ []) first second least most is also = cc
 two (a ∷ b ∷ c ∷ all) first second least most is also = absurd (omega arith)
 
-pub filled : {A : Type 0} (all : List A) (count : ℕ) → length all ≡ count → false ≡ (count == 0) → all ≢ []
-filled all count counted is = λ empty. let k : false ≡ true = is ∙ ap (λ n. n == 0) (sym counted ∙ ap length empty) in cc
+-- what is told of nothing, and of something
+pub none_told : (all : List Unconverted) (errors : Output) → true ≡ (length all == 0) → IsSilent errors → AreTold all errors done
+none_told [] errors is silent = (refl, silent)
+none_told (one ∷ more) errors is silent = absurd (let k : suc (length more) ≡ 0 = true-eqb _ _ is in cc)
+
+pub some_told : (all : List Unconverted) (errors : Output) → false ≡ (length all == 0) → ArePut (map unconverted_line all) errors → AreTold all errors not_done
+some_told [] errors is put = absurd (let k : false ≡ true = is in cc)
+some_told (one ∷ more) errors is put = (refl, put)

@@ -1,5 +1,5 @@
 -- What the words of the command line ask for, and the lines and the status that answer them.
-use Rattle.std.specs.Prelude.{◌≡◌, ◌≢◌, ◌⊎◌, ℕ, List, [], ◌∷◌, ◌++◌, Option, Result, Ok, Err, codes, map, string_bytes}
+use Rattle.std.specs.Prelude.{◌≡◌, ◌⊎◌, ℕ, List, [], ◌∷◌, ◌++◌, Option, Result, Ok, Err, codes, map, string_bytes}
 use Rattle.std.specs.Io.KnownBytes.{Appends, Keeps}
 use Rattle.latex2mathml.specs.Faults.{fault_text}
 use Rattle.latex2mathml.specs.Files.{IsWalk, levels_read}
@@ -105,18 +105,17 @@ abbrev pub IsTold : Result Unit FileFault → Output → ℕ → Type 0
 IsTold (Ok _) errors status = (status ≡ done) × IsSilent errors
 IsTold (Err fault) errors status = (status ≡ not_done) × IsPut (fault_line fault) errors
 
+-- the status and the stream of errors tell what was not converted
+abbrev pub AreTold : List Unconverted → Output → ℕ → Type 0
+AreTold [] errors status = (status ≡ done) × IsSilent errors
+AreTold (one ∷ more) errors status = (status ≡ not_done) × ArePut (map unconverted_line (one ∷ more)) errors
+
 -- the status and the stream of errors tell what converting the files under a path came to
 pub data AreFilesTold (path : List ℕ) (errors : Output) (status : ℕ) : Type 0 where
-  -- all that is a document was converted
-  AllConverted : status ≡ done
-      → IsSilent errors
-      → AreFilesTold path errors status
-  -- these were not, and there is a line for each
-  NotAllConverted : (unconverted : List Unconverted)
+  -- the files were walked, and these were not converted
+  Told : (unconverted : List Unconverted)
       → IsWalk levels_read path unconverted
-      → unconverted ≢ []
-      → status ≡ not_done
-      → ArePut (map unconverted_line unconverted) errors
+      → AreTold unconverted errors status
       → AreFilesTold path errors status
   -- no memory was found to walk on
   NoMemory : status ≡ not_done

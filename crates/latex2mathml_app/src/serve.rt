@@ -2,7 +2,7 @@
 ghost use Rattle.std.specs.Prelude.{◌≡◌, ◌↔◌, ℕ, List, IfNone, IfSome, IsFalse, IsTrue, map, string_bytes};
 ghost use Rattle.std.specs.Io.KnownBytes.{IsAtEnd};
 ghost use Rattle.latex2mathml.specs.Streams.{CanGoOn};
-ghost use Rattle.latex2mathml_app.specs.Serving.{AreFilesTold, ArePut, AskFor, AskForFiles, AskForNoFiles, AskForNoJob, IsPut, IsServed, fault_line, unconverted_line, word_of, wrong_words};
+ghost use Rattle.latex2mathml_app.specs.Serving.{AreFilesTold, ArePut, AreTold, AskFor, AskForFiles, AskForNoFiles, AskForNoJob, IsPut, IsServed, fault_line, unconverted_line, word_of, wrong_words};
 
 use crate::job::{Job, run};
 use latex2mathml::{FileFault, Sink, Source, Unconverted, convert_html, write_document};
@@ -143,10 +143,26 @@ fn convert<F: Files + Alloc + Clone + Drop, E: Sink>(
         put_line(errors, OUT_OF_MEMORY);
         return REFUSED;
     };
-    if unconverted.is_empty() {
+    tell(alloc, errors, unconverted.as_slice())
+}
+
+/// Puts out a line for each of these, and answers the status: they were not converted.
+fn tell<E: Sink>(alloc: Global, errors: &mut E, all: &[Unconverted]) -> u8
+    requires unfailed { IsFalse (E.has_failed errors.old) }
+    requires unended { IsFalse (E.has_ended errors.old) }
+    ensures told { AreTold all.now
+        (record {
+          old = E.taken errors.old;
+          new = E.taken errors.new;
+          failed = E.has_failed errors.new;
+          ended = E.has_ended errors.new;
+        })
+        result }
+{
+    if all.is_empty() {
         return DONE;
     }
-    put_all_unconverted(alloc, errors, unconverted.as_slice());
+    put_all_unconverted(alloc, errors, all);
     REFUSED
 }
 

@@ -1,4 +1,4 @@
-use Rattle.std.proofs.Common.{◌≡◌, refl, ap, subst, map, take, arith, false, true}
+use Rattle.std.proofs.Common.{◌≡◌, refl, subst, map, arith, false, true}
 use Rattle.std.proofs.lemmas.List.{take_all}
 use Rattle.latex2mathml_app.specs.Serving.{AreSaid, AllPut, unconverted_line}
 use Rattle.latex2mathml_app.proofs.Lines.{put_last, put_next}

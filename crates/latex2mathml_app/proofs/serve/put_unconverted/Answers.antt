@@ -1,4 +1,4 @@
-use Rattle.std.proofs.Common.{◌≡◌, ◌∙◌, rules, string_bytes}
+use Rattle.std.proofs.Common.{◌≡◌, ◌∙◌, string_bytes}
 use Rattle.latex2mathml_app.specs.Serving.{unconverted_line}
 use Rattle.latex2mathml_app.proofs.Lines.{put_same}
 use Rattle.latex2mathml_app.proofs.serve.put_unconverted.Goals as goal
