@@ -1,7 +1,8 @@
 //! LaTeX formulas to MathML, proved.
 //!
-//! [`latex_to_mathml`] turns one formula into one `math` element, and [`replace`] does so with each formula of a
-//! document. Every call that may allocate takes the allocator first and answers a `Result`.
+//! [`latex_to_mathml`] turns one formula into one `math` element, [`replace`] does so with each formula of a document, and
+//! [`convert_html`] with the documents under a path. Every call that may allocate takes the allocator first, behind the
+//! runtime where it takes that, and answers a `Result`.
 #![tactic(auto)]
 
 ghost use Rattle.std.specs.Prelude.{◌≡◌, None, IfOk, MatchResult, string_bytes};
