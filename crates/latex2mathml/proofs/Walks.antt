@@ -72,7 +72,7 @@ pub all_walked : (levels : ℕ) (path : List ℕ) (names items : List (String Gl
     → new ≡ middle ++ walked
     → (found : List Unconverted) × (new ≡ old ++ found) × IsWalk levels path found
 all_walked levels path names items index old middle new unread walked some each sorted same done walks before after = (
-      unread ++ walked,
-      after ∙ ap (λ l. l ++ walked) before ∙ append_assoc old unread walked,
-      Listed some unread walked each names sorted (subst (λ l. AreWalks (levels - 1) path l walked) (take_all index items done ∙ same) walks) refl,
-    )
+  unread ++ walked,
+  after ∙ ap (λ l. l ++ walked) before ∙ append_assoc old unread walked,
+  Listed some unread walked each names sorted (subst (λ l. AreWalks (levels - 1) path l walked) (take_all index items done ∙ same) walks) refl,
+)

@@ -34,8 +34,8 @@ loop-name-preserved g t c =
       before.0 ++ walked.0,
       walked.1 ∙ ap (λ l. l ++ walked.0) before.1 ∙ append_assoc _ before.0 walked.0,
       next_walked (c.args.levels - 1) c.args.path.now c.as_str-in-loop-name.result.now c.deref-name-items.result.now c.loop-name.name-index c.name-item.result before.0 walked.0 (omega arith) c.name-item.is
-      (c.as_str-in-loop-name.ensures.value ∙ c.in_ok-entry.ensures.entry ∙ ap (entry_path c.args.path.now) c.as_str.ensures.value)
-      before.2 walked.2,
+          (c.as_str-in-loop-name.ensures.value ∙ c.in_ok-entry.ensures.entry ∙ ap (entry_path c.args.path.now) c.as_str.ensures.value)
+          before.2 walked.2,
     )
 
 pub returns : goal.returns
