@@ -11,3 +11,4 @@ pub mod PlainTexts
 pub mod Renderings
 pub mod Repeating
 pub mod StreamLemmas
+pub mod Walks

@@ -1,4 +1,4 @@
-//! Why a reading or a writing stopped.
+//! Why something was not converted.
 ghost use Rattle.std.specs.Prelude.{Some};
 ghost use Rattle.latex2mathml.specs.Faults.{fault_text};
 
@@ -18,12 +18,20 @@ pub enum WriteCause {
 /// Why what was to be converted was not, or not written whole.
 #[derive(Debug, Drop, PartialEq)]
 pub enum FileFault {
+    /// The entries of the directory could not be listed.
+    List,
+    /// An entry of the directory could not be read, or its name is no text.
+    Entry,
+    /// The directory lies below the 64 levels that are read.
+    TooDeep,
     /// The input could not be read.
     Read,
     /// The input is not UTF-8.
     NotText,
     /// The input was refused.
     Refused(LatexError),
+    /// The file could not be opened to be written anew.
+    Create,
     /// The output took its first `written` bytes and stopped.
     Write { written: usize, cause: WriteCause },
 }
@@ -34,9 +42,13 @@ impl fmt::Display for FileFault {
 
     fn fmt<W: fmt::Write>(&self, f: &mut fmt::Formatter<W>) -> fmt::Result {
         match self {
+            FileFault::List => f.write_str("The directory could not be listed."),
+            FileFault::Entry => f.write_str("An entry of the directory could not be read."),
+            FileFault::TooDeep => f.write_str("The directory lies deeper than 64 levels."),
             FileFault::Read => f.write_str("The input could not be read."),
             FileFault::NotText => f.write_str("The input is not UTF-8 text."),
             FileFault::Refused(error) => write!(f, "{error}"),
+            FileFault::Create => f.write_str("The file could not be created anew."),
             FileFault::Write { written, cause: _ } => write!(
                 f,
                 "The output stopped after {written} bytes."

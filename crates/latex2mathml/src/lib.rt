@@ -1,7 +1,8 @@
 //! LaTeX formulas to MathML, proved.
 //!
-//! [`latex_to_mathml`] turns one formula into one `math` element, and [`replace`] does so with each formula of a
-//! document. Every call that may allocate takes the allocator first and answers a `Result`.
+//! [`latex_to_mathml`] turns one formula into one `math` element, [`replace`] does so with each formula of a document, and
+//! [`convert_html`] with the documents under a path. Every call that may allocate takes the allocator first, behind the
+//! runtime where it takes that, and answers a `Result`.
 #![tactic(auto)]
 
 ghost use Rattle.std.specs.Prelude.{◌≡◌, None, IfOk, MatchResult, string_bytes};
@@ -11,11 +12,13 @@ ghost use Rattle.latex2mathml_tokens.specs.Refusal.{IfRefused, refusal_of};
 
 mod document;
 mod error;
+mod files;
 mod input;
 pub mod laws;
 mod stream;
 
 pub use error::{FileFault, WriteCause};
+pub use files::{Unconverted, convert_html};
 pub use input::{Reading, read_document};
 pub use latex2mathml_formulas::{Steps, latex_to_mathml, latex_to_mathml_counted};
 pub use latex2mathml_nodes::ast;

@@ -5,7 +5,7 @@ use Rattle.std.specs.Io.KnownBytes.{Keeps}
 use Rattle.std.specs.Prelude.{IsErrAnd}
 use Rattle.latex2mathml.specs.Streams.{CanGoOn, Input, Output}
 use Rattle.latex2mathml.specs.declared.error.FileFault.{FileFault}
-use Rattle.latex2mathml.specs.declared.error.FileFault.TheVariants.{Read, NotText, Refused, Write}
+use Rattle.latex2mathml.specs.declared.error.FileFault.TheVariants.{List as Unlisted, Entry, TooDeep, Read, NotText, Refused, Create, Write}
 use Rattle.latex2mathml_app.specs.Run.{IsMissed, IsOutcomeOn, conversion_of}
 use Rattle.latex2mathml_app.specs.declared.job.Job.{Job}
 
@@ -16,6 +16,10 @@ missed job bytes input output Read is ready keeps = (is, ready, keeps)
 missed job bytes input output NotText is ready keeps = (is, ready, keeps)
 missed job bytes input output (Refused error) is ready keeps = (is, ready, keeps)
 missed job bytes input output (Write written cause) is ready keeps = absurd is
+missed job bytes input output Unlisted is ready keeps = absurd is
+missed job bytes input output Entry is ready keeps = absurd is
+missed job bytes input output TooDeep is ready keeps = absurd is
+missed job bytes input output Create is ready keeps = absurd is
 
 -- and that holds of the fault that a `?` passes on
 pub missed_by : (job : Job) (bytes : List ℕ) (input : Input) (output : Output) (fault : FileFault)

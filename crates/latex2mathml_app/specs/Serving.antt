@@ -1,11 +1,14 @@
 -- What the words of the command line ask for, and the lines and the status that answer them.
-use Rattle.std.specs.Prelude.{◌≡◌, ℕ, List, [], ◌∷◌, ◌++◌, Result, Ok, Err, codes}
+use Rattle.std.specs.Prelude.{◌≡◌, ◌⊎◌, ℕ, List, [], ◌∷◌, ◌++◌, Option, Result, Ok, Err, codes, map, string_bytes}
 use Rattle.std.specs.Io.KnownBytes.{Appends, Keeps}
 use Rattle.latex2mathml.specs.Faults.{fault_text}
+use Rattle.latex2mathml.specs.Files.{IsWalk, levels_read}
 use Rattle.latex2mathml.specs.Streams.{CanGoOn, Input, IsStopped, Output}
 use Rattle.latex2mathml.specs.declared.error.FileFault.{FileFault}
-use Rattle.latex2mathml.specs.declared.error.FileFault.TheVariants.{Write}
+use Rattle.latex2mathml.specs.declared.error.FileFault.TheVariants.{Refused, Write}
 use Rattle.latex2mathml.specs.declared.error.WriteCause.{WriteCause}
+use Rattle.latex2mathml.specs.declared.files.Unconverted.{Unconverted}
+use Rattle.latex2mathml_tokens.specs.declared.error.LatexError.TheVariants.{OutOfMemory}
 use Rattle.latex2mathml_app.specs.Run.{IsOutcome}
 use Rattle.latex2mathml_app.specs.declared.job.Job.{Job}
 use Rattle.latex2mathml_app.specs.declared.job.Job.TheVariants.{Inline, Block, Document}
@@ -21,12 +24,29 @@ abbrev pub AskFor : Job → List (List ℕ) → Type 0
 AskFor job words = words ≡ word_of job ∷ []
 
 -- the words ask for no job
+abbrev pub AskForNoJob : List (List ℕ) → Type 0
+AskForNoJob words = (job : Job) → ¬ AskFor job words
+
+-- the words ask for the files under the path: the path stands behind the word `html`, and no other word beside them
+abbrev pub AskForFiles : List ℕ → List (List ℕ) → Type 0
+AskForFiles path words = words ≡ codes "html" ∷ path ∷ []
+
+-- the words ask for no files
+abbrev pub AskForNoFiles : List (List ℕ) → Type 0
+AskForNoFiles words = (path : List ℕ) → ¬ AskForFiles path words
+
+-- the words ask for nothing
 abbrev pub AreWrong : List (List ℕ) → Type 0
-AreWrong words = (job : Job) → ¬ AskFor job words
+AreWrong words = AskForNoJob words × AskForNoFiles words
 
 -- the line that tells a fault
 abbrev pub fault_line : FileFault → List ℕ
 fault_line fault = codes "LaTeX2MathML Error: " ++ (fault_text fault ++ codes "\n")
+
+-- the line that tells why a file or a directory was not converted
+abbrev pub unconverted_line : Unconverted → List ℕ
+unconverted_line unconverted =
+    codes "LaTeX2MathML Error: " ++ (string_bytes unconverted.path ++ (codes ": " ++ (fault_text unconverted.fault ++ codes "\n")))
 
 -- the stream took nothing
 abbrev pub IsSilent : Output → Type 0
@@ -45,6 +65,31 @@ pub data IsPut (line : List ℕ) (errors : Output) : Type 0 where
       → IsStopped (Write written cause) line errors
       → IsPut line errors
 
+-- the text is the lines in their order, some of them left out
+abbrev pub AreSaid : List (List ℕ) → List ℕ → Type 0
+AreSaid [] text = text ≡ []
+AreSaid (line ∷ lines) text =
+    AreSaid lines text
+    ⊎ ((rest : List ℕ) × (text ≡ line ++ rest) × AreSaid lines rest)
+
+-- what putting lines on a stream may come to
+pub data ArePut (lines : List (List ℕ)) (errors : Output) : Type 0 where
+  -- the stream took each line for which memory was found
+  AllPut : CanGoOn errors
+      → (text : List ℕ)
+      → AreSaid lines text
+      → Appends errors.old errors.new text
+      → ArePut lines errors
+  -- the stream took so much of the lines before one of them, then the first bytes of that one, and failed or took no more
+  StoppedAt : (before : List (List ℕ)) (line : List ℕ) (after : List (List ℕ))
+      → lines ≡ before ++ (line ∷ after)
+      → (text : List ℕ) (middle : Option (List ℕ))
+      → AreSaid before text
+      → Appends errors.old middle text
+      → (written : ℕ) (cause : WriteCause)
+      → IsStopped (Write written cause) line (record { old = middle; new = errors.new; failed = errors.failed; ended = errors.ended })
+      → ArePut lines errors
+
 -- the status where a run is done, where it is not, and where the words are wrong
 abbrev pub done : ℕ
 done = 0
@@ -60,6 +105,23 @@ abbrev pub IsTold : Result Unit FileFault → Output → ℕ → Type 0
 IsTold (Ok _) errors status = (status ≡ done) × IsSilent errors
 IsTold (Err fault) errors status = (status ≡ not_done) × IsPut (fault_line fault) errors
 
+-- the status and the stream of errors tell what was not converted
+abbrev pub AreTold : List Unconverted → Output → ℕ → Type 0
+AreTold [] errors status = (status ≡ done) × IsSilent errors
+AreTold (one ∷ more) errors status = (status ≡ not_done) × ArePut (map unconverted_line (one ∷ more)) errors
+
+-- the status and the stream of errors tell what converting the files under a path came to
+pub data AreFilesTold (path : List ℕ) (errors : Output) (status : ℕ) : Type 0 where
+  -- the files were walked, and these were not converted
+  Told : (unconverted : List Unconverted)
+      → IsWalk levels_read path unconverted
+      → AreTold unconverted errors status
+      → AreFilesTold path errors status
+  -- no memory was found to walk on
+  NoMemory : status ≡ not_done
+      → IsPut (fault_line (Refused OutOfMemory)) errors
+      → AreFilesTold path errors status
+
 -- what serving the words may come to
 pub data IsServed (words : List (List ℕ)) (input : Input) (output errors : Output) (status : ℕ) : Type 0 where
   -- the words are wrong. A line was put out: which one is not said, since a derived `Display` tells no text.
@@ -74,4 +136,9 @@ pub data IsServed (words : List (List ℕ)) (input : Input) (output errors : Out
       → (result : Result Unit FileFault)
       → IsOutcome job input output result
       → IsTold result errors status
+      → IsServed words input output errors status
+  -- the files under the path that the words name were converted
+  Walked : (path : List ℕ)
+      → AskForFiles path words
+      → AreFilesTold path errors status
       → IsServed words input output errors status

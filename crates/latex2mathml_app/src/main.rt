@@ -1,4 +1,5 @@
-//! Converts a formula or a document on standard input to MathML on standard output.
+//! Converts a formula or a document on standard input to MathML on standard output, or the documents under a path in
+//! place.
 #![tactic(auto)]
 
 ghost use Rattle.std.specs.Prelude.{◌≡◌, IfErr};

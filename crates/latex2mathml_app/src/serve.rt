@@ -1,10 +1,11 @@
 //! The words of the command line, the lines on standard error, and the status.
-ghost use Rattle.std.specs.Prelude.{◌≡◌, ℕ, List, IfNone, IfSome, IsFalse, IsTrue, map, string_bytes};
+ghost use Rattle.std.specs.Prelude.{◌≡◌, ◌↔◌, ℕ, List, IfNone, IfSome, IsFalse, IsTrue, map, string_bytes};
 ghost use Rattle.std.specs.Io.KnownBytes.{IsAtEnd};
-ghost use Rattle.latex2mathml_app.specs.Serving.{AreWrong, AskFor, IsPut, IsServed, fault_line, word_of, wrong_words};
+ghost use Rattle.latex2mathml.specs.Streams.{CanGoOn};
+ghost use Rattle.latex2mathml_app.specs.Serving.{AreFilesTold, ArePut, AreTold, AskFor, AskForFiles, AskForNoFiles, AskForNoJob, IsPut, IsServed, fault_line, unconverted_line, word_of, wrong_words};
 
 use crate::job::{Job, run};
-use latex2mathml::{FileFault, Sink, Source, write_document};
+use latex2mathml::{FileFault, Sink, Source, Unconverted, convert_html, write_document};
 use std::alloc::Global;
 use std::rt::Files;
 use thiserror::Error;
@@ -13,6 +14,9 @@ use thiserror::Error;
 #[derive(Debug, Drop, Error)]
 #[error("usage: latex2mathml inline | block | document | html PATH")]
 struct Usage;
+
+/// The line that tells want of memory, for which no memory has to be found.
+const OUT_OF_MEMORY: &str = "LaTeX2MathML Error: Memory could not be found.\n";
 
 const DONE: u8 = 0;
 
@@ -23,10 +27,11 @@ const WRONG_WORDS: u8 = 2;
 /// Does what the words ask for, and answers the status: 0 where it is done, 1 where it is not, 2 where the words are
 /// wrong.
 ///
-/// Wrong words leave the input and the output as they were. Why something was not done is one line on `errors`; a line
-/// for which no memory is found is left out, and one that `errors` does not take whole changes no status.
+/// Wrong words and `html` leave the input and the output as they were. Why something was not done is one line on
+/// `errors`, and for `html` one line for each file or directory that was not converted; a line for which no memory is
+/// found is left out, none comes after one that `errors` does not take whole, and neither changes the status.
 pub fn serve<F: Files + Alloc + Clone + Drop, R: Source, W: Sink, E: Sink>(
-    _rt: &F,
+    rt: &F,
     alloc: Global,
     words: &[String],
     input: &mut R,
@@ -61,8 +66,13 @@ pub fn serve<F: Files + Alloc + Clone + Drop, R: Source, W: Sink, E: Sink>(
         result }
     ensures untouched { result ≡ wrong_words
         → (input.new ≡ input.old) × (output.new ≡ output.old) }
+    ensures files_alone { (path : List ℕ) → AskForFiles path (map string_bytes words.now)
+        → (input.new ≡ input.old) × (output.new ≡ output.old) }
     ensures all_read { IsTrue (R.has_ended input.new) → IsAtEnd (R.remaining input.new) }
 {
+    if let Some(path) = path_asked(words) {
+        return convert(rt, alloc, path, errors);
+    }
     let Some(job) = job_asked(words) else {
         put_usage(alloc, errors);
         return WRONG_WORDS;
@@ -76,10 +86,21 @@ pub fn serve<F: Files + Alloc + Clone + Drop, R: Source, W: Sink, E: Sink>(
     }
 }
 
+/// The path whose files the words ask to convert.
+fn path_asked(words: &[String]) -> Option<&str>
+    ensures asked { IfSome result (λ path. AskForFiles path.now (map string_bytes words.now)) }
+    ensures other { IfNone result (AskForNoFiles (map string_bytes words.now)) }
+{
+    match words {
+        [word, path] if word.as_str() == "html" => Some(path.as_str()),
+        _ => None,
+    }
+}
+
 /// The job that the words ask for.
 fn job_asked(words: &[String]) -> Option<Job>
     ensures asked { IfSome result (λ job. AskFor job (map string_bytes words.now)) }
-    ensures wrong { IfNone result (AreWrong (map string_bytes words.now)) }
+    ensures other { IfNone result (AskForNoJob (map string_bytes words.now)) }
 {
     match words {
         [word] => job_named(word.as_str()),
@@ -97,6 +118,98 @@ fn job_named(word: &str) -> Option<Job>
         "block" => Some(Job::Block),
         "document" => Some(Job::Document),
         _ => None,
+    }
+}
+
+/// Converts the documents under the path, puts out a line for each that could not be converted, and answers the status.
+fn convert<F: Files + Alloc + Clone + Drop, E: Sink>(
+    rt: &F,
+    alloc: Global,
+    path: &str,
+    errors: &mut E,
+) -> u8
+    requires unfailed { IsFalse (E.has_failed errors.old) }
+    requires unended { IsFalse (E.has_ended errors.old) }
+    ensures told { AreFilesTold path.now
+        (record {
+          old = E.taken errors.old;
+          new = E.taken errors.new;
+          failed = E.has_failed errors.new;
+          ended = E.has_ended errors.new;
+        })
+        result }
+{
+    let Ok(unconverted) = convert_html(rt, alloc, path) else {
+        put_line(errors, OUT_OF_MEMORY);
+        return REFUSED;
+    };
+    tell(alloc, errors, unconverted.as_slice())
+}
+
+/// Puts out a line for each of these, and answers the status: they were not converted.
+fn tell<E: Sink>(alloc: Global, errors: &mut E, all: &[Unconverted]) -> u8
+    requires unfailed { IsFalse (E.has_failed errors.old) }
+    requires unended { IsFalse (E.has_ended errors.old) }
+    ensures told { AreTold all.now
+        (record {
+          old = E.taken errors.old;
+          new = E.taken errors.new;
+          failed = E.has_failed errors.new;
+          ended = E.has_ended errors.new;
+        })
+        result }
+{
+    if all.is_empty() {
+        return DONE;
+    }
+    put_all_unconverted(alloc, errors, all);
+    REFUSED
+}
+
+/// Puts out a line for each of these, up to one that the stream does not take whole.
+fn put_all_unconverted<E: Sink>(alloc: Global, errors: &mut E, all: &[Unconverted])
+    requires unfailed { IsFalse (E.has_failed errors.old) }
+    requires unended { IsFalse (E.has_ended errors.old) }
+    ensures put { ArePut (map unconverted_line all.now)
+        (record {
+          old = E.taken errors.old;
+          new = E.taken errors.new;
+          failed = E.has_failed errors.new;
+          ended = E.has_ended errors.new;
+        }) }
+{
+    for unconverted in all {
+        if !put_unconverted(alloc, errors, unconverted) {
+            return;
+        }
+    }
+}
+
+/// Puts out the line that tells why something was not converted, where memory is found for it, and answers whether the
+/// stream can take more.
+fn put_unconverted<E: Sink>(alloc: Global, errors: &mut E, unconverted: &Unconverted) -> bool
+    requires unfailed { IsFalse (E.has_failed errors.old) }
+    requires unended { IsFalse (E.has_ended errors.old) }
+    ensures put { IsPut (unconverted_line unconverted.now)
+        (record {
+          old = E.taken errors.old;
+          new = E.taken errors.new;
+          failed = E.has_failed errors.new;
+          ended = E.has_ended errors.new;
+        }) }
+    ensures ready { IsTrue result ↔ CanGoOn
+        (record {
+          old = E.taken errors.old;
+          new = E.taken errors.new;
+          failed = E.has_failed errors.new;
+          ended = E.has_ended errors.new;
+        }) }
+{
+    let path = unconverted.path.as_str();
+    let fault = &unconverted.fault;
+    match format!(in alloc; "LaTeX2MathML Error: {path}: {fault}\n") {
+        Ok(line) => put_line(errors, line.as_str()),
+        Err(_) => true,
     }
 }
 
@@ -135,8 +248,8 @@ fn put_fault<E: Sink>(alloc: Global, errors: &mut E, fault: &FileFault)
     }
 }
 
-/// Puts out the line, or its first bytes where the stream stops.
-fn put_line<E: Sink>(errors: &mut E, line: &str)
+/// Puts out the line, or its first bytes where the stream stops, and answers whether it can take more.
+fn put_line<E: Sink>(errors: &mut E, line: &str) -> bool
     requires unfailed { IsFalse (E.has_failed errors.old) }
     requires unended { IsFalse (E.has_ended errors.old) }
     ensures put { IsPut line.now
@@ -146,6 +259,13 @@ fn put_line<E: Sink>(errors: &mut E, line: &str)
           failed = E.has_failed errors.new;
           ended = E.has_ended errors.new;
         }) }
+    ensures ready { IsTrue result ↔ CanGoOn
+        (record {
+          old = E.taken errors.old;
+          new = E.taken errors.new;
+          failed = E.has_failed errors.new;
+          ended = E.has_ended errors.new;
+        }) }
 {
-    let _ = write_document(errors, line);
+    write_document(errors, line).is_ok()
 }

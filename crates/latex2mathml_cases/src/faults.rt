@@ -118,29 +118,40 @@ fn different_refusals_differ(rt: HostRuntime) {
     assert!(rt; open == unexpected(Token::RBrace, Token::EOF));
 }
 
+/// Each kind of fault, and its text.
+fn is_told(alloc: Global, fault: &FileFault, text: &str) -> Result<bool, AllocError> {
+    Ok(fault.to_string(alloc)?.as_str() == text)
+}
+
 #[test]
 fn faults(rt: HostRuntime) -> Result<(), Fail> {
-    let alloc = rt.alloc();
-    assert_eq!(rt;
-        FileFault::Read.to_string(alloc)?.as_str(),
-        "The input could not be read."
-    );
-    assert_eq!(rt;
-        FileFault::NotText.to_string(alloc)?.as_str(),
-        "The input is not UTF-8 text."
-    );
-    let refused = FileFault::Refused(LatexError::OutOfMemory);
-    assert_eq!(rt;
-        refused.to_string(alloc)?.as_str(),
-        "Memory could not be found."
-    );
-    let stopped = FileFault::Write {
-        written: 2,
-        cause: WriteCause::Failed,
-    };
-    assert_eq!(rt;
-        stopped.to_string(alloc)?.as_str(),
-        "The output stopped after 2 bytes."
-    );
+    let failed = WriteCause::Failed;
+    for (fault, text) in [
+        (FileFault::List, "The directory could not be listed."),
+        (
+            FileFault::Entry,
+            "An entry of the directory could not be read.",
+        ),
+        (
+            FileFault::TooDeep,
+            "The directory lies deeper than 64 levels.",
+        ),
+        (FileFault::Read, "The input could not be read."),
+        (FileFault::NotText, "The input is not UTF-8 text."),
+        (
+            FileFault::Refused(LatexError::OutOfMemory),
+            "Memory could not be found.",
+        ),
+        (FileFault::Create, "The file could not be created anew."),
+        (
+            FileFault::Write {
+                written: 2,
+                cause: failed,
+            },
+            "The output stopped after 2 bytes.",
+        ),
+    ] {
+        assert!(rt; is_told(rt.alloc(), &fault, text)?, "{text}");
+    }
     Ok(())
 }

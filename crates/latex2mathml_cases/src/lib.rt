@@ -20,6 +20,8 @@ mod environments;
 #[cfg(test)]
 mod faults;
 #[cfg(test)]
+mod files;
+#[cfg(test)]
 mod formulas;
 #[cfg(test)]
 mod hostile;

@@ -1,7 +1,8 @@
-use Rattle.latex2mathml_app.proofs.Lines.{put}
+use Rattle.latex2mathml_app.proofs.Lines.{can_go_on, put}
 use Rattle.latex2mathml_app.proofs.serve.put_line.Goals as goal
 
 pub returns : goal.returns
 returns g c = record {
   put = put _ _ c.write_document.result c.write_document.ensures.taken c.write_document.ensures.ready c.write_document.ensures.stopped;
+  ready = can_go_on c.args.line.now _ c.write_document.result c.is_ok.result c.is_ok.ensures.value c.write_document.ensures.ready c.write_document.ensures.stopped;
 }

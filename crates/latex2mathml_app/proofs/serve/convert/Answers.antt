@@ -1,0 +1,11 @@
+use Rattle.std.proofs.Common.{refl}
+use Rattle.latex2mathml_app.specs.Serving.{NoMemory, Told}
+use Rattle.latex2mathml_app.proofs.serve.convert.Goals as goal
+
+pub returns-in_default : goal.returns-in_default
+returns-in_default g c = record { told = NoMemory refl c.put_line.ensures.put }
+
+pub returns : goal.returns
+returns g c = record {
+  told = Told c.in-Ok.unconverted.items c.in-Ok.ensures.listed (rw c.as_slice.ensures.value at c.tell.ensures.told);
+}
