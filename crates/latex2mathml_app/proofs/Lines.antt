@@ -11,14 +11,14 @@ use Rattle.latex2mathml.specs.declared.error.FileFault.TheVariants.{List as Unli
 use Rattle.latex2mathml.specs.declared.error.WriteCause.{WriteCause}
 use Rattle.latex2mathml.specs.declared.error.WriteCause.TheVariants.{Failed, TookNothing}
 use Rattle.latex2mathml.specs.declared.files.Unconverted.{Unconverted}
-use Rattle.latex2mathml_app.specs.Serving.{AreSaid, ArePut, AreTold, IsSilent, done, not_done, StoppedAt, IsPut, Whole, LeftOut, Stopped, unconverted_line}
+use Rattle.latex2mathml_app.specs.Serving.{AreSaid, ArePut, AreTold, IsSilent, done, not_done, StoppedAt, IsTaken, IsPut, Whole, Found, LeftOut, Stopped, unconverted_line}
 
 -- a writing of a line ends in one of these ways
 pub put : (line : List ℕ) (errors : Output) (result : Result Unit FileFault)
     → OnOk result (Appends errors.old errors.new line)
     → OnOk result (CanGoOn errors)
     → IfErr result (λ fault. IsStopped fault line errors)
-    → IsPut line errors
+    → IsTaken line errors
 put line errors (Ok _) taken ready stopped = Whole ready taken
 put line errors (Err (Write written cause)) taken ready stopped = Stopped written cause stopped
 put line errors (Err Read) taken ready stopped = absurd stopped
@@ -29,9 +29,9 @@ put line errors (Err Entry) taken ready stopped = absurd stopped
 put line errors (Err TooDeep) taken ready stopped = absurd stopped
 put line errors (Err Create) taken ready stopped = absurd stopped
 
--- what holds of a line holds of the line that it is
-pub put_same : (line text : List ℕ) (errors : Output) → line ≡ text → IsPut line errors → IsPut text errors
-put_same line text errors same is = subst (λ l. IsPut l errors) same is
+-- a line that memory was found for, and that is this one
+pub put_same : (line text : List ℕ) (errors : Output) → line ≡ text → IsTaken line errors → IsPut text errors
+put_same line text errors same is = Found (subst (λ l. IsTaken l errors) same is)
 
 halted : (cause : WriteCause) (errors : Output) → IsCause cause errors → ¬ CanGoOn errors
 halted Failed errors (failed, _) (unfailed, _) = let k : true ≡ false = sym failed ∙ unfailed in cc
@@ -78,11 +78,11 @@ appends_kept (Some x) (Some y) (Some z) text p q = q ∙ p
 next_said : (old : Option (List ℕ)) (errors : Output) (lines : List (List ℕ)) (line text : List ℕ)
     → AreSaid lines text → Appends old errors.old text → IsPut line errors → CanGoOn errors
     → (next : List ℕ) × AreSaid (lines ++ (line ∷ [])) next × Appends old errors.new next
-next_said old errors lines line text said so_far (Whole ready takes) can =
+next_said old errors lines line text said so_far (Found (Whole ready takes)) can =
     (text ++ line, said_more lines line text said, Appends-trans old errors.old errors.new text line so_far takes)
 next_said old errors lines line text said so_far (LeftOut (ready, keeps)) can =
     (text, said_less lines line text said, appends_kept old errors.old errors.new text so_far keeps)
-next_said old errors lines line text said so_far (Stopped written cause is) can = absurd (halted cause errors is.2 can)
+next_said old errors lines line text said so_far (Found (Stopped written cause is)) can = absurd (halted cause errors is.2 can)
 
 -- one line more was put, and the stream can take more
 pub put_next : (old : Option (List ℕ)) (errors : Output) (all : List Unconverted) (index : ℕ) (one : Unconverted) (text : List ℕ)
@@ -109,9 +109,9 @@ pub put_last : (old : Option (List ℕ)) (errors : Output) (all : List Unconvert
     → IsPut (unconverted_line one) errors
     → ¬ CanGoOn errors
     → ArePut (map unconverted_line all) (record { old = old; new = errors.new; failed = errors.failed; ended = errors.ended })
-put_last old errors all index one text inside is said so_far (Whole ready takes) stopped = absurd (stopped ready)
+put_last old errors all index one text inside is said so_far (Found (Whole ready takes)) stopped = absurd (stopped ready)
 put_last old errors all index one text inside is said so_far (LeftOut (ready, keeps)) stopped = absurd (stopped ready)
-put_last old errors all index one text inside is said so_far (Stopped written cause at) stopped =
+put_last old errors all index one text inside is said so_far (Found (Stopped written cause at)) stopped =
     StoppedAt (map unconverted_line (take index all)) (unconverted_line one) (map unconverted_line (drop (suc index) all)) (ap (map unconverted_line) (sym (take-append-drop index all) ∙ ap (λ l. take index all ++ l) (drop-cons all index one inside ∙ ap (λ x. x ∷ drop (suc index) all) (sym is))) ∙ map-append unconverted_line (take index all) (one ∷ drop (suc index) all)) text errors.old said so_far written cause at
 
 -- a list of two

@@ -52,18 +52,23 @@ unconverted_line unconverted =
 abbrev pub IsSilent : Output → Type 0
 IsSilent errors = CanGoOn errors × Keeps errors.old errors.new
 
--- what putting a line on a stream may come to
-pub data IsPut (line : List ℕ) (errors : Output) : Type 0 where
+-- what putting a line on a stream may come to, where the line is at hand
+pub data IsTaken (line : List ℕ) (errors : Output) : Type 0 where
   -- the stream took the line
   Whole : CanGoOn errors
       → Appends errors.old errors.new line
-      → IsPut line errors
-  -- no memory was found for the line
-  LeftOut : IsSilent errors → IsPut line errors
+      → IsTaken line errors
   -- the stream took the first bytes of the line, and failed or took no more
   Stopped : (written : ℕ) (cause : WriteCause)
       → IsStopped (Write written cause) line errors
-      → IsPut line errors
+      → IsTaken line errors
+
+-- what putting a line on a stream may come to, where memory is asked for the line
+pub data IsPut (line : List ℕ) (errors : Output) : Type 0 where
+  -- memory was found
+  Found : IsTaken line errors → IsPut line errors
+  -- no memory was found for the line
+  LeftOut : IsSilent errors → IsPut line errors
 
 -- the text is the lines in their order, some of them left out
 abbrev pub AreSaid : List (List ℕ) → List ℕ → Type 0
@@ -119,7 +124,7 @@ pub data AreFilesTold (path : List ℕ) (errors : Output) (status : ℕ) : Type 
       → AreFilesTold path errors status
   -- no memory was found to walk on
   NoMemory : status ≡ not_done
-      → IsPut (fault_line (Refused OutOfMemory)) errors
+      → IsTaken (fault_line (Refused OutOfMemory)) errors
       → AreFilesTold path errors status
 
 -- what serving the words may come to

@@ -2,7 +2,7 @@
 ghost use Rattle.std.specs.Prelude.{◌≡◌, ◌↔◌, ℕ, List, IfNone, IfSome, IsFalse, IsTrue, map, string_bytes};
 ghost use Rattle.std.specs.Io.KnownBytes.{IsAtEnd};
 ghost use Rattle.latex2mathml.specs.Streams.{CanGoOn};
-ghost use Rattle.latex2mathml_app.specs.Serving.{AreFilesTold, ArePut, AreTold, AskFor, AskForFiles, AskForNoFiles, AskForNoJob, IsPut, IsServed, fault_line, unconverted_line, word_of, wrong_words};
+ghost use Rattle.latex2mathml_app.specs.Serving.{AreFilesTold, ArePut, AreTold, AskFor, AskForFiles, AskForNoFiles, AskForNoJob, IsPut, IsServed, IsTaken, fault_line, unconverted_line, word_of, wrong_words};
 
 use crate::job::{Job, run};
 use latex2mathml::{FileFault, Sink, Source, Unconverted, convert_html, write_document};
@@ -252,7 +252,7 @@ fn put_fault<E: Sink>(alloc: Global, errors: &mut E, fault: &FileFault)
 fn put_line<E: Sink>(errors: &mut E, line: &str) -> bool
     requires unfailed { IsFalse (E.has_failed errors.old) }
     requires unended { IsFalse (E.has_ended errors.old) }
-    ensures put { IsPut line.now
+    ensures put { IsTaken line.now
         (record {
           old = E.taken errors.old;
           new = E.taken errors.new;
