@@ -6,5 +6,6 @@ pub mod Leaves
 pub mod Members
 pub mod Prints
 pub mod Styles
+pub mod Styling
 pub mod ValueTexts
 pub mod Widths

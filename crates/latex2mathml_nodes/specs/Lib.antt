@@ -5,5 +5,6 @@ pub mod MathSchema
 pub mod Print
 pub mod Productions
 pub mod Style
+pub mod Styling
 pub mod Tree
 pub mod Width

@@ -6,6 +6,7 @@ mod equality;
 mod make;
 pub(crate) mod print;
 mod style;
+mod styling;
 
 use latex2mathml_tokens::DisplayStyle;
 use latex2mathml_tokens::attribute::{Accent, ColumnAlign, LineThickness, Variant};

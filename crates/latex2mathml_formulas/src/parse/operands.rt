@@ -1,7 +1,6 @@
 //! Rules of one operand or two, by what they make of them.
 ghost use Rattle.std.specs.Prelude.{◌≡◌, IfOk};
 ghost use Rattle.latex2mathml_formulas.specs.Frames.{bare, binary_tree, both_limits, limit, one_of_pair, pair_sign, pair_tree, unary_tree};
-ghost use Rattle.latex2mathml_nodes.specs.Style.{styled as styled_tree};
 ghost use Rattle.latex2mathml_nodes.specs.Tree.{tree};
 
 use crate::parse::frames::Sign;
@@ -30,17 +29,9 @@ impl Unary {
             Unary::Root(degree) => Node::root(alloc, degree, x),
             Unary::Over(c, accent) => Node::over_op(alloc, c, accent, x),
             Unary::Under(c, accent) => Node::under_op(alloc, c, accent, x),
-            Unary::Style(variant) => Ok(styled(variant, x)),
+            Unary::Style(variant) => Node::styled(alloc, variant, x),
         }
     }
-}
-
-/// The node in a style.
-fn styled(variant: Variant, mut x: Node) -> Node
-    ensures { tree result ≡ styled_tree variant (tree x) }
-{
-    x.set_variant(variant);
-    x
 }
 
 /// A rule of two operands.
