@@ -40,6 +40,11 @@ const latex2mathml = (() => {
         return ELSEWHERE[variant]?.[letter] ?? String.fromCodePoint(start + letters.indexOf(letter));
     }
 
+    function close(sign) {
+        sign.setAttribute('lspace', '0');
+        sign.setAttribute('rspace', '0');
+    }
+
     function mendLetters(token) {
         const variant = token.getAttribute('mathvariant');
         const text = [...token.textContent].map(letter => character(letter, variant)).join('');
@@ -47,7 +52,7 @@ const latex2mathml = (() => {
         token.textContent = text;
         token.removeAttribute('mathvariant');
         // The only such operator is ∂, which stands as close to its neighbours as a letter.
-        if (token.localName === 'mo') ['lspace', 'rspace'].forEach(side => token.setAttribute(side, '0'));
+        if (token.localName === 'mo') close(token);
     }
 
     function mendSign(sign) {
@@ -78,6 +83,8 @@ const latex2mathml = (() => {
         const each = (selector, mendOne) => root.querySelectorAll(selector).forEach(mendOne);
         each(':is(mi, mn, mo)[mathvariant]', mendLetters);
         each('mo:not([stretchy], [minsize])', mendSign);
+        // ∥ is no fence to a browser, but a sign between two others.
+        each('mo[form][stretchy="true"]', close);
         each(':is(mover, munder) > mo[accent="true"]:last-child', mendAccent);
         each('mi', mendFunction);
         each('mspace[width^="-"]', space => { space.style.marginInlineStart = space.getAttribute('width'); });
