@@ -1,9 +1,11 @@
 pub mod Arguments
 pub mod Discreteness
+pub mod Held
 pub mod Markup
 pub mod MathSchema
 pub mod Print
 pub mod Productions
 pub mod Style
 pub mod Tree
+pub mod Weight
 pub mod Width

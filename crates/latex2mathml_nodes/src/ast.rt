@@ -2,11 +2,13 @@
 ghost use Rattle.std.specs.Prelude.{◌≡◌, IfOk, map};
 ghost use Rattle.latex2mathml_nodes.specs.Tree.{optional_tree, tree};
 
+mod dismantle;
 mod equality;
 mod make;
 pub(crate) mod print;
 mod style;
 
+use crate::ast::dismantle::{Parts, dismantle};
 use latex2mathml_tokens::DisplayStyle;
 use latex2mathml_tokens::attribute::{Accent, ColumnAlign, LineThickness, Variant};
 use std::alloc::{AllocError, Global};
@@ -14,7 +16,7 @@ use std::alloc::{AllocError, Global};
 /// A part of a formula. Its `Display` prints the markup, and escapes texts and characters there.
 ///
 /// Printing, copying, comparing and dropping recurse as deep as it is nested.
-#[derive(Debug, Drop)]
+#[derive(Debug)]
 pub enum Node {
     Number(String),
     /// A letter, or any other character that stands for itself, and its style.
@@ -92,6 +94,15 @@ pub enum Node {
     Style(Option<DisplayStyle>, Box<Node>),
     /// The text of a token that has no meaning where it stands. It is marked as an error.
     Undefined(String),
+}
+
+impl Drop for Node {
+    fn drop(self) {
+        match self.parts() {
+            Parts::None => {}
+            parts => dismantle(parts),
+        }
+    }
 }
 
 impl Node {
