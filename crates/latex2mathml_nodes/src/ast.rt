@@ -15,7 +15,8 @@ use std::alloc::{AllocError, Global};
 
 /// A part of a formula. Its `Display` prints the markup, and escapes texts and characters there.
 ///
-/// Printing, copying, comparing and dropping recurse as deep as it is nested.
+/// Printing, copying and comparing recurse as deep as it is nested. Dropping is a loop and takes no memory, however deep
+/// it is. As it has a `drop` of its own, match on a reference to it: only its methods take it apart.
 #[derive(Debug)]
 pub enum Node {
     Number(String),
