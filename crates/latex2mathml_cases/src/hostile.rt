@@ -182,16 +182,29 @@ fn listed(alloc: Global, x: Node) -> Result<Node, AllocError> {
 
 const LEVELS: usize = 100_000;
 
-/// So many levels of nodes around a letter.
-fn deep<F: Fn(Global, Node) -> Result<Node, AllocError>>(
-    alloc: Global,
-    around: F,
-) -> Result<Node, AllocError>
-    requires { F.IsAlwaysCallable around }
-{
+/// A letter in so many levels of scripts and limits.
+fn deep_in_scripts(alloc: Global) -> Result<Node, AllocError> {
     let mut x = letter('x');
     for _ in 0..LEVELS {
-        x = around(alloc, x)?;
+        x = scripted(alloc, x)?;
+    }
+    Ok(x)
+}
+
+/// A letter in so many levels of the other kinds of one node or two.
+fn deep_in_frames(alloc: Global) -> Result<Node, AllocError> {
+    let mut x = letter('x');
+    for _ in 0..LEVELS {
+        x = framed(alloc, x)?;
+    }
+    Ok(x)
+}
+
+/// A letter in so many levels of rows and matrices.
+fn deep_in_lists(alloc: Global) -> Result<Node, AllocError> {
+    let mut x = letter('x');
+    for _ in 0..LEVELS {
+        x = listed(alloc, x)?;
     }
     Ok(x)
 }
@@ -200,13 +213,13 @@ fn deep<F: Fn(Global, Node) -> Result<Node, AllocError>>(
 #[test]
 fn deep_trees_are_dropped(rt: HostRuntime) -> Result<(), Fail> {
     let alloc = rt.alloc();
-    let scripts = deep(alloc, scripted)?;
+    let scripts = deep_in_scripts(alloc)?;
     assert!(rt; matches!(&scripts, Node::UnderOver { .. }));
     drop(scripts);
-    let frames = deep(alloc, framed)?;
+    let frames = deep_in_frames(alloc)?;
     assert!(rt; matches!(&frames, Node::Style(..)));
     drop(frames);
-    let lists = deep(alloc, listed)?;
+    let lists = deep_in_lists(alloc)?;
     assert!(rt; matches!(&lists, Node::Matrix(..)));
     drop(lists);
     Ok(())

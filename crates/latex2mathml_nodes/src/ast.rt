@@ -8,7 +8,7 @@ mod make;
 pub(crate) mod print;
 mod style;
 
-use crate::ast::dismantle::{Parts, dismantle};
+use crate::ast::dismantle::dismantle;
 use latex2mathml_tokens::DisplayStyle;
 use latex2mathml_tokens::attribute::{Accent, ColumnAlign, LineThickness, Variant};
 use std::alloc::{AllocError, Global};
@@ -98,10 +98,19 @@ pub enum Node {
 }
 
 impl Drop for Node {
+    #[inline]
     fn drop(self) {
-        match self.parts() {
-            Parts::None => {}
-            parts => dismantle(parts),
+        // leaves go at once
+        match self {
+            Node::Letter(_, _)
+            | Node::Operator(_)
+            | Node::Space(_)
+            | Node::OtherOperator(_)
+            | Node::SizedParen { size: _, paren: _ }
+            | Node::Ampersand
+            | Node::NewLine => {}
+            Node::Number(_) | Node::StrechedOp(_, _) | Node::Text(_) | Node::Undefined(_) => {}
+            node => dismantle(node),
         }
     }
 }

@@ -8,7 +8,7 @@ use crate::ast::Node;
 use std::mem;
 
 /// The nodes that a node was made of, in the boxes or the list that held them.
-pub(crate) enum Parts {
+enum Parts {
     None,
     One(Box<Node>),
     Two(Box<Node>, Box<Node>),
@@ -18,7 +18,7 @@ pub(crate) enum Parts {
 
 impl Node {
     /// What the node was made of. All else in it goes.
-    pub(crate) fn parts(self) -> Parts
+    fn parts(self) -> Parts
         ensures weight { weight (tree self) ≡ held result }
         ensures hung { hung (tree self) ≡ hung_on result }
     {
@@ -73,12 +73,13 @@ impl Node {
     }
 }
 
-/// Lets all parts go with what is in them, without recursion and without memory.
+/// Lets a node go with all that is in it, without recursion and without memory.
 ///
 /// What is still whole hangs on a chain of the boxes and lists that held it: each link has the chain before it in place
 /// of its first part. An `Ampersand` is the end of the chain.
-pub(crate) fn dismantle(parts: Parts) {
-    let mut current = parts;
+#[inline(never)]
+pub(crate) fn dismantle(node: Node) {
+    let mut current = node.parts();
     let mut chain = Node::Ampersand;
     'parts: while let Some((parts, rest)) = step(current, chain) {
         current = parts;
