@@ -1,5 +1,6 @@
 pub mod Balance
 pub mod Cells
+pub mod Chains
 pub mod Elements
 pub mod Leads
 pub mod Leaves

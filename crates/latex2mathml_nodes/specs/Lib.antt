@@ -1,5 +1,6 @@
 pub mod Arguments
 pub mod Discreteness
+pub mod Held
 pub mod Markup
 pub mod MathSchema
 pub mod Print
@@ -7,4 +8,5 @@ pub mod Productions
 pub mod Style
 pub mod Styling
 pub mod Tree
+pub mod Weight
 pub mod Width
