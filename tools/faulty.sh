@@ -1,7 +1,15 @@
 # What run-without-memory and run-with-faults share: a scratch folder, the library that makes calls fail, and the counts.
 cd "$(dirname "$0")/.." || exit 1
 scratch=$(mktemp -d) || exit 1
-trap 'chmod -R u+rwx "$scratch"; rm -rf "$scratch"' EXIT
+site=$scratch/site
+
+# Nothing stays: no mounted device, and no folder without rights.
+leave() {
+    umount "$site/device" 2>/dev/null
+    chmod -R u+rwx "$scratch"
+    rm -rf "$scratch"
+}
+trap leave EXIT
 trap 'exit 1' HUP INT TERM
 passed=0
 failed=0
@@ -19,7 +27,6 @@ program=$(tools/built latex2mathml_app inline) || give_up 'the program could not
 chmod 755 "$scratch"
 cp "$program" "$scratch/latex2mathml"
 program=$scratch/latex2mathml
-site=$scratch/site
 
 math() { printf '%s' "<math xmlns=\"http://www.w3.org/1998/Math/MathML\" display=\"$1\">$2</math>"; }
 
