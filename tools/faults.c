@@ -59,7 +59,7 @@ __attribute__((constructor)) static void begin(void) {
 
 static void report(const char *what) {
     if (!report_file) return;
-    int file = syscall(SYS_open, report_file, O_WRONLY | O_CREAT | O_APPEND, 0666);
+    int file = syscall(SYS_openat, AT_FDCWD, report_file, O_WRONLY | O_CREAT | O_APPEND, 0666);
     if (file < 0) return;
     syscall(SYS_write, file, what, strlen(what));
     syscall(SYS_write, file, "\n", 1);

@@ -37,7 +37,7 @@ pass() { passed=$((passed + 1)); }
 
 fail() {
     failed=$((failed + 1))
-    echo "FAILED: $1"
+    printf 'FAILED: %s\n' "$1"
 }
 
 # What tools/faults.c is told, and nothing where it is empty.
