@@ -48,15 +48,18 @@ opened=
 opened_time=
 opened_run=
 
-# with_fault COMMAND..: runs it with its input from $scratch/in, and makes the calls fail that are named above. Its streams
-# are then in $scratch/out and $scratch/err, its status is $status, and $scratch/hit holds what failed.
-with_fault() {
+# with_fault_here COMMAND..: runs it, and makes the calls fail that are named above. Its streams are then in $scratch/out and
+# $scratch/err, its status is $status, and $scratch/hit holds what failed.
+with_fault_here() {
     : >"$scratch/hit"
     timeout 20 env LD_PRELOAD="$scratch/faults.so" FAULT_REPORT="$scratch/hit" FAULT="$fault" FAULT_MARKED="$marked" \
         FAULT_STEP="$step" FAULT_PATH="$opened" FAULT_TIME="$opened_time" FAULT_RUN="$opened_run" \
-        "$@" <"$scratch/in" >"$scratch/out" 2>"$scratch/err"
+        "$@" >"$scratch/out" 2>"$scratch/err"
     status=$?
 }
+
+# with_fault COMMAND..: the same, with its input from $scratch/in
+with_fault() { with_fault_here "$@" <"$scratch/in"; }
 
 was_hit() { [ -s "$scratch/hit" ]; }
 
