@@ -355,6 +355,40 @@ fn long_document(rt: HostRuntime) -> Result<(), Fail> {
     Ok(())
 }
 
+/// So many letters, and a character of two bytes behind them.
+fn letters_and_character(alloc: Global, letters: usize) -> Result<String, AllocError> {
+    let mut document = String::new(alloc);
+    for _ in 0..letters {
+        document.push('z')?;
+    }
+    document.push('é')?;
+    Ok(document)
+}
+
+/// Whether such a document is read whole, and is no text without its last byte.
+fn is_read_whole(alloc: Global, letters: usize) -> Result<bool, Fail> {
+    let document = letters_and_character(alloc, letters)?;
+    let Some((_, cut)) = document.as_bytes().split_last() else {
+        return Ok(false);
+    };
+    let mut from = source(cut, 4096, ENOUGH);
+    let is_no_text = match read_document(alloc, &mut from) {
+        Ok(_) => false,
+        Err(fault) => fault == FileFault::NotText,
+    };
+    let reading = Reading::Unchanged(document.clone()?);
+    Ok(is_no_text && from.ended && reads(alloc, document.as_str(), 4096, &reading)?)
+}
+
+/// A call gives 4096 bytes, and the last of them is the last but two, the last but one, or the last of the text.
+#[test]
+fn character_at_the_end_of_a_call(rt: HostRuntime) -> Result<(), Fail> {
+    for letters in [4093, 4094, 4095, 4096, 8191] {
+        assert!(rt; is_read_whole(rt.alloc(), letters)?, "{letters}");
+    }
+    Ok(())
+}
+
 /// The fault of reading these bytes one at a time in so many calls.
 fn fault(alloc: Global, bytes: &[u8], calls: usize) -> (Stream<Reader<'_>>, Option<FileFault>) {
     let mut from = source(bytes, 1, calls);
