@@ -1,6 +1,9 @@
 //! Inputs that nobody would write.
 
+use crate::compounds::sqrt;
+use crate::copies::samples;
 use crate::formulas::has;
+use latex2mathml::ast::Node;
 use latex2mathml::token::Token;
 use latex2mathml::{DisplayStyle, LatexError, latex_to_mathml};
 use std::alloc::{AllocError, Global};
@@ -121,6 +124,29 @@ fn deep_fences(rt: HostRuntime) -> Result<(), Fail> {
     let close = r#"<mo stretchy="true" form="postfix">)</mo></mrow>"#;
     let contents = nested(alloc, opening, "<mi>x</mi>", close, DEEP)?;
     assert!(rt; has(alloc, formula.as_str(), contents.as_str())?);
+    Ok(())
+}
+
+/// Whether the markup of a node that is put behind a text is what its `Display` prints.
+fn appends_its_print(alloc: Global, node: &Node) -> Result<bool, AllocError> {
+    let mut text = String::from_str(alloc, "before ")?;
+    node.append_markup(alloc, &mut text)?;
+    let printed = format!(in alloc; "before {node}")?;
+    Ok(text == printed)
+}
+
+/// A node of each kind prints alike in both ways, by itself and far below others.
+#[test]
+fn appended_markup(rt: HostRuntime) -> Result<(), Fail> {
+    let alloc = rt.alloc();
+    for sample in samples(alloc)? {
+        assert!(rt; appends_its_print(alloc, &sample)?, "{sample}");
+        let mut deep = sample;
+        for _ in 0..100 {
+            deep = sqrt(alloc, deep)?;
+        }
+        assert!(rt; appends_its_print(alloc, &deep)?, "{deep}");
+    }
     Ok(())
 }
 

@@ -4,7 +4,9 @@ pub mod Elements
 pub mod Leads
 pub mod Leaves
 pub mod Members
+pub mod Pieces
 pub mod Prints
 pub mod Styles
 pub mod ValueTexts
+pub mod Weights
 pub mod Widths

@@ -1,9 +1,12 @@
 pub mod Arguments
 pub mod Discreteness
+pub mod Layout
 pub mod Markup
 pub mod MathSchema
+pub mod Piece
 pub mod Print
 pub mod Productions
 pub mod Style
 pub mod Tree
+pub mod Weight
 pub mod Width
