@@ -168,6 +168,17 @@ enum Depth {
     Levels(u32, Global),
 }
 
+impl Depth {
+    /// How far it recurses within a node.
+    #[inline(always)]
+    fn within(self) -> Depth {
+        match self {
+            Depth::Whole => Depth::Whole,
+            Depth::Levels(levels, alloc) => Depth::Levels(levels.saturating_sub(1), alloc),
+        }
+    }
+}
+
 /// More than formulas that people write are nested, and little of any stack.
 const LEVELS: u32 = 32;
 
@@ -253,28 +264,12 @@ fn write_all<W: fmt::Write>(nodes: &[Node], depth: Depth, f: &mut fmt::Formatter
 fn write_node<W: fmt::Write>(node: &Node, depth: Depth, f: &mut fmt::Formatter<W>) -> fmt::Result
     ensures { WritesOnOk W.write_str_gives f.old result (print (tree node.now)) f.new }
 {
-    match depth {
-        Depth::Whole => write_layout(layout_of(node), Depth::Whole, f),
-        Depth::Levels(0, alloc) => write_in_turn(alloc, node, f),
-        Depth::Levels(levels, alloc) => write_layout(
-            layout_of(node),
-            Depth::Levels(levels.saturating_sub(1), alloc),
-            f,
-        ),
-    }
-}
-
-#[cycle(print)]
-fn write_layout<W: fmt::Write>(
-    layout: Layout,
-    depth: Depth,
-    f: &mut fmt::Formatter<W>,
-) -> fmt::Result
-    ensures { WritesOnOk W.write_str_gives f.old result (layout_print layout.entry) f.new }
-{
-    match layout {
+    match layout_of(node) {
         Layout::Leaf(leaf) => write_leaf(leaf, f),
-        Layout::Compound(compound) => write_compound(compound, depth, f),
+        Layout::Compound(compound) => match depth {
+            Depth::Levels(0, alloc) => write_in_turn(alloc, node, f),
+            _ => write_compound(compound, depth.within(), f),
+        },
     }
 }
 

@@ -1,7 +1,7 @@
 -- The prints of the nodes so far are written; and how much each function has still to print.
 use Rattle.std.proofs.Common.{take, ◌+◌, ◌*◌}
 use Rattle.std.specs.Fmt.{HasWritten, IsPlainFormatter}
-use Rattle.latex2mathml_nodes.specs.Layout.{compound_weight, layout_weight}
+use Rattle.latex2mathml_nodes.specs.Layout.{compound_weight}
 use Rattle.latex2mathml_nodes.specs.Print.{members_print, prints}
 use Rattle.latex2mathml_nodes.specs.Tree.{tree, trees}
 use Rattle.latex2mathml_nodes.specs.Weight.{weight, weights}
@@ -17,9 +17,6 @@ invariant-write_members-loop-node g l =
 
 abbrev pub decreases-write_node : goal.decreases-write_node
 decreases-write_node g l = 6 * weight (tree l.node.now)
-
-abbrev pub decreases-write_layout : goal.decreases-write_layout
-decreases-write_layout g l = 6 * layout_weight l.layout + 1
 
 abbrev pub decreases-write_compound : goal.decreases-write_compound
 decreases-write_compound g l = 6 * compound_weight l.compound
