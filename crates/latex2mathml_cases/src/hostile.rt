@@ -4,6 +4,7 @@ use crate::compounds::{
     fenced, frac, letter, over_op, overset, root, slashed, sqrt, style, sub_sup, under, under_op,
     under_over, underset,
 };
+use crate::copies::samples;
 use crate::formulas::has;
 use crate::nodes::{applied, pair, subscript, superscript};
 use crate::refusals::is_refused;
@@ -233,6 +234,29 @@ fn deep_and_refused(rt: HostRuntime) -> Result<(), Fail> {
     let formula = format!(in alloc; "{{{}", scripts.as_str())?;
     let text = r#"The token "RBrace" is expected, but the token "EOF" is found.""#;
     assert!(rt; is_refused(alloc, formula.as_str(), text)?);
+    Ok(())
+}
+
+/// Whether the markup of a node that is put behind a text is what its `Display` prints.
+fn appends_its_print(alloc: Global, node: &Node) -> Result<bool, AllocError> {
+    let mut text = String::from_str(alloc, "before ")?;
+    node.append_markup(alloc, &mut text)?;
+    let printed = format!(in alloc; "before {node}")?;
+    Ok(text == printed)
+}
+
+/// A node of each kind prints alike in both ways, by itself and far below others.
+#[test]
+fn appended_markup(rt: HostRuntime) -> Result<(), Fail> {
+    let alloc = rt.alloc();
+    for sample in samples(alloc)? {
+        assert!(rt; appends_its_print(alloc, &sample)?, "{sample}");
+        let mut deep = sample;
+        for _ in 0..100 {
+            deep = sqrt(alloc, deep)?;
+        }
+        assert!(rt; appends_its_print(alloc, &deep)?, "{deep}");
+    }
     Ok(())
 }
 

@@ -5,6 +5,8 @@ pub mod Elements
 pub mod Leads
 pub mod Leaves
 pub mod Members
+pub mod Pieces
+pub mod PrintWeights
 pub mod Prints
 pub mod Styles
 pub mod Styling
