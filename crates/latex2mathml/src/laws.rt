@@ -3,7 +3,7 @@ ghost use Rattle.latex2mathml.specs.DocumentLaws.{HasOneCut, HasOneOutcome, Join
 
 pub use latex2mathml_formulas::laws::{
     one_reading, one_reading_of, one_token_list, read_by_slices, refused_by_slices, rendering,
-    sliced,
+    sliced, white_space,
 };
 pub use latex2mathml_nodes::laws::{balanced, one_element, restyled, widths_are_nearest};
 
