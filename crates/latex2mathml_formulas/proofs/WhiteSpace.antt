@@ -8,7 +8,7 @@ use Rattle.std.specs.List.{AllPass}
 use Rattle.std.specs.Str.{IsUtf8, chars}
 use Rattle.latex2mathml_formulas.specs.Characters.{Begins, Stops, head, is_empty, is_space}
 use Rattle.latex2mathml_formulas.specs.Cutting.{slices_of}
-use Rattle.latex2mathml_formulas.specs.Places.{AreSlices, IsBetweenTokens, IsDigitPlace, IsReadAlike, IsFreeOfSpace}
+use Rattle.latex2mathml_formulas.specs.Places.{AreSlices, IsBetweenTokens, IsDigitPlace, IsReadAlike, SpaceChangesNothing, HasPlaces}
 use Rattle.latex2mathml_formulas.specs.Rendering.{IsRendering, IsFormulaRefusal}
 use Rattle.latex2mathml_formulas.specs.Spelling.{SpellsAt, Slice, HasSlices, HasTokens, is_equals_sign, is_period, takes_digit, character, colon, colon_equals, number, digit, symbol_command, letter_command, lone_backslash}
 use Rattle.latex2mathml_tokens.specs.Tok.{Tok}
@@ -174,11 +174,61 @@ read_alike text other to from = record {
   refusals = λ refusal. (λ h. (h.0, to h.0 h.1, h.2), λ h. (h.0, from h.0 h.1, h.2));
 }
 
-pub free_of_space : (before space after : List ℕ) → IsUtf8 before → IsUtf8 space → IsFreeOfSpace before space after
-free_of_space before space after u v = λ place no_digit_place white.
+pub space_changes_nothing : (before space after : List ℕ) → IsUtf8 before → IsUtf8 space → SpaceChangesNothing before space after
+space_changes_nothing before space after u v = λ place no_digit_place white.
     let text : chars (before ++ after) ≡ chars before ++ chars after = chars-append before after u in
     let other : chars (before ++ (space ++ after)) ≡ chars before ++ (chars space ++ chars after) = chars-append before (space ++ after) u ∙ ap (λ x. chars before ++ x) (chars-append space after v) in
     let ss : List Slice = around (chars before) (chars after) place in
     let a : HasSlices false (chars (before ++ after)) ss = subst (λ x. HasSlices false x ss) (sym text) (has_slices (chars before) (chars after) place) in
     let b : HasSlices false (chars (before ++ (space ++ after))) ss = subst (λ x. HasSlices false x ss) (sym other) (same_slices (chars before) (chars after) place no_digit_place (chars space) (each is_space (chars space) white)) in
     read_alike (before ++ after) (before ++ (space ++ after)) (same_tokens _ _ ss a b) (same_tokens _ _ ss b a)
+
+-- where places are
+
+-- the slices of a text up to one of them, and those behind it
+abbrev Parted : Bool → List ℕ → List Slice → Slice → List Slice → Type 0
+Parted takes text ss s rs =
+    (front : List ℕ) × (behind : List ℕ)
+    × (text ≡ front ++ behind)
+    × AreSlices takes front behind (ss ++ s ∷ [])
+    × HasSlices (takes_digit (Some s.token)) behind rs
+
+parted : (takes : Bool) (text : List ℕ) (ss : List Slice) (s : Slice) (rs : List Slice) → HasSlices takes text (ss ++ s ∷ rs) → Parted takes text ss s rs
+parted takes text [] s rs (rest, (space, whole, white, spells), later) =
+    let front : List ℕ = space ++ (s.text ++ []) in
+    (front, rest, whole ∙ sym (step_whole front rest space s.text [] refl), (space, [], refl, white, spells, refl), later)
+parted takes text (r ∷ ss) s rs (rest, (space, whole, white, spells), later) =
+    let more : Parted (takes_digit (Some r.token)) rest ss s rs = parted (takes_digit (Some r.token)) rest ss s rs later in
+    let front : List ℕ = space ++ (r.text ++ more.0) in
+    (front, more.1, whole ∙ ap (λ x. space ++ (r.text ++ x)) more.2 ∙ sym (step_whole front more.1 space r.text more.0 refl), (space, more.0, refl, white, subst (λ x. SpellsAt (takes && is_empty space) r.text (head x) r.token) more.2 spells, more.3), more.4)
+
+pub has_places : (text : List ℕ) → HasPlaces text
+has_places text = λ earlier later last next h.
+    let p : Parted false text earlier last (next ∷ later) = parted false text earlier last (next ∷ later) h in
+    let rest : List ℕ = p.4.0 in
+    let space : List ℕ = p.4.1.0 in
+    let behind : List ℕ = next.text ++ rest in
+    let takes : Bool = takes_digit (Some last.token) in (
+      p.0,
+      space,
+      behind,
+      p.2 ∙ ap (λ x. p.0 ++ x) p.4.1.1,
+      λ left right e. (let whole : p.1 ≡ left ++ (right ++ behind) = p.4.1.1 ∙ ap (λ x. x ++ behind) e ∙ append_assoc left right behind in (
+        record {
+          front = p.0;
+          left = left;
+          earlier = earlier;
+          last = last;
+          right = right;
+          next = next;
+          rest = rest;
+          before_is = refl;
+          after_is = refl;
+          slices = subst (λ x. AreSlices false p.0 x (earlier ++ last ∷ [])) whole p.3;
+          space = subst (AllPass is_space) e p.4.1.2;
+          spells = subst (λ x. SpellsAt (takes && is_empty x) next.text (head rest) next.token) e p.4.1.3;
+        },
+        refl,
+        refl,
+      )),
+    )

@@ -6,7 +6,7 @@ use Rattle.std.specs.List.{AllPass}
 use Rattle.std.specs.Str.{chars}
 use Rattle.latex2mathml_formulas.specs.Characters.{Begins, head, is_empty, is_space}
 use Rattle.latex2mathml_formulas.specs.Rendering.{IsRendering, IsFormulaRefusal}
-use Rattle.latex2mathml_formulas.specs.Spelling.{Slice, SpellsAt, HasTokens, takes_digit}
+use Rattle.latex2mathml_formulas.specs.Spelling.{Slice, SpellsAt, HasSlices, HasTokens, takes_digit}
 use Rattle.latex2mathml_tokens.specs.Refusal.{Refusal}
 use Rattle.latex2mathml_tokens.specs.Tok.{Tok}
 use Rattle.latex2mathml_tokens.specs.declared.DisplayStyle.{DisplayStyle}
@@ -54,7 +54,17 @@ pub record IsReadAlike (text other : List ℕ) : Type 0 where
   pub refusals : (refusal : Refusal) → IsFormulaRefusal text refusal ↔ IsFormulaRefusal other refusal
 
 -- white space at a place between two tokens that is no digit place changes nothing
-abbrev pub IsFreeOfSpace : List ℕ → List ℕ → List ℕ → Type 0
-IsFreeOfSpace before space after =
+abbrev pub SpaceChangesNothing : List ℕ → List ℕ → List ℕ → Type 0
+SpaceChangesNothing before space after =
     (place : IsBetweenTokens (chars before) (chars after)) → ¬ (IsDigitPlace place) → AllPass is_space (chars space)
     → IsReadAlike (before ++ after) (before ++ (space ++ after))
+
+-- where two slices of the text stand side by side, a place lies between them: white space that parts them may be cut
+-- anywhere, and where there is none the place is where they touch
+abbrev pub HasPlaces : List ℕ → Type 0
+HasPlaces text =
+    (earlier later : List Slice) (last next : Slice) → HasSlices false text (earlier ++ last ∷ next ∷ later)
+    → (front space behind : List ℕ)
+    × (text ≡ front ++ (space ++ behind))
+    × ((left right : List ℕ) → space ≡ left ++ right
+    → (place : IsBetweenTokens (front ++ left) (right ++ behind)) × (place.last ≡ last) × (place.next ≡ next))
