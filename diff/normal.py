@@ -1,12 +1,14 @@
 """The crate's answers brought to this repository's form, by what docs/DIFFERENCES.md lists and by nothing else.
 
-Only the crate's side is changed, so the program's answer is compared byte by byte. Each difference is one function,
-and its comment says which one it is. Two of the list need none, since no formula shows them: `thick` and the quotes of
-`columnalign="right"` are printed of nodes that only a caller makes."""
+Only the crate's side is changed, what it is handed and what it answers, so the program's answer is compared byte by
+byte. Each difference is one function, and its comment says which one it is. Two of the list need none, since no formula
+shows them: `thick` and the quotes of `columnalign="right"` are printed of nodes that only a caller makes."""
 
 import re
 from dataclasses import dataclass
 from decimal import Decimal
+
+import operands
 
 # What the crate prints between its tags is one character, or holds no `<` that a name or a `/` follows. So these are
 # all tags.
@@ -184,21 +186,30 @@ STAND_IN, ITS_CHARACTER = "\\lightning", "\u21af"
 TOKEN = re.compile(r"[ \t\n\r]*(?::=|\\(?:[A-Za-z]+|.|$)|[0-9]+\.?[0-9]*|.|$)", re.S)
 
 
-def for_crate(formula):
+def with_stand_in(formula):
     """`\\ni` has the character of `\\notin` there, by a slip, and its own here. So the crate reads another operator in
     its place, and `from_crate` puts the character of `\\ni` for that one's."""
     return COMMAND.sub(lambda command: STAND_IN if command[1] == "ni" else command[0], formula)
 
 
+def for_crate(formula):
+    """Scripts and primes behind an operand belong to it there, and stay outside here. Braces say so there."""
+    return operands.braced(with_stand_in(formula))
+
+
+def has_stand_in(text, handed):
+    return handed.count(STAND_IN) > text.count(STAND_IN)
+
+
 def from_crate(text, handed, answer):
-    return answer if handed == text else answer.replace(ITS_CHARACTER, "\u220b")
+    return answer.replace(ITS_CHARACTER, "\u220b") if has_stand_in(text, handed) else answer
 
 
 def incomparable(text, handed):
     """Why a listed difference keeps a text from being compared, or nothing."""
     if "\0" in text:
         return "a NUL, which the crate reads as the end"
-    if handed != text and (ITS_CHARACTER in text or STAND_IN in text):
+    if has_stand_in(text, handed) and (ITS_CHARACTER in text or STAND_IN in text):
         return "\\ni beside the operator that stands for it"
     return None
 
@@ -241,10 +252,15 @@ def formulas_of(document):
     return found, opened
 
 
+def in_formulas(change, document):
+    """The document with each formula changed so."""
+    parts = re.split(r"(\$+)", document)
+    return "".join(change(part) if place % 4 == 2 else part for place, part in enumerate(parts))
+
+
 def document_for_crate(document):
     """A document in which the crate reads each formula as it reads one alone."""
-    parts = re.split(r"(\$+)", document)
-    return "".join(for_crate(part) if place % 4 == 2 else part for place, part in enumerate(parts))
+    return in_formulas(for_crate, document)
 
 
 def has_one_first_fault(formulas, refused, opened):

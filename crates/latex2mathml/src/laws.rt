@@ -2,8 +2,8 @@
 ghost use Rattle.latex2mathml.specs.DocumentLaws.{HasOneCut, HasOneOutcome, JoinsAnswers, KeepsDollarFree, RepeatsAnswers};
 
 pub use latex2mathml_formulas::laws::{
-    one_reading, one_reading_of, one_token_list, read_by_slices, refused_by_slices, rendering,
-    sliced,
+    one_reading, one_reading_of, one_token_list, places, read_by_slices, refused_by_slices,
+    rendering, sliced, white_space,
 };
 pub use latex2mathml_nodes::laws::{balanced, one_element, restyled, widths_are_nearest};
 
