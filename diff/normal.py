@@ -67,11 +67,12 @@ def with_named_brackets(text):
 
 
 def with_references(text):
-    """Texts and characters print as they are there. Here `&`, `<` and `>` print as references. The stroke through what
-    is slashed is a reference of the print's own, on both sides."""
+    """Texts and characters print as they are there. Here `&`, `<`, `>` and `$` print as references. The stroke through
+    what is slashed is a reference of the print's own, on both sides."""
     stroke = "&#x0338;"
     content, slashed = (text[:-len(stroke)], stroke) if text.endswith(stroke) else (text, "")
-    return content.replace("&", "&amp;").replace("<", "&lt;").replace(">", "&gt;") + slashed
+    references = {"&": "&amp;", "<": "&lt;", ">": "&gt;", "$": "&#x24;"}
+    return "".join(references.get(character, character) for character in content) + slashed
 
 
 def plain(derived):
@@ -190,15 +191,19 @@ def for_crate(formula):
     return COMMAND.sub(lambda command: STAND_IN if command[1] == "ni" else command[0], formula)
 
 
+def has_stand_in(text, handed):
+    return handed.count(STAND_IN) > text.count(STAND_IN)
+
+
 def from_crate(text, handed, answer):
-    return answer if handed == text else answer.replace(ITS_CHARACTER, "\u220b")
+    return answer.replace(ITS_CHARACTER, "\u220b") if has_stand_in(text, handed) else answer
 
 
 def incomparable(text, handed):
     """Why a listed difference keeps a text from being compared, or nothing."""
     if "\0" in text:
         return "a NUL, which the crate reads as the end"
-    if handed != text and (ITS_CHARACTER in text or STAND_IN in text):
+    if has_stand_in(text, handed) and (ITS_CHARACTER in text or STAND_IN in text):
         return "\\ni beside the operator that stands for it"
     return None
 
@@ -241,10 +246,42 @@ def formulas_of(document):
     return found, opened
 
 
+UNIT = re.compile(r"\\.|\$+|.", re.S)
+ESCAPED_SIGN = "\\$"
+
+
+def parts(document):
+    """Texts, as lists of units, and runs of dollar signs in turn. A backslash takes the next character with it here."""
+    found = [[]]
+    for unit in UNIT.findall(document):
+        if unit.startswith("$"):
+            found += [[unit], []]
+        else:
+            found[-1].append(unit)
+    return found
+
+
 def document_for_crate(document):
-    """A document in which the crate reads each formula as it reads one alone."""
-    parts = re.split(r"(\$+)", document)
-    return "".join(for_crate(part) if place % 4 == 2 else part for place, part in enumerate(parts))
+    """A document in which the crate reads each formula as it reads one alone. A backslash takes nothing with it there,
+    so the crate is handed the reference that `\\$` of prose becomes here."""
+    handed = ""
+    for place, units in enumerate(parts(document)):
+        if place % 4 == 0:
+            units = ["&#x24;" if unit == ESCAPED_SIGN else unit for unit in units]
+        text = "".join(units)
+        handed += for_crate(text) if place % 4 == 2 else text
+    return handed
+
+
+def is_body(formula):
+    """Whether dollar signs can enclose the formula here: none of its units is one, and its last backslash is no unit."""
+    texts = parts(formula)
+    return len(texts) == 1 and texts[0] != [] and texts[0][-1] != "\\"
+
+
+def has_escaped_sign(document):
+    """Whether a formula holds `\\$`. There its dollar sign ends the formula."""
+    return any(ESCAPED_SIGN in units for units in parts(document)[2::4])
 
 
 def has_one_first_fault(formulas, refused, opened):

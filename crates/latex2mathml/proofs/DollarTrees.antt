@@ -1,4 +1,4 @@
--- The print of a tree holds no dollar sign where no size in it does: sizes alone are values of attributes.
+-- The print of a tree holds no dollar sign where no size in it does: a size alone is a text in an attribute's value.
 use Rattle.std.proofs.Common.{ℕ, Bool, true, false, List, ◌++◌, Option, Some, None, refl, codes, nat_eq}
 use Rattle.std.specs.Fmt.{decimal}
 use Rattle.latex2mathml_tokens.specs.Attributes.{accent_text, align_text, bool_text, display_text, thickness_text, variant_text}
