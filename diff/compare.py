@@ -51,7 +51,7 @@ class Trial:
 
     def fits_into_a_document(self):
         """Whether the formula is to be set, and dollar signs can enclose it."""
-        return self.kind == "o" and not self.left_out and self.text != "" and "$" not in self.text
+        return self.kind == "o" and not self.left_out and normal.is_body(self.text)
 
 
 class Crate:
@@ -75,6 +75,8 @@ class Crate:
 
     def framed_otherwise(self, trial):
         """Why a document's dollar signs keep it from being compared, or nothing."""
+        if normal.has_escaped_sign(trial.text):
+            return "a formula that holds \\$, where the crate ends it"
         framed = normal.formulas_of(trial.handed)
         if framed is None:
             return "dollar signs that the crate pairs otherwise"

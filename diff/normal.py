@@ -69,11 +69,12 @@ def with_named_brackets(text):
 
 
 def with_references(text):
-    """Texts and characters print as they are there. Here `&`, `<` and `>` print as references. The stroke through what
-    is slashed is a reference of the print's own, on both sides."""
+    """Texts and characters print as they are there. Here `&`, `<`, `>` and `$` print as references. The stroke through
+    what is slashed is a reference of the print's own, on both sides."""
     stroke = "&#x0338;"
     content, slashed = (text[:-len(stroke)], stroke) if text.endswith(stroke) else (text, "")
-    return content.replace("&", "&amp;").replace("<", "&lt;").replace(">", "&gt;") + slashed
+    references = {"&": "&amp;", "<": "&lt;", ">": "&gt;", "$": "&#x24;"}
+    return "".join(references.get(character, character) for character in content) + slashed
 
 
 def plain(derived):
@@ -252,15 +253,52 @@ def formulas_of(document):
     return found, opened
 
 
+UNIT = re.compile(r"\\.|\$+|.", re.S)
+ESCAPED_SIGN = "\\$"
+
+
+def parts(document):
+    """Texts, as lists of units, and runs of dollar signs in turn. A backslash takes the next character with it here."""
+    found = [[]]
+    for unit in UNIT.findall(document):
+        if unit.startswith("$"):
+            found += [[unit], []]
+        else:
+            found[-1].append(unit)
+    return found
+
+
+def changed(document, prose, formula):
+    """The document with the units of each piece of prose, and the text of each formula, changed so."""
+    handed = ""
+    for place, units in enumerate(parts(document)):
+        if place % 4 == 0:
+            units = prose(units)
+        text = "".join(units)
+        handed += formula(text) if place % 4 == 2 else text
+    return handed
+
+
 def in_formulas(change, document):
     """The document with each formula changed so."""
-    parts = re.split(r"(\$+)", document)
-    return "".join(change(part) if place % 4 == 2 else part for place, part in enumerate(parts))
+    return changed(document, lambda units: units, change)
 
 
 def document_for_crate(document):
-    """A document in which the crate reads each formula as it reads one alone."""
-    return in_formulas(for_crate, document)
+    """A document in which the crate reads each formula as it reads one alone. A backslash takes nothing with it there,
+    so the crate is handed the reference that `\\$` of prose becomes here."""
+    return changed(document, lambda units: ["&#x24;" if unit == ESCAPED_SIGN else unit for unit in units], for_crate)
+
+
+def is_body(formula):
+    """Whether dollar signs can enclose the formula here: none of its units is one, and its last backslash is no unit."""
+    texts = parts(formula)
+    return len(texts) == 1 and texts[0] != [] and texts[0][-1] != "\\"
+
+
+def has_escaped_sign(document):
+    """Whether a formula holds `\\$`. There its dollar sign ends the formula."""
+    return any(ESCAPED_SIGN in units for units in parts(document)[2::4])
 
 
 def has_one_first_fault(formulas, refused, opened):

@@ -306,7 +306,7 @@ fn texts(rt: HostRuntime) -> Result<(), Fail> {
         ),
         (r"\text{\alpha é}", "<mtext>αé</mtext>"),
         (r"\text\sqrt x", "<mtext>x</mtext>"),
-        (r"\text{$}", "<mtext>$</mtext>"),
+        (r"\text{$}", "<mtext>&#x24;</mtext>"),
         (r"\text", "<mtext></mtext>"),
         (r"\operatorname{sn} x", "<mi>sn</mi><mi>x</mi>"),
     ] {

@@ -659,7 +659,7 @@ fn write_content<W: fmt::Write>(text: &str, f: &mut fmt::Formatter<W>) -> fmt::R
 fn needs_escape(c: char) -> bool
     ensures { result ≡ is_escaped c }
 {
-    c == '&' || c == '<' || c == '>'
+    c == '&' || c == '<' || c == '>' || c == '$'
 }
 
 /// Writes a text as contents, character by character.
@@ -679,6 +679,7 @@ fn write_content_char<W: fmt::Write>(c: char, f: &mut fmt::Formatter<W>) -> fmt:
         '&' => f.write_str("&amp;"),
         '<' => f.write_str("&lt;"),
         '>' => f.write_str("&gt;"),
+        '$' => f.write_str("&#x24;"),
         _ => f.write_char(c),
     }
 }
@@ -697,6 +698,7 @@ fn write_value_char<W: fmt::Write>(c: char, f: &mut fmt::Formatter<W>) -> fmt::R
 {
     match c {
         '"' => f.write_str("&quot;"),
+        '$' => f.write_str("$"),
         _ => write_content_char(c, f),
     }
 }
