@@ -246,6 +246,7 @@ fn append_content_char(c: char, text: &mut String) -> Result<(), AllocError>
         '&' => text.push_str("&amp;"),
         '<' => text.push_str("&lt;"),
         '>' => text.push_str("&gt;"),
+        '$' => text.push_str("&#x24;"),
         _ => text.push(c),
     }
 }

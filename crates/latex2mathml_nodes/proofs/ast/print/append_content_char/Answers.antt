@@ -8,4 +8,4 @@ pushed (Ok x) new old a b e h = h ∙ ap (λ l. old ++ l) e
 pushed (Err x) new old a b e h = tt
 
 pub returns-in_default : goal.returns-in_default
-returns-in_default c = pushed c.push.result _ _ _ _ (sym (content_char-other c.args.c (omega arith) (omega arith) (omega arith))) c.push.ensures.bytes
+returns-in_default c = pushed c.push.result _ _ _ _ (sym (content_char-other c.args.c (omega arith) (omega arith) (omega arith) (omega arith))) c.push.ensures.bytes
