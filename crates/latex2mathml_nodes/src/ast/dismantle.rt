@@ -1,5 +1,5 @@
 //! Letting nodes go, however deep they are.
-ghost use Rattle.std.specs.Prelude.{◌≡◌, ◌+◌, ◌<◌, IfSome};
+ghost use Rattle.std.specs.Prelude.{◌≡◌, ◌+◌, ◌<◌, IfSome, IsTrue};
 ghost use Rattle.latex2mathml_nodes.specs.Tree.{tree, trees};
 ghost use Rattle.latex2mathml_nodes.specs.Weight.{hung, hung_in, weight, weights};
 ghost use Rattle.latex2mathml_nodes.specs.Held.{held, hung_on};
@@ -17,6 +17,16 @@ enum Parts {
 }
 
 impl Node {
+    /// Whether the node is of a kind that has no nodes in it.
+    fn is_leaf(&self) -> bool
+        ensures { IsTrue result → weight (tree self.now) ≡ 0 }
+    {
+        matches!(
+            self,
+            Node::Letter(..) | Node::Operator(_) | Node::Number(_) | Node::OtherOperator(_)
+        )
+    }
+
     /// What the node was made of. All else in it goes.
     fn parts(self) -> Parts
         ensures weight { weight (tree self) ≡ held result }
@@ -95,15 +105,35 @@ fn step(parts: Parts, chain: Node) -> Option<(Parts, Node)>
     match parts {
         Parts::None => next(chain),
         Parts::One(x) => Some((Box::into_inner(x).parts(), chain)),
-        Parts::Two(mut x, y) => {
-            let first = mem::replace(&mut *x, chain);
-            Some((first.parts(), Node::Subscript(x, y)))
-        }
+        Parts::Two(x, y) => Some(of_two(x, y, chain)),
         Parts::Three(mut target, sub, sup) => {
             let first = mem::replace(&mut *target, chain);
             Some((first.parts(), Node::SubSup { target, sub, sup }))
         }
         Parts::All(members) => first_of_all(members, chain),
+    }
+}
+
+/// The parts of the first of two nodes, whose place the chain takes, or of the second, where the first is a leaf.
+fn of_two(mut x: Box<Node>, y: Box<Node>, chain: Node) -> (Parts, Node)
+    ensures { held result.0 + hung (tree result.1)
+        < weight (tree x.value) + weight (tree y.value) + 2 + hung (tree chain) }
+{
+    if x.is_leaf() {
+        let_go(Box::into_inner(x));
+        return (Box::into_inner(y).parts(), chain);
+    }
+    let first = mem::replace(&mut *x, chain);
+    (first.parts(), Node::Subscript(x, y))
+}
+
+/// Lets a leaf go.
+fn let_go(leaf: Node)
+    requires { weight (tree leaf) ≡ 0 }
+{
+    match leaf.parts() {
+        Parts::None => {}
+        _ => unreachable!(),
     }
 }
 
