@@ -1,9 +1,9 @@
 -- Plain text, and where it ends.
-use Rattle.std.proofs.Common.{◌≡◌, ◌≢◌, ◌⊎◌, ℕ, ◌+◌, ◌<◌, ◌≤◌, List, [], ◌∷◌, ◌++◌, length, get_or, take, drop, ⊎_elim, inl, inr, refl, sym, ap, subst, ◌∙◌, arith, append-nil, append_assoc}
+use Rattle.std.proofs.Common.{◌≡◌, ◌≢◌, ◌⊎◌, ℕ, suc, ◌+◌, ◌<◌, ◌≤◌, List, [], ◌∷◌, ◌++◌, length, get_or, take, drop, ⊎_elim, inl, inr, refl, sym, ap, subst, ◌∙◌, arith, append-nil, append_assoc, get_or-take, length-take}
 use Rattle.std.proofs.lemmas.Bool.Decides.{eqb_tells}
 use Rattle.std.proofs.lemmas.List.{take_more, drop_more, drop_all}
 use Rattle.std.proofs.str.Laws.{order}
-use Rattle.latex2mathml.specs.Pieces.{EndsBefore}
+use Rattle.latex2mathml.specs.Pieces.{EndsAt, EndsBefore, HoldsNo}
 use Rattle.latex2mathml.specs.Documents.{IsWhole, nothing, single, pair, IsPlain, whole, lone, IsBody}
 use Rattle.latex2mathml.specs.Dollars.{dollar, backslash}
 
@@ -185,3 +185,16 @@ pub ends_here : (text : List ℕ) (place : ℕ) → Passed text place → (place
 ends_here text place so is =
     ⊎_elim (λ inside. subst (EndsBefore (take place text)) (sym (drop_more text place 0 inside)) (is inside, so.whole_inside inside))
     (λ past. subst (EndsBefore (take place text)) (sym (drop_all place text past)) tt) (order place (length text))
+
+-- text before the first of a byte holds none
+pub none_before : (b : ℕ) (text : List ℕ) (place : ℕ) → ((i : ℕ) → i < place → get_or text i 0 ≢ b) → HoldsNo b (take place text)
+none_before b text place none i inside e = let short : i < place = omega (arith, length-take place text) in none i short (sym (get_or-take place text i 0 short) ∙ e)
+
+-- text without dollar signs and backslashes is whole
+pub singles : (text : List ℕ) → HoldsNo dollar text → HoldsNo backslash text → IsWhole text
+singles [] n m = nothing
+singles (b ∷ text) n m = single (n 0 (omega arith)) (m 0 (omega arith)) (singles text (λ i inside. n (suc i) (omega arith)) (λ i inside. m (suc i) (omega arith)))
+
+pub ends_whole : (text rest : List ℕ) → IsWhole text → EndsAt dollar rest → EndsBefore text rest
+ends_whole text [] w e = tt
+ends_whole text (b ∷ rest) w e = (e, w)

@@ -1,6 +1,7 @@
 //! The pieces of a document: prose, and formulas between dollar signs.
 ghost use Rattle.std.specs.Prelude.{◌≡◌, ◌≢◌, ◌++◌, [], IfNone, IfSome, OnErr, OnOk};
-ghost use Rattle.latex2mathml.specs.Pieces.{BeginsWith, EndsBefore, piece_of};
+ghost use Rattle.latex2mathml.specs.Pieces.{BeginsWith, EndsAt, EndsBefore, HoldsNo, piece_of};
+ghost use Rattle.latex2mathml.specs.Dollars.{dollar};
 ghost use Rattle.latex2mathml.specs.Documents.{HasCut, HasNoCut, IsPlain};
 
 pub(crate) mod convert;
@@ -93,6 +94,32 @@ fn first_piece(text: &str) -> Option<(Piece<'_>, &str)>
 
 /// The text up to its first dollar sign that no backslash takes, and the text from there on.
 fn until_dollar(text: &str) -> (&str, &str)
+    ensures joined { result.0.now ++ result.1.now ≡ text.now }
+    ensures plain { IsPlain result.0.now }
+    ensures ends { EndsBefore result.0.now result.1.now }
+{
+    let (front, rest) = up_to_dollar(text);
+    // most texts have no backslash there, and two searches are faster than a look at each byte
+    match front.find('\\') {
+        None => (front, rest),
+        Some(_) => by_units(text),
+    }
+}
+
+/// The text up to its first dollar sign, and the text from there on.
+fn up_to_dollar(text: &str) -> (&str, &str)
+    ensures joined { result.0.now ++ result.1.now ≡ text.now }
+    ensures free { HoldsNo dollar result.0.now }
+    ensures ends { EndsAt dollar result.1.now }
+{
+    match text.find('$') {
+        Some(place) => text.split_at(place),
+        None => text.split_at(text.len()),
+    }
+}
+
+/// As `until_dollar` answers, unit by unit.
+fn by_units(text: &str) -> (&str, &str)
     ensures joined { result.0.now ++ result.1.now ≡ text.now }
     ensures plain { IsPlain result.0.now }
     ensures ends { EndsBefore result.0.now result.1.now }

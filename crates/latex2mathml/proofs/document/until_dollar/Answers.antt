@@ -1,16 +1,15 @@
-use Rattle.latex2mathml.proofs.PlainTexts.{nothing_passed, passed_single, passed_lone, passed_pair}
+use Rattle.std.proofs.Common.{arith}
+use Rattle.std.specs.Prelude.{None}
+use Rattle.std.proofs.lemmas.Str.Pattern.{find_char}
+use Rattle.latex2mathml.specs.Documents.{whole}
+use Rattle.latex2mathml.specs.Dollars.{backslash}
+use Rattle.latex2mathml.proofs.PlainTexts.{singles, ends_whole}
 use Rattle.latex2mathml.proofs.document.until_dollar.Goals as goal
-use Rattle.latex2mathml.proofs.document.until_dollar.Goals.{else-bytes-place-eq92-via-then-bytes-place-eq92+else-place-bytes, else-bytes-place-eq92-via-else-bytes-place-eq92}
 
-pub loop-place-init : goal.loop-place-init
-loop-place-init c = nothing_passed c.as_bytes-bytes.result.now
+pub returns-in-None-clause-plain : goal.returns-in-None-clause-plain
+returns-in-None-clause-plain c =
+    whole (singles c.up_to_dollar.result.0.now c.up_to_dollar.ensures.free (find_char backslash c.up_to_dollar.result.0.now None c.in-None.ensures.cases (omega arith)))
 
-pub loop-place-preserved-then-place-bytes : goal.loop-place-preserved-then-place-bytes
-loop-place-preserved-then-place-bytes c = passed_pair c.as_bytes-bytes.result.now c.loop-place.place c.loop-place.invariant c.loop-place-test.true c.if-bytes-place-eq92.true c.if-place-bytes.true
-
-pub loop-place-preserved : goal.loop-place-preserved
-loop-place-preserved c =
-    elim c.else-bytes-place-eq92.branch [
-      | else-bytes-place-eq92-via-then-bytes-place-eq92+else-place-bytes w ↦ passed_lone c.as_bytes-bytes.result.now c.loop-place.place c.loop-place.invariant c.loop-place-test.true w.if-bytes-place-eq92.true w.if-place-bytes.false
-      | else-bytes-place-eq92-via-else-bytes-place-eq92 w ↦ passed_single c.as_bytes-bytes.result.now c.loop-place.place c.loop-place.invariant c.loop-place-test.true c.if-bytes-place-ne36.true w.if-bytes-place-eq92.false
-    ]
+pub returns-in-None-clause-ends : goal.returns-in-None-clause-ends
+returns-in-None-clause-ends c =
+    ends_whole c.up_to_dollar.result.0.now c.up_to_dollar.result.1.now (singles c.up_to_dollar.result.0.now c.up_to_dollar.ensures.free (find_char backslash c.up_to_dollar.result.0.now None c.in-None.ensures.cases (omega arith))) c.up_to_dollar.ensures.ends

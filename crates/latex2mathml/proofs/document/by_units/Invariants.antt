@@ -1,7 +1,7 @@
 -- No unit that was passed is a dollar sign.
 use Rattle.std.proofs.Common.{length, ◌-◌}
 use Rattle.latex2mathml.proofs.PlainTexts.{Passed}
-use Rattle.latex2mathml.proofs.document.until_dollar.Given as goal
+use Rattle.latex2mathml.proofs.document.by_units.Given as goal
 
 abbrev pub invariant-loop-place : goal.invariant-loop-place
 invariant-loop-place l = Passed l.bytes l.place
