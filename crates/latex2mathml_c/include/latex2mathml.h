@@ -47,8 +47,9 @@ enum latex2mathml_code {
  * the first `*needed` of the `out_len` bytes at `out`, and the bytes behind it stay as they were. `*needed` is its length
  * also where it does not fit.
  *
- * A formula comes to one text, so every call with it needs the same room: after LATEX2MATHML_TOO_SMALL, the same call with
- * `*needed` bytes is not too small. It converts once more, so guess well (LATEX2MATHML_ROOM) where speed matters.
+ * The same formula and `block` come to the same text, so they always need the same room: after LATEX2MATHML_TOO_SMALL the
+ * same call with `*needed` bytes is not too small. It converts once more, so guess well (LATEX2MATHML_ROOM) where speed
+ * matters.
  *
  * All this is proved. What it rests on is the caller's, and nothing checks it:
  *   - No pointer is null, also where its length is 0: point at any byte then.
@@ -56,17 +57,17 @@ enum latex2mathml_code {
  *   - No length is larger than PTRDIFF_MAX.
  *   - It is called from no signal handler, and not in the forked child of a process that has threads.
  *   - The stack is large enough: 150 bytes for each byte of the formula are, so 128 KiB serve 800 bytes and 8 MiB 50,000.
- *     This is measured. Only parts that stand one in the other take so much.
+ *     This is measured, and only parts that stand one in the other take so much.
  *
  * It keeps nothing between calls and takes no lock, so any number of threads may call at once. The memory that it takes
  * by malloc and realloc is freed before it returns. */
 uint32_t latex2mathml_formula(const char *latex, size_t latex_len, bool block, char *out, size_t out_len, size_t *needed);
 
-/* Converts a document: the `math` element of each formula stands in the formula's place, and every other byte is kept. A
- * formula stands between single dollar signs, for a line of text, or between double ones, as a block of its own. Dollar
+/* Converts a document: the `math` element of each formula stands in the formula's place, and the prose around it is kept.
+ * A formula stands between single dollar signs, for a line of text, or between double ones, as a block of its own. Dollar
  * signs that do not pair are refused, and so is the document where one of its formulas is.
  *
- * All else is as with latex2mathml_formula. A document without formulas needs as much room as it is long. */
+ * All else is as with latex2mathml_formula. */
 uint32_t latex2mathml_document(const char *document, size_t document_len, char *out, size_t out_len, size_t *needed);
 
 #ifdef __cplusplus
