@@ -1,0 +1,37 @@
+/* How many formulas a second of the processor are converted by calls from C: in one call each, into a room that is large
+ * enough, and in two, the first with no room. A line for each word: its bytes and both numbers. */
+#include "latex2mathml.h"
+
+#include <stdio.h>
+#include <stdlib.h>
+#include <string.h>
+#include <time.h>
+
+static char room[1 << 20];
+
+static void convert(const char *latex, size_t length, bool ask_first) {
+    size_t needed = sizeof room;
+    if (ask_first && latex2mathml_formula(latex, length, false, room, 0, &needed) != LATEX2MATHML_TOO_SMALL)
+        abort();
+    if (latex2mathml_formula(latex, length, false, room, needed, &needed) != LATEX2MATHML_DONE)
+        abort();
+}
+
+static double a_second(const char *latex, bool ask_first) {
+    size_t length = strlen(latex);
+    clock_t start = clock(), taken;
+    long calls = 0;
+    do {
+        for (int i = 0; i < 1000; i++)
+            convert(latex, length, ask_first);
+        calls += 1000;
+        taken = clock() - start;
+    } while (taken < 2 * CLOCKS_PER_SEC);
+    return (double)calls * CLOCKS_PER_SEC / (double)taken;
+}
+
+int main(int count, char **words) {
+    for (int i = 1; i < count; i++)
+        printf("%zu %.0f %.0f\n", strlen(words[i]), a_second(words[i], false), a_second(words[i], true));
+    return 0;
+}

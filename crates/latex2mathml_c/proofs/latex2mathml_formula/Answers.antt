@@ -1,0 +1,9 @@
+use Rattle.std.proofs.Common.{subst}
+use Rattle.latex2mathml_c.specs.Call.{IsLength}
+use Rattle.latex2mathml_c.specs.declared.Conversion.TheVariants.{Formula}
+use Rattle.latex2mathml_c.proofs.Texts.{needed_length}
+use Rattle.latex2mathml_c.proofs.latex2mathml_formula.Goals as goal
+
+pub returns-clause-length : goal.returns-clause-length
+returns-clause-length c some =
+    subst (λ d. IsLength (Formula d) c.args.latex.now c.call.new.needed) c.display.ensures (needed_length (Formula c.display.result) c.args.latex.now c.call.result c.code.result (record { old = c.args.out.now; new = c.call.new.out; needed = c.call.new.needed }) c.code.ensures c.call.ensures.outcome some)
