@@ -28,6 +28,7 @@ impl Node {
     }
 
     /// What the node was made of. All else in it goes.
+    #[inline(always)]
     fn parts(self) -> Parts
         ensures weight { weight (tree self) ≡ held result }
         ensures hung { hung (tree self) ≡ hung_on result }

@@ -274,6 +274,7 @@ fn write_node<W: fmt::Write>(node: &Node, depth: Depth, f: &mut fmt::Formatter<W
     }
 }
 
+#[inline(always)]
 fn write_leaf<W: fmt::Write>(leaf: Leaf, f: &mut fmt::Formatter<W>) -> fmt::Result
     ensures { WritesOnOk W.write_str_gives f.old result (leaf_print leaf.entry) f.new }
 {
