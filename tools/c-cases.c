@@ -8,7 +8,7 @@
 #include <string.h>
 #include <sys/mman.h>
 
-enum { LEVELS = 1000000, TREE_LEVELS = 300, STACK = 128 << 10, RANDOM_INPUTS = 10000, THREADS = 4, CALLS = 50000 };
+enum { LEVELS = 1000000, STACK = 128 << 10, RANDOM_INPUTS = 10000, THREADS = 4, CALLS = 50000 };
 
 static int passed, failed;
 
@@ -212,10 +212,10 @@ static const struct nest nests[] = {
     {"braces", LEVELS, "{", "x", "}", LATEX2MATHML_DONE, "", "<mi>x</mi>", ""},
     {"open braces", LEVELS, "{", "x", "", LATEX2MATHML_REFUSED, NULL, NULL, NULL},
     {"open rows", LEVELS, "{a", "x", "", LATEX2MATHML_REFUSED, NULL, NULL, NULL},
-    {"rows", TREE_LEVELS, "{a", "x", "}", LATEX2MATHML_DONE, "<mrow><mi>a</mi>", "<mi>x</mi>", "</mrow>"},
-    {"scripts", TREE_LEVELS, "x^", "x", "", LATEX2MATHML_DONE, "<msup><mi>x</mi>", "<mi>x</mi>", "</msup>"},
-    {"roots", TREE_LEVELS, "\\sqrt", " x", "", LATEX2MATHML_DONE, "<msqrt>", "<mi>x</mi>", "</msqrt>"},
-    {"fractions", TREE_LEVELS, "\\frac1{", "x", "}", LATEX2MATHML_DONE, "<mfrac><mn>1</mn>", "<mi>x</mi>", "</mfrac>"},
+    {"rows", LEVELS, "{a", "x", "}", LATEX2MATHML_DONE, "<mrow><mi>a</mi>", "<mi>x</mi>", "</mrow>"},
+    {"scripts", LEVELS, "x^", "x", "", LATEX2MATHML_DONE, "<msup><mi>x</mi>", "<mi>x</mi>", "</msup>"},
+    {"roots", LEVELS, "\\sqrt", " x", "", LATEX2MATHML_DONE, "<msqrt>", "<mi>x</mi>", "</msqrt>"},
+    {"fractions", LEVELS, "\\frac1{", "x", "}", LATEX2MATHML_DONE, "<mfrac><mn>1</mn>", "<mi>x</mi>", "</mfrac>"},
 };
 
 /* The middle between so many of both ends, which the caller frees. */
