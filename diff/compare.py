@@ -51,7 +51,7 @@ class Trial:
 
     def fits_into_a_document(self):
         """Whether the formula is to be set, and dollar signs can enclose it."""
-        return self.kind == "o" and not self.left_out and self.text != "" and "$" not in self.text
+        return self.kind == "o" and not self.left_out and normal.is_body(self.text)
 
 
 class Crate:
@@ -75,6 +75,8 @@ class Crate:
 
     def framed_otherwise(self, trial):
         """Why a document's dollar signs keep it from being compared, or nothing."""
+        if normal.has_escaped_sign(trial.text):
+            return "a formula that holds \\$, where the crate ends it"
         framed = normal.formulas_of(trial.handed)
         if framed is None:
             return "dollar signs that the crate pairs otherwise"
@@ -86,10 +88,10 @@ class Crate:
         return None
 
     def refusals_of_middle(self, trial):
-        """The refusals that may stand where the crate panics."""
-        formulas = [(trial.word, trial.handed)]
+        """The refusals that may stand where the crate panics. Braces would hide the token behind a `\\middle`."""
+        formulas = [(trial.word, normal.with_stand_in(trial.text))]
         if trial.word == "document":
-            formulas, _ = normal.formulas_of(trial.handed)
+            formulas, _ = normal.formulas_of(normal.in_formulas(normal.with_stand_in, trial.text))
         asked = [("inline", sized) for _, formula in formulas for sized in normal.sized_behind_middle(formula)]
         return [normal.refusal_of_middle(*answer) for answer in rust_crate.answers(self.driver, asked)]
 
@@ -126,7 +128,7 @@ class Comparison:
     def __init__(self, ours, crate, word, shown):
         self.ours, self.crate, self.word, self.shown = ours, crate, word, shown
         self.alike, self.left_out = Counter(), Counter()
-        self.mismatches = 0
+        self.mismatches, self.in_braces = 0, 0
 
     def look_at(self, texts):
         trials = self.crate.trials(self.word, texts)
@@ -146,6 +148,7 @@ class Comparison:
                 self.left_out[trial.left_out] += 1
             else:
                 self.alike[KINDS[trial.kind]] += 1
+                self.in_braces += trial.handed.count("{") > trial.text.count("{")
 
     def show(self, text):
         """The text, and what is answered to what is left of it once it is shortened."""
@@ -184,6 +187,7 @@ class Comparison:
     def report(self):
         for how, number in [*self.alike.most_common(), ("MISMATCHES", self.mismatches)]:
             print(f"  {number:8} {how}")
+        print(f"  {self.in_braces:8} of those that are alike had operands put in braces for the crate")
         for why, number in self.left_out.most_common():
             print(f"  {number:8} left out: {why}")
 

@@ -1,12 +1,14 @@
 """The crate's answers brought to this repository's form, by what docs/DIFFERENCES.md lists and by nothing else.
 
-Only the crate's side is changed, so the program's answer is compared byte by byte. Each difference is one function,
-and its comment says which one it is. Two of the list need none, since no formula shows them: `thick` and the quotes of
-`columnalign="right"` are printed of nodes that only a caller makes."""
+Only the crate's side is changed, what it is handed and what it answers, so the program's answer is compared byte by
+byte. Each difference is one function, and its comment says which one it is. Two of the list need none, since no formula
+shows them: `thick` and the quotes of `columnalign="right"` are printed of nodes that only a caller makes."""
 
 import re
 from dataclasses import dataclass
 from decimal import Decimal
+
+import operands
 
 # What the crate prints between its tags is one character, or holds no `<` that a name or a `/` follows. So these are
 # all tags.
@@ -67,11 +69,12 @@ def with_named_brackets(text):
 
 
 def with_references(text):
-    """Texts and characters print as they are there. Here `&`, `<` and `>` print as references. The stroke through what
-    is slashed is a reference of the print's own, on both sides."""
+    """Texts and characters print as they are there. Here `&`, `<`, `>` and `$` print as references. The stroke through
+    what is slashed is a reference of the print's own, on both sides."""
     stroke = "&#x0338;"
     content, slashed = (text[:-len(stroke)], stroke) if text.endswith(stroke) else (text, "")
-    return content.replace("&", "&amp;").replace("<", "&lt;").replace(">", "&gt;") + slashed
+    references = {"&": "&amp;", "<": "&lt;", ">": "&gt;", "$": "&#x24;"}
+    return "".join(references.get(character, character) for character in content) + slashed
 
 
 def plain(derived):
@@ -184,21 +187,30 @@ STAND_IN, ITS_CHARACTER = "\\lightning", "\u21af"
 TOKEN = re.compile(r"[ \t\n\r]*(?::=|\\(?:[A-Za-z]+|.|$)|[0-9]+\.?[0-9]*|.|$)", re.S)
 
 
-def for_crate(formula):
+def with_stand_in(formula):
     """`\\ni` has the character of `\\notin` there, by a slip, and its own here. So the crate reads another operator in
     its place, and `from_crate` puts the character of `\\ni` for that one's."""
     return COMMAND.sub(lambda command: STAND_IN if command[1] == "ni" else command[0], formula)
 
 
+def for_crate(formula):
+    """Scripts and primes behind an operand belong to it there, and stay outside here. Braces say so there."""
+    return operands.braced(with_stand_in(formula))
+
+
+def has_stand_in(text, handed):
+    return handed.count(STAND_IN) > text.count(STAND_IN)
+
+
 def from_crate(text, handed, answer):
-    return answer if handed == text else answer.replace(ITS_CHARACTER, "\u220b")
+    return answer.replace(ITS_CHARACTER, "\u220b") if has_stand_in(text, handed) else answer
 
 
 def incomparable(text, handed):
     """Why a listed difference keeps a text from being compared, or nothing."""
     if "\0" in text:
         return "a NUL, which the crate reads as the end"
-    if handed != text and (ITS_CHARACTER in text or STAND_IN in text):
+    if has_stand_in(text, handed) and (ITS_CHARACTER in text or STAND_IN in text):
         return "\\ni beside the operator that stands for it"
     return None
 
@@ -241,10 +253,52 @@ def formulas_of(document):
     return found, opened
 
 
+UNIT = re.compile(r"\\.|\$+|.", re.S)
+ESCAPED_SIGN = "\\$"
+
+
+def parts(document):
+    """Texts, as lists of units, and runs of dollar signs in turn. A backslash takes the next character with it here."""
+    found = [[]]
+    for unit in UNIT.findall(document):
+        if unit.startswith("$"):
+            found += [[unit], []]
+        else:
+            found[-1].append(unit)
+    return found
+
+
+def changed(document, prose, formula):
+    """The document with the units of each piece of prose, and the text of each formula, changed so."""
+    handed = ""
+    for place, units in enumerate(parts(document)):
+        if place % 4 == 0:
+            units = prose(units)
+        text = "".join(units)
+        handed += formula(text) if place % 4 == 2 else text
+    return handed
+
+
+def in_formulas(change, document):
+    """The document with each formula changed so."""
+    return changed(document, lambda units: units, change)
+
+
 def document_for_crate(document):
-    """A document in which the crate reads each formula as it reads one alone."""
-    parts = re.split(r"(\$+)", document)
-    return "".join(for_crate(part) if place % 4 == 2 else part for place, part in enumerate(parts))
+    """A document in which the crate reads each formula as it reads one alone. A backslash takes nothing with it there,
+    so the crate is handed the reference that `\\$` of prose becomes here."""
+    return changed(document, lambda units: ["&#x24;" if unit == ESCAPED_SIGN else unit for unit in units], for_crate)
+
+
+def is_body(formula):
+    """Whether dollar signs can enclose the formula here: none of its units is one, and its last backslash is no unit."""
+    texts = parts(formula)
+    return len(texts) == 1 and texts[0] != [] and texts[0][-1] != "\\"
+
+
+def has_escaped_sign(document):
+    """Whether a formula holds `\\$`. There its dollar sign ends the formula."""
+    return any(ESCAPED_SIGN in units for units in parts(document)[2::4])
 
 
 def has_one_first_fault(formulas, refused, opened):

@@ -23,7 +23,9 @@ OF_FEW = ["sqrt", "frac", "binom", "dbinom", "overset", "underset", "overbrace",
 FENCES = ["(", ")", "[", "]", "|", ".", ":=", "\\{", "\\}", "\\langle", "\\rangle", "\\lfloor", "\\|", "<", "x", ""]
 RAW = "\\\\\\\\{}{}[]()_^_^''&$.:=<>\"01 2 abinpté∞𝑥"
 PROSE = ["a", "word", "of", "prose", "<p>", "</p>", "&amp;", "&dollar;3", "é", "あ", "😀", "\\", "\\alpha", "x_1", "\n",
-         "<math>", "\u0301", "\"", "\x01"]
+         "<math>", "\u0301", "\"", "\x01", "\\$5", "\\é\\$"]
+# What stands between prose and a formula behind it.
+ENDS_OF_PROSE = [" ", " ", " ", "", "\\\\", "\\$", "\\\\\\$", "\\é"]
 
 
 class Formulas:
@@ -199,12 +201,13 @@ class Documents:
     def piece(self):
         kind = self.random.random()
         if kind < 0.5:
-            return " ".join(self.random.choices(PROSE, k=self.random.randint(1, 6))) + " "
+            words = self.random.choices(PROSE, k=self.random.randint(1, 6))
+            return " ".join(words) + self.random.choice(ENDS_OF_PROSE)
         formula = self.formula()
         sign = "$" if kind < 0.8 else "$$"
         return sign + formula + sign + self.random.choice([" ", ".", "\n", "é", " ", ".", ""])
 
     def formula(self):
-        """Mostly one whose groups close, and without a dollar sign."""
+        """Mostly one whose groups close, and without a dollar sign, also in `\\$`."""
         formula = self.formulas.formula((18, 1, 1))
-        return formula if self.random.random() < 0.02 else formula.replace("$", "")
+        return formula if self.random.random() < 0.02 else re.sub(r"\\?\$", "", formula)

@@ -11,8 +11,8 @@ use Rattle.latex2mathml.proofs.PlainTexts.{plain_begins, plain_ends_once, body_p
 pub stops_after : (t : List ℕ) (ps : List Piece) → MayFollow (prose t) ps → EndsBefore t (spelling ps)
 stops_after t [] f = tt
 stops_after t (prose u ∷ ps) f = absurd f
-stops_after t (inline b ∷ ps) f = refl
-stops_after t (display b ∷ ps) f = refl
+stops_after t (inline b ∷ ps) f = (refl, f)
+stops_after t (display b ∷ ps) f = (refl, f)
 
 -- a piece and a cut of what is left are a cut
 pub more_cut : (text : List ℕ) (p : Piece) (rest : List ℕ) (ps : List Piece) → BeginsWith text p rest → IsCut rest ps → IsCut text (p ∷ ps)
@@ -25,8 +25,8 @@ more_cut text p rest ps b c = record {
     follows (prose t) [] e w s = tt
     follows (prose t) (prose [] ∷ ps) e w s = absurd (w.0.0 refl)
     follows (prose t) (prose (a ∷ u) ∷ ps) e w s = absurd (plain_begins a u w.0.1 (ends_before_head t a (u ++ spelling ps) (subst (EndsBefore t) s e)))
-    follows (prose t) (inline u ∷ ps) e w s = tt
-    follows (prose t) (display u ∷ ps) e w s = tt
+    follows (prose t) (inline u ∷ ps) e w s = (subst (EndsBefore t) s e).1
+    follows (prose t) (display u ∷ ps) e w s = (subst (EndsBefore t) s e).1
     follows (inline t) ps e w s = tt
     follows (display t) ps e w s = tt
 

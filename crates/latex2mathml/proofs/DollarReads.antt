@@ -1,22 +1,21 @@
--- What is read of tokens without dollar signs is trees without them, and so a formula without one has no rendering
--- with one. The productions are named in `free_rule` alone.
-use Rattle.std.proofs.Common.{◌≡◌, ◌==◌, ℕ, Bool, true, false, List, [], ◌∷◌, Option, Some, None, codes, cond, refl, sym, subst}
-use Rattle.std.specs.Str.{IsUtf8, byte, bytes_eq, chars, encode_utf8_all}
-use Rattle.latex2mathml.specs.DocumentLaws.{KeepsDollarFree}
-use Rattle.latex2mathml.specs.Dollars.{is_other, IsDollarFree}
-use Rattle.latex2mathml_formulas.specs.Grammar.{Sort, environment, sized, stretching, with_fence, Rule, gives, refuses, reads_part, reads_members, reads_sign, takes_token, sees_token, takes_letters, rule, primed, scripted, Outcome, Read, Refused, first_or_end, letter_of, AreLetters, Reads, core_at_end, core_begun, single_read, node_read, ReadsRule, rule_gives, rule_refuses, part_read, part_refused, members_read, members_refused, sign_stands, sign_missing, token_taken, token_at_end, token_seen, letters_taken, ReadsAll, formula_ends, group_ends, never_closed, member_read, later_refused, member_refused, Reading}
+-- What is read of tokens whose sizes hold no dollar sign is trees of such sizes, and so no rendering of a formula holds
+-- a dollar sign. The productions are named in `free_rule` alone.
+use Rattle.std.proofs.Common.{ℕ, Bool, true, false, List, [], ◌∷◌, Option, Some, None, codes, cond, refl, sym, subst}
+use Rattle.std.specs.Str.{bytes_eq, chars, encode_utf8_all}
+use Rattle.latex2mathml.specs.DocumentLaws.{RendersDollarFree}
+use Rattle.latex2mathml.specs.Dollars.{IsDollarFree}
+use Rattle.latex2mathml_formulas.specs.Grammar.{Sort, environment, sized, stretching, with_fence, Rule, gives, refuses, reads_part, reads_members, reads_sign, takes_token, sees_token, takes_letters, rule, primed, scripted, Outcome, Read, Refused, first_or_end, AreLetters, Reads, core_at_end, core_begun, single_read, node_read, ReadsRule, rule_gives, rule_refuses, part_read, part_refused, members_read, members_refused, sign_stands, sign_missing, token_taken, token_at_end, token_seen, letters_taken, ReadsAll, formula_ends, group_ends, never_closed, member_read, later_refused, member_refused, Reading}
 use Rattle.latex2mathml_nodes.specs.Productions.{environment_tree, fence_of, fenced_matrix, matrix_of, spread, stretched_of, grouped}
 use Rattle.latex2mathml_formulas.specs.Rendering.{IsRendering}
-use Rattle.latex2mathml_tokens.specs.Tok.{Tok, EOF, Begin, Ampersand, Paren, LBrace, NewLine, Left, Right, Middle, Frac, Binom, Overset, Underset, Overbrace, Underbrace, Sqrt, Integral, Lim, BigOp, Style, Big, Over, Under, Letter, Number, Operator, Space, Function, OperatorName, Slashed, Text}
+use Rattle.latex2mathml_tokens.specs.Tok.{Tok, EOF, Begin, Paren, LBrace, Left, Right, Middle, Frac, Binom, Overset, Underset, Overbrace, Underbrace, Sqrt, Integral, Lim, BigOp, Style, Big, Over, Under, OperatorName, Slashed, Text}
 use Rattle.latex2mathml_nodes.specs.Style.{styled, all_styled}
 use Rattle.latex2mathml_nodes.specs.Tree.{Tree, Trees, letter, operator, other_operator, row, no_trees, more_trees, trees_of}
 use Rattle.latex2mathml_tokens.specs.declared.attribute.ColumnAlign.TheVariants as align
 use Rattle.latex2mathml_tokens.specs.declared.attribute.Variant.{Variant}
-use Rattle.latex2mathml.proofs.DollarTexts.{free_char, free_chars, free_encoded, free_more}
-use Rattle.latex2mathml.proofs.DollarTokens.{IsFree, AreFree, free_tokens, free_token_text}
+use Rattle.latex2mathml.proofs.DollarTokens.{IsFree, AreFree, free_tokens}
 use Rattle.latex2mathml.proofs.DollarTrees.{IsFreeTree, AreFreeTrees, free_math}
 
--- from parts and tokens without dollar signs the rule gives none but trees without them
+-- from parts and tokens whose sizes hold no dollar sign the rule gives none but trees of such sizes
 abbrev IsFreeRule : Rule → Type 0
 IsFreeRule (gives x) = IsFreeTree x
 IsFreeRule (refuses r) = Unit {0}
@@ -25,7 +24,7 @@ IsFreeRule (reads_members end then) = (xs : List Tree) → AreFreeTrees (trees_o
 IsFreeRule (reads_sign t a b) = IsFreeRule a × IsFreeRule b
 IsFreeRule (takes_token then) = (t : Tok) → IsFree t → IsFreeRule (then t)
 IsFreeRule (sees_token then) = (t : Tok) → IsFree t → IsFreeRule (then t)
-IsFreeRule (takes_letters then) = (cs : List ℕ) → IsDollarFree cs → IsFreeRule (then cs)
+IsFreeRule (takes_letters then) = (cs : List ℕ) → IsFreeRule (then cs)
 
 free_grouped : (xs : List Tree) → AreFreeTrees (trees_of xs) → IsFreeTree (grouped xs)
 free_grouped [] h = tt
@@ -42,31 +41,19 @@ mutual
   free_styles v no_trees h = tt
   free_styles v (more_trees x rest) h = (free_style v x h.0, free_styles v rest h.1)
 
-free_size : (size : List ℕ) (t : Tok) → IsDollarFree size → IsFree t → IsFreeRule (sized size t)
-free_size size (Paren text) h i = (h, i)
-free_size size t h i = tt
+free_size : (size : List ℕ) (t : Tok) → IsDollarFree size → IsFreeRule (sized size t)
+free_size size (Paren text) h = h
+free_size size t h = tt
 
--- a fence of a token without a dollar sign
-free_found : (place t : Tok) (fence : Option (List ℕ)) (then : List ℕ → Rule) → ((text : List ℕ) → fence ≡ Some text → IsDollarFree text) → ((text : List ℕ) → IsDollarFree text → IsFreeRule (then text)) → IsFreeRule (with_fence place t fence then)
-free_found place t (Some text) then h k = k text (h text refl)
-free_found place t None then h k = tt
+-- a fence, and a stretched operator
+free_fence : (place t : Tok) (fence : Option (List ℕ)) (then : List ℕ → Rule) → ((text : List ℕ) → IsFreeRule (then text)) → IsFreeRule (with_fence place t fence then)
+free_fence place t (Some text) then k = k text
+free_fence place t None then k = tt
 
-free_period : (b : Bool) (text : List ℕ) → cond b (Some []) None ≡ Some text → IsDollarFree text
-free_period true text e = let none : [] ≡ text = cc in subst IsDollarFree none refl
-free_period false text e = absurd cc
-
-free_fence_text : (t : Tok) (text : List ℕ) → IsFree t → fence_of t ≡ Some text → IsDollarFree text
-free_fence_text (Paren own) text h e = let same : own ≡ text = cc in subst IsDollarFree same h
-free_fence_text (Operator c) text h e = free_period (c == byte ".") text e
-free_fence_text t text h e = absurd cc
-
-free_fence : (place t : Tok) (then : List ℕ → Rule) → IsFree t → ((text : List ℕ) → IsDollarFree text → IsFreeRule (then text)) → IsFreeRule (with_fence place t (fence_of t) then)
-free_fence place t then h k = free_found place t (fence_of t) then (λ text e. free_fence_text t text h e) k
-
-free_stretch : (t : Tok) (x : Tree) → IsFreeTree x → IsFreeRule (stretching t (stretched_of x))
-free_stretch t (operator c) h = free_char c h
-free_stretch t (other_operator text) h = h
-free_stretch t x h = tt
+free_stretch : (t : Tok) (x : Tree) → IsFreeRule (stretching t (stretched_of x))
+free_stretch t (operator c) = tt
+free_stretch t (other_operator text) = tt
+free_stretch t x = tt
 
 free_spread : (x : Tree) → IsFreeTree x → AreFreeTrees (spread x)
 free_spread (row members) h = h
@@ -81,52 +68,44 @@ free_environment name x h =
     let members = free_spread x h in
     free_choice name (bytes_eq name (codes "matrix")) (matrix_of align.Center x) _ members
     (free_choice name (bytes_eq name (codes "align")) (matrix_of align.Left x) _ members
-    (free_choice name (bytes_eq name (codes "pmatrix")) (fenced_matrix (codes "(") (codes ")") x) _ (refl, refl, members)
-    (free_choice name (bytes_eq name (codes "bmatrix")) (fenced_matrix (codes "[") (codes "]") x) _ (refl, refl, members)
-    (free_choice name (bytes_eq name (codes "vmatrix")) (fenced_matrix (codes "|") (codes "|") x) None (refl, refl, members) tt))))
+    (free_choice name (bytes_eq name (codes "pmatrix")) (fenced_matrix (codes "(") (codes ")") x) _ members
+    (free_choice name (bytes_eq name (codes "bmatrix")) (fenced_matrix (codes "[") (codes "]") x) _ members
+    (free_choice name (bytes_eq name (codes "vmatrix")) (fenced_matrix (codes "|") (codes "|") x) None members tt))))
 
 -- each production
 free_rule : (t : Tok) → IsFree t → IsFreeRule (rule t)
-free_rule (Number digits) h = h
-free_rule (Letter c variant) h = h
-free_rule (Operator c) h = h
-free_rule (Paren text) h = h
-free_rule Ampersand h = tt
-free_rule (Space width) h = tt
-free_rule (Function name) h = h
-free_rule NewLine h = tt
 free_rule LBrace h = free_grouped
 free_rule Sqrt h = (λ xs i x k. (free_grouped xs i, k), λ x k. k)
 free_rule Frac h = λ x i y k. (i, k)
-free_rule (Binom None) h = λ x i y k. (refl, refl, (i, k))
-free_rule (Binom (Some display)) h = λ x i y k. ((refl, refl, (i, k)), tt)
-free_rule (Over c accent) h = λ x k. (h, k)
-free_rule (Under c accent) h = λ x k. (h, k)
+free_rule (Binom None) h = λ x i y k. (i, k)
+free_rule (Binom (Some display)) h = λ x i y k. ((i, k), tt)
+free_rule (Over c accent) h = λ x k. k
+free_rule (Under c accent) h = λ x k. k
 free_rule Overset h = λ x i y k. (i, k)
 free_rule Underset h = λ x i y k. (i, k)
-free_rule (Overbrace c) h = λ x i. (λ y k. ((k, h), i), (h, i))
-free_rule (Underbrace c) h = λ x i. (λ y k. ((k, h), i), (h, i))
-free_rule (BigOp c) h = (λ x i. (λ y k. (h, i, k), (h, i)), (λ y k. (λ x i. (h, i, k), (k, h)), h))
-free_rule (Integral c) h = (λ x i. (λ y k. (h, i, k), (h, i)), (λ y k. (λ x i. (h, i, k), (h, k)), h))
-free_rule (Lim name) h = (λ x i. (h, i), h)
+free_rule (Overbrace c) h = λ x i. (λ y k. ((k, tt), i), (tt, i))
+free_rule (Underbrace c) h = λ x i. (λ y k. ((k, tt), i), (tt, i))
+free_rule (BigOp c) h = (λ x i. (λ y k. (tt, i, k), (tt, i)), (λ y k. (λ x i. (tt, i, k), (k, tt)), tt))
+free_rule (Integral c) h = (λ x i. (λ y k. (tt, i, k), (tt, i)), (λ y k. (λ x i. (tt, i, k), (tt, k)), tt))
+free_rule (Lim name) h = (λ x i. (tt, i), tt)
 free_rule (Style variant) h = λ x k. free_style variant x k
-free_rule (Big size) h = λ t k. free_size size t h k
-free_rule Text h = λ before i cs k behind j. free_encoded cs k
-free_rule OperatorName h = λ before i cs k behind j. free_encoded cs k
+free_rule (Big size) h = λ t k. free_size size t h
+free_rule Text h = λ before i cs behind j. tt
+free_rule OperatorName h = λ before i cs behind j. tt
 free_rule Slashed h = λ before i x k behind j. k
-free_rule Left h = λ t i. free_fence Left t _ i (λ opening k xs f u j. free_fence Right u _ j (λ close l. (k, l, free_grouped xs f)))
-free_rule Middle h = λ t i x k. free_stretch t x k
-free_rule Begin h = λ before i cs k behind j xs f again l ds m last n. free_environment (encode_utf8_all cs) (grouped xs) (free_grouped xs f)
-free_rule t h = free_token_text t h
+free_rule Left h = λ t i. free_fence Left t (fence_of t) _ (λ opening xs f u j. free_fence Right u (fence_of u) _ (λ close. free_grouped xs f))
+free_rule Middle h = λ t i x k. free_stretch t x
+free_rule Begin h = λ before i cs behind j xs f again l ds last n. free_environment (encode_utf8_all cs) (grouped xs) (free_grouped xs f)
+free_rule t h = tt
 
 -- what follows a core, and what follows a single
 free_primed : (x : Tree) → IsFreeTree x → IsFreeRule (primed x)
-free_primed x h = ((h, refl), h)
+free_primed x h = ((h, tt), h)
 
 free_scripted : (x : Tree) → IsFreeTree x → IsFreeRule (scripted x)
 free_scripted x h = (λ y k. (h, k), (λ y k. (h, k), h))
 
--- what was read holds none, and no token that is left does
+-- no size in what was read holds a dollar sign, and none of the tokens that are left
 abbrev IsFreeOutcome : Outcome Tree → Type 0
 IsFreeOutcome (Read x m) = IsFreeTree x × AreFree m
 IsFreeOutcome (Refused r) = Unit {0}
@@ -139,21 +118,16 @@ free_next : (l : List Tok) → AreFree l → IsFree (first_or_end l)
 free_next [] h = refl
 free_next (t ∷ l) h = h.0
 
-free_letter : (t : Tok) (c : ℕ) → letter_of t ≡ Some c → IsFree t → is_other c ≡ true
-free_letter (Letter d variant) c e h = let same : d ≡ c = cc in subst (λ k. is_other k ≡ true) same h
-free_letter t c e h = absurd cc
-
--- letters at the front, and what stands behind them
-free_letters : (cs : List ℕ) (l m : List Tok) → AreLetters cs l m → AreFree l → IsDollarFree cs × AreFree m
-free_letters [] l m d h = (refl, subst AreFree d.0 h)
+-- what stands behind letters
+free_letters : (cs : List ℕ) (l m : List Tok) → AreLetters cs l m → AreFree l → AreFree m
+free_letters [] l m d h = subst AreFree d.0 h
 free_letters (c ∷ cs) l m d h =
     let front : AreFree (d.0 ∷ d.1.0) = subst AreFree d.1.1 h in
-    let later = free_letters cs d.1.0 m d.1.3 front.1 in
-    (free_more c cs (free_letter d.0 c d.1.2 front.0) later.0, later.1)
+    free_letters cs d.1.0 m d.1.3 front.1
 
 mutual
   free_read : {s : Sort} {l : List Tok} {o : Outcome Tree} → Reads s l o → AreFree l → IsFreeOutcome o
-  free_read core_at_end h = (refl, tt)
+  free_read core_at_end h = (tt, tt)
   free_read (core_begun {t = t} d) h = free_read_rule d (free_rule t h.0) h.1
   free_read (single_read d) h = free_read_rule d free_primed h
   free_read (node_read d) h = free_read_rule d free_scripted h
@@ -176,9 +150,7 @@ mutual
   free_read_rule (token_taken {t = t} d) f h = free_read_rule d (f t h.0) h.1
   free_read_rule (token_at_end d) f h = free_read_rule d (f EOF refl) h
   free_read_rule (token_seen {l = l} d) f h = free_read_rule d (f (first_or_end l) (free_next l h)) h
-  free_read_rule (letters_taken cs {l = l} {m = m} p d) f h =
-      let letters = free_letters cs l m p h in
-      free_read_rule d (f cs letters.0) letters.1
+  free_read_rule (letters_taken cs {l = l} {m = m} p d) f h = free_read_rule d (f cs) (free_letters cs l m p h)
 
   free_read_all : {end : Option Tok} {l : List Tok} {o : Outcome (List Tree)} → ReadsAll end l o → AreFree l → AreFreeOutcome o
   free_read_all formula_ends h = (tt, tt)
@@ -194,8 +166,8 @@ mutual
   free_read_all (member_refused other d) h = tt
 
 -- the law
-pub dollar_free : (text : List ℕ) → IsUtf8 text → KeepsDollarFree text
+pub dollar_free : (text : List ℕ) → RendersDollarFree text
 unfolding IsRendering Reading
-dollar_free text u display markup d h =
-    let read : AreFreeOutcome (Read d.2.0 []) = free_read_all d.2.1 (free_tokens None (chars text) d.0 d.1 (free_chars text u h)) in
+dollar_free text display markup d =
+    let read : AreFreeOutcome (Read d.2.0 []) = free_read_all d.2.1 (free_tokens None (chars text) d.0 d.1) in
     subst IsDollarFree (sym d.2.2) (free_math display d.2.0 read.0)

@@ -1,8 +1,8 @@
--- The print of a tree that holds no dollar sign holds none.
-use Rattle.std.proofs.Common.{◌≡◌, ℕ, Bool, true, false, List, ◌++◌, Option, Some, None, refl, codes, nat_eq}
+-- The print of a tree holds no dollar sign where no size in it does: a size alone is a text in an attribute's value.
+use Rattle.std.proofs.Common.{ℕ, Bool, true, false, List, ◌++◌, Option, Some, None, refl, codes, nat_eq}
 use Rattle.std.specs.Fmt.{decimal}
 use Rattle.latex2mathml_tokens.specs.Attributes.{accent_text, align_text, bool_text, display_text, thickness_text, variant_text}
-use Rattle.latex2mathml.specs.Dollars.{is_other, IsDollarFree}
+use Rattle.latex2mathml.specs.Dollars.{IsDollarFree}
 use Rattle.latex2mathml_tokens.specs.Escape.{content, content_char, quoted, value}
 use Rattle.latex2mathml_nodes.specs.Print.{print, prints, members_print, letter_print, operator_print, slashed_print, member_print, style_open}
 use Rattle.latex2mathml_formulas.specs.Rendering.{math_print}
@@ -18,22 +18,17 @@ use Rattle.latex2mathml_tokens.specs.declared.attribute.LineThickness.{LineThick
 use Rattle.latex2mathml_tokens.specs.declared.attribute.LineThickness.TheVariants.{Length}
 use Rattle.latex2mathml_tokens.specs.declared.attribute.ColumnAlign.{ColumnAlign}
 use Rattle.latex2mathml_tokens.specs.declared.attribute.ColumnAlign.TheVariants.{Center}
-use Rattle.latex2mathml.proofs.DollarTexts.{free_both, free_if, free_content, free_content_char, free_value, free_quoted, free_decimal, free_width}
+use Rattle.latex2mathml.proofs.DollarTexts.{free_both, free_if, free_content, free_content_char, free_value, free_decimal, free_width}
 
--- no character and no text of the tree is or holds a dollar sign
+-- no size in the tree holds a dollar sign
 abbrev mutual
   pub IsFreeTree : Tree → Type 0
-  IsFreeTree (number digits) = IsDollarFree digits
-  IsFreeTree (letter c variant) = is_other c ≡ true
-  IsFreeTree (operator c) = is_other c ≡ true
-  IsFreeTree (function name) = IsDollarFree name
-  IsFreeTree (applied name x) = IsDollarFree name × IsFreeTree x
-  IsFreeTree (space width) = Unit {0}
+  IsFreeTree (applied name x) = IsFreeTree x
   IsFreeTree (subscript x y) = IsFreeTree x × IsFreeTree y
   IsFreeTree (superscript x y) = IsFreeTree x × IsFreeTree y
   IsFreeTree (sub_sup x y z) = IsFreeTree x × IsFreeTree y × IsFreeTree z
-  IsFreeTree (over_op c accent x) = (is_other c ≡ true) × IsFreeTree x
-  IsFreeTree (under_op c accent x) = (is_other c ≡ true) × IsFreeTree x
+  IsFreeTree (over_op c accent x) = IsFreeTree x
+  IsFreeTree (under_op c accent x) = IsFreeTree x
   IsFreeTree (overset x y) = IsFreeTree x × IsFreeTree y
   IsFreeTree (underset x y) = IsFreeTree x × IsFreeTree y
   IsFreeTree (under x y) = IsFreeTree x × IsFreeTree y
@@ -42,17 +37,12 @@ abbrev mutual
   IsFreeTree (sqrt x) = IsFreeTree x
   IsFreeTree (frac x y thickness) = IsFreeTree x × IsFreeTree y
   IsFreeTree (row members) = AreFreeTrees members
-  IsFreeTree (fenced opening close x) = IsDollarFree opening × IsDollarFree close × IsFreeTree x
-  IsFreeTree (stretched is_stretchy text) = IsDollarFree text
-  IsFreeTree (other_operator text) = IsDollarFree text
-  IsFreeTree (sized_paren size paren) = IsDollarFree size × IsDollarFree paren
-  IsFreeTree (words text) = IsDollarFree text
+  IsFreeTree (fenced opening close x) = IsFreeTree x
+  IsFreeTree (sized_paren size paren) = IsDollarFree size
   IsFreeTree (matrix members align) = AreFreeTrees members
-  IsFreeTree ampersand = Unit {0}
-  IsFreeTree new_line = Unit {0}
   IsFreeTree (slashed x) = IsFreeTree x
   IsFreeTree (style display x) = IsFreeTree x
-  IsFreeTree (undefined text) = IsDollarFree text
+  IsFreeTree x = Unit {0}
 
   pub AreFreeTrees : Trees → Type 0
   AreFreeTrees no_trees = Unit {0}
@@ -89,18 +79,18 @@ free_style_open None = refl
 free_style_open (Some Block) = refl
 free_style_open (Some Inline) = refl
 
-free_letter : (c : ℕ) (variant : Variant) → is_other c ≡ true → IsDollarFree (letter_print c variant)
-free_letter c Italic h = free_both (content_char c) _ (free_content_char c h) refl
-free_letter c v h = free_both (content_char c) _ (free_content_char c h) refl
+free_letter : (c : ℕ) (variant : Variant) → IsDollarFree (letter_print c variant)
+free_letter c Italic = free_both (content_char c) _ (free_content_char c) refl
+free_letter c v = free_both (content_char c) _ (free_content_char c) refl
 
-free_operator : (c : ℕ) → is_other c ≡ true → IsDollarFree (operator_print c)
-free_operator c h =
-    free_if (nat_eq c 8706) (codes "<mo mathvariant=\"italic\">" ++ (content_char 8706 ++ codes "</mo>")) (codes "<mo>" ++ (content_char c ++ codes "</mo>")) (free_both (content_char 8706) _ (free_content_char 8706 refl) refl) (free_both (content_char c) _ (free_content_char c h) refl)
+free_operator : (c : ℕ) → IsDollarFree (operator_print c)
+free_operator c =
+    free_if (nat_eq c 8706) (codes "<mo mathvariant=\"italic\">" ++ (content_char 8706 ++ codes "</mo>")) (codes "<mo>" ++ (content_char c ++ codes "</mo>")) (free_both (content_char 8706) _ (free_content_char 8706) refl) (free_both (content_char c) _ (free_content_char c) refl)
 
-free_slashed : (x : Tree) (own : List ℕ) → IsFreeTree x → IsDollarFree own → IsDollarFree (slashed_print x own)
-free_slashed (letter c variant) own h k = free_both (variant_text variant) _ (free_variant variant) (free_both (content_char c) _ (free_content_char c h) refl)
-free_slashed (operator c) own h k = free_both (content_char c) _ (free_content_char c h) refl
-free_slashed x own h k = k
+free_slashed : (x : Tree) (own : List ℕ) → IsDollarFree own → IsDollarFree (slashed_print x own)
+free_slashed (letter c variant) own k = free_both (variant_text variant) _ (free_variant variant) (free_both (content_char c) _ (free_content_char c) refl)
+free_slashed (operator c) own k = free_both (content_char c) _ (free_content_char c) refl
+free_slashed x own k = k
 
 free_member : (x : Tree) (own : List ℕ) → IsDollarFree own → IsDollarFree (member_print x own)
 free_member new_line own k = refl
@@ -109,17 +99,17 @@ free_member x own k = k
 
 mutual
   free_print : (x : Tree) → IsFreeTree x → IsDollarFree (print x)
-  free_print (number digits) h = free_both (content digits) _ (free_content digits h) refl
-  free_print (letter c variant) h = free_letter c variant h
-  free_print (operator c) h = free_operator c h
-  free_print (function name) h = free_both (content name) _ (free_content name h) refl
-  free_print (applied name x) h = free_both (content name) _ (free_content name h.0) (free_print x h.1)
+  free_print (number digits) h = free_both (content digits) _ (free_content digits) refl
+  free_print (letter c variant) h = free_letter c variant
+  free_print (operator c) h = free_operator c
+  free_print (function name) h = free_both (content name) _ (free_content name) refl
+  free_print (applied name x) h = free_both (content name) _ (free_content name) (free_print x h)
   free_print (space width) h = free_both (width_text width) _ (free_width width) refl
   free_print (subscript x y) h = free_both (print x) _ (free_print x h.0) (free_both (print y) _ (free_print y h.1) refl)
   free_print (superscript x y) h = free_both (print x) _ (free_print x h.0) (free_both (print y) _ (free_print y h.1) refl)
   free_print (sub_sup x y z) h = free_both (print x) _ (free_print x h.0) (free_both (print y) _ (free_print y h.1) (free_both (print z) _ (free_print z h.2) refl))
-  free_print (over_op c accent x) h = free_both (print x) _ (free_print x h.1) (free_both (accent_text accent) _ (free_accent accent) (free_both (content_char c) _ (free_content_char c h.0) refl))
-  free_print (under_op c accent x) h = free_both (print x) _ (free_print x h.1) (free_both (accent_text accent) _ (free_accent accent) (free_both (content_char c) _ (free_content_char c h.0) refl))
+  free_print (over_op c accent x) h = free_both (print x) _ (free_print x h) (free_both (accent_text accent) _ (free_accent accent) (free_both (content_char c) _ (free_content_char c) refl))
+  free_print (under_op c accent x) h = free_both (print x) _ (free_print x h) (free_both (accent_text accent) _ (free_accent accent) (free_both (content_char c) _ (free_content_char c) refl))
   free_print (overset x y) h = free_both (print y) _ (free_print y h.1) (free_both (print x) _ (free_print x h.0) refl)
   free_print (underset x y) h = free_both (print y) _ (free_print y h.1) (free_both (print x) _ (free_print x h.0) refl)
   free_print (under x y) h = free_both (print x) _ (free_print x h.0) (free_both (print y) _ (free_print y h.1) refl)
@@ -128,19 +118,19 @@ mutual
   free_print (sqrt x) h = free_both (print x) _ (free_print x h) refl
   free_print (frac x y thickness) h = free_both (thickness_text thickness) _ (free_thickness thickness) (free_both (print x) _ (free_print x h.0) (free_both (print y) _ (free_print y h.1) refl))
   free_print (row members) h = free_both (prints members) _ (free_prints members h) refl
-  free_print (fenced opening close x) h = free_both (content opening) _ (free_content opening h.0) (free_both (print x) _ (free_print x h.2) (free_both (content close) _ (free_content close h.1) refl))
-  free_print (stretched is_stretchy text) h = free_both (bool_text is_stretchy) _ (free_bool is_stretchy) (free_both (content text) _ (free_content text h) refl)
-  free_print (other_operator text) h = free_both (content text) _ (free_content text h) refl
-  free_print (sized_paren size paren) h = free_both (value size) _ (free_value size h.0) (free_both (value size) _ (free_value size h.0) (free_both (content paren) _ (free_content paren h.1) refl))
-  free_print (words text) h = free_both (content text) _ (free_content text h) refl
+  free_print (fenced opening close x) h = free_both (content opening) _ (free_content opening) (free_both (print x) _ (free_print x h) (free_both (content close) _ (free_content close) refl))
+  free_print (stretched is_stretchy text) h = free_both (bool_text is_stretchy) _ (free_bool is_stretchy) (free_both (content text) _ (free_content text) refl)
+  free_print (other_operator text) h = free_both (content text) _ (free_content text) refl
+  free_print (sized_paren size paren) h = free_both (value size) _ (free_value size h) (free_both (value size) _ (free_value size h) (free_both (content paren) _ (free_content paren) refl))
+  free_print (words text) h = free_both (content text) _ (free_content text) refl
   free_print (matrix members align) h = free_both (align_text align) _ (free_align align) (free_both (members_print members) _ (free_members members h) refl)
   free_print ampersand h = refl
   free_print new_line h = refl
-  free_print (slashed x) h = free_slashed x (print x) h (free_print x h)
+  free_print (slashed x) h = free_slashed x (print x) (free_print x h)
   free_print (style display x) h = free_both (style_open display) _ (free_style_open display) (free_both (print x) _ (free_print x h) refl)
   free_print (undefined text) h =
-      let whole : IsDollarFree (codes "Undefined(" ++ (quoted text ++ codes ")")) = free_both (quoted text) _ (free_quoted text h) refl in
-      free_both (content (codes "Undefined(" ++ (quoted text ++ codes ")"))) _ (free_content (codes "Undefined(" ++ (quoted text ++ codes ")")) whole) refl
+      let whole : List ℕ = codes "Undefined(" ++ (quoted text ++ codes ")") in
+      free_both (content whole) _ (free_content whole) refl
 
   free_prints : (xs : Trees) → AreFreeTrees xs → IsDollarFree (prints xs)
   free_prints no_trees h = refl

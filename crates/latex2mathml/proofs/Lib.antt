@@ -8,6 +8,7 @@ pub mod Given
 pub mod Joining
 pub mod Outcomes
 pub mod PlainTexts
+pub mod ProseTexts
 pub mod Renderings
 pub mod Repeating
 pub mod StreamLemmas

@@ -1,7 +1,7 @@
 -- Each document has exactly one answer or exactly one refusal.
 use Rattle.std.proofs.Common.{◌≡◌, ◌≢◌, ◌⊎◌, ℕ, zero, suc, ◌<◌, ◌≤◌, List, [], ◌∷◌, ◌++◌, length, length-append, ⊎_elim, inl, inr, refl, sym, ap, ◌∙◌, append_assoc, arith, subst}
 use Rattle.latex2mathml.specs.DocumentLaws.{HasOneOutcome}
-use Rattle.latex2mathml.specs.Documents.{Piece, prose, inline, display, piece_text, IsPlain, IsPiece, HasCut, HasNoCut, PieceAnswer, PiecesAnswer, IsAnswer, PieceRefuses, FirstRefused, IsRefusal}
+use Rattle.latex2mathml.specs.Documents.{Piece, prose, inline, display, piece_text, IsPlain, IsPiece, HasCut, HasNoCut, PieceAnswer, PiecesAnswer, IsAnswer, PieceRefuses, FirstRefused, IsRefusal, prose_answer}
 use Rattle.latex2mathml.specs.Dollars.{dollar}
 use Rattle.latex2mathml.specs.Pieces.{BeginsWith, EndsBefore}
 use Rattle.latex2mathml_tokens.specs.Refusal.{Refusal, InvalidNumberOfDollarSigns}
@@ -26,13 +26,13 @@ found_inline text lone =
   where
     by : (body end : List ℕ) → body ++ end ≡ text → IsPlain body → EndsBefore body end → Found (dollar ∷ text)
     by body [] j p s = inr (no_inline (dollar ∷ text) text body [] refl (λ rest e. lone rest (cc)) j p s (λ rest e. cc))
-    by [] (b ∷ end) j p s = absurd (lone end (sym j ∙ ap (λ c. c ∷ end) s))
+    by [] (b ∷ end) j p s = absurd (lone end (sym j ∙ ap (λ c. c ∷ end) s.0))
     by (a ∷ body) (b ∷ end) j p s = inl (
       inline (a ∷ body),
       end,
       record {
-        is_piece = ((λ e. cc), p);
-        split = ap (λ l. dollar ∷ l) (append_assoc (a ∷ body) (dollar ∷ []) end ∙ ap (λ c. (a ∷ body) ++ c ∷ end) (sym s) ∙ j);
+        is_piece = ((λ e. cc), s.1);
+        split = ap (λ l. dollar ∷ l) (append_assoc (a ∷ body) (dollar ∷ []) end ∙ ap (λ c. (a ∷ body) ++ c ∷ end) (sym s.0) ∙ j);
         longest = tt;
       },
     )
@@ -54,8 +54,8 @@ found_display text =
           display (a ∷ body),
           end,
           record {
-            is_piece = ((λ e. cc), p);
-            split = ap (λ l. dollar ∷ dollar ∷ l) (append_assoc (a ∷ body) (dollar ∷ dollar ∷ []) end ∙ (λ i. (a ∷ body) ++ sym s i ∷ sym sign i ∷ end) ∙ j);
+            is_piece = ((λ e. cc), s.1);
+            split = ap (λ l. dollar ∷ dollar ∷ l) (append_assoc (a ∷ body) (dollar ∷ dollar ∷ []) end ∙ (λ i. (a ∷ body) ++ sym s.0 i ∷ sym sign i ∷ end) ∙ j);
             longest = tt;
           },
         ))
@@ -91,7 +91,7 @@ cut_within (suc bound) (b ∷ text) short =
         (λ none. inr (λ cut. (let on = first_forced (b ∷ text) piece rest cut.0 begins cut.1 in none (on.0, on.2)))) (later (omega arith))
 
 piece_outcome : (piece : Piece) → ((answer : List ℕ) × PieceAnswer piece answer) ⊎ ((refusal : Refusal) × PieceRefuses piece refusal)
-piece_outcome (prose text) = inl (text, refl)
+piece_outcome (prose text) = inl (prose_answer text, refl)
 piece_outcome (inline body) = formula_outcome body Inline
 piece_outcome (display body) = formula_outcome body Block
 

@@ -1,86 +1,187 @@
 -- Plain text, and where it ends.
-use Rattle.std.proofs.Common.{◌≡◌, ◌≢◌, ◌⊎◌, ℕ, suc, ◌<◌, Bool, true, false, ◌&&◌, List, [], ◌∷◌, ◌++◌, length, get_or, take, ⊎_elim, inl, inr, refl, sym, ap, ◌∙◌, arith, get_or-take, length-take}
-use Rattle.std.specs.List.{list_all}
-use Rattle.std.proofs.lemmas.Bool.{and_parts}
-use Rattle.std.proofs.lemmas.Bool.Decides.{nat_tests}
-use Rattle.std.proofs.lemmas.List.Folds.{list_all-append}
+use Rattle.std.proofs.Common.{◌≡◌, ◌≢◌, ◌⊎◌, ℕ, ◌+◌, ◌<◌, ◌≤◌, List, [], ◌∷◌, ◌++◌, length, get_or, take, drop, ⊎_elim, inl, inr, refl, sym, ap, subst, ◌∙◌, arith, append-nil, append_assoc}
+use Rattle.std.proofs.lemmas.Bool.Decides.{eqb_tells}
+use Rattle.std.proofs.lemmas.List.{take_more, drop_more, drop_all}
+use Rattle.std.proofs.str.Laws.{order}
 use Rattle.latex2mathml.specs.Pieces.{EndsBefore}
-use Rattle.latex2mathml.specs.Documents.{IsPlain, IsBody}
-use Rattle.latex2mathml.specs.Dollars.{dollar, is_other}
-
-is_other-true : (c : ℕ) → c ≢ dollar → is_other c ≡ true
-is_other-true c h = grind (arith, nat_tests)
-
-other : (c : ℕ) → is_other c ≡ true → c ≢ dollar
-other c h = grind (arith, nat_tests)
-
-plain_parts : (b : ℕ) (text : List ℕ) → IsPlain (b ∷ text) → (is_other b ≡ true) × IsPlain text
-plain_parts b text p = and_parts (is_other b) (list_all is_other text) p
-
-plain_more : (b : ℕ) (text : List ℕ) → is_other b ≡ true → IsPlain text → IsPlain (b ∷ text)
-plain_more b text h p = ap (λ q. q && list_all is_other text) h ∙ p
-
-plain_each : (text : List ℕ) → ((i : ℕ) → i < length text → get_or text i 0 ≢ dollar) → IsPlain text
-plain_each [] none = refl
-plain_each (b ∷ text) none = plain_more b text (is_other-true b (none 0 (omega arith))) (plain_each text (λ i inside. none (suc i) (omega arith)))
-
--- text before its first dollar sign is plain
-pub plain_before : (text : List ℕ) (place : ℕ) → ((i : ℕ) → i < place → get_or text i 0 ≢ dollar) → IsPlain (take place text)
-plain_before text place none =
-    plain_each (take place text) (λ i inside e. let short : i < place = omega (arith, length-take place text) in none i short (sym (get_or-take place text i 0 short) ∙ e))
+use Rattle.latex2mathml.specs.Documents.{IsWhole, nothing, single, pair, IsPlain, whole, lone, IsBody}
+use Rattle.latex2mathml.specs.Dollars.{dollar, backslash}
 
 -- plain text begins with no dollar sign
-pub plain_begins : (b : ℕ) (text : List ℕ) → IsPlain (b ∷ text) → b ≢ dollar
-plain_begins b text p = other b (plain_parts b text p).0
+whole_begins : (b : ℕ) (text : List ℕ) → IsWhole (b ∷ text) → b ≢ dollar
+whole_begins b text (single n m w) e = n e
+whole_begins b text (pair is w) e = omega arith
 
-pub plain_append : (x y : List ℕ) → IsPlain x → IsPlain y → IsPlain (x ++ y)
-plain_append x y p q = list_all-append is_other x y ∙ ap (λ h. h && list_all is_other y) p ∙ q
+pub plain_begins : (b : ℕ) (text : List ℕ) → IsPlain (b ∷ text) → b ≢ dollar
+plain_begins b text (whole w) e = whole_begins b text w e
+plain_begins b text (lone {front} w is) e = go front w is
+  where
+    go : (front : List ℕ) → IsWhole front → (b ∷ text) ≡ front ++ 92 ∷ [] → ⊥
+    go [] w is = let k : b ≡ 92 = cc in omega arith
+    go (a ∷ front) w is = whole_begins a front w (let k : b ≡ a = cc in sym k ∙ e)
 
 pub body_plain : (body : List ℕ) → IsBody body → IsPlain body
-body_plain body b = b.1
+body_plain body b = whole b.1
 
 pub body_ends : (body rest : List ℕ) → IsBody body → EndsBefore body (dollar ∷ rest)
-body_ends body rest b = refl
+body_ends body rest b = (refl, b.1)
 
 pub ends_before_head : (text : List ℕ) (b : ℕ) (rest : List ℕ) → EndsBefore text (b ∷ rest) → b ≡ dollar
-ends_before_head text b rest e = e
+ends_before_head text b rest e = e.0
 
-shorter : (a : ℕ) (x u : List ℕ) → EndsBefore (a ∷ x) u → EndsBefore x u
-shorter a x [] s = tt
-shorter a x (b ∷ u) s = s
-
--- plain text ends at one place only: the first dollar sign, or the end
-pub plain_ends_once : (x y u v : List ℕ) → IsPlain x → IsPlain y → EndsBefore x u → EndsBefore y v → x ++ u ≡ y ++ v → (x ≡ y) × (u ≡ v)
-plain_ends_once [] [] u v p q s t e = (refl, e)
-plain_ends_once [] (b ∷ y) [] v p q s t e = cc
-plain_ends_once [] (b ∷ y) (c ∷ u) v p q s t e = absurd (plain_begins b y q (let k : c ≡ b = cc in sym k ∙ s))
-plain_ends_once (a ∷ x) [] u [] p q s t e = cc
-plain_ends_once (a ∷ x) [] u (d ∷ v) p q s t e = absurd (plain_begins a x p (let k : a ≡ d = cc in k ∙ t))
-plain_ends_once (a ∷ x) (b ∷ y) u v p q s t e =
-    let tails : x ++ u ≡ y ++ v = cc in
-    let both = plain_ends_once x y u v (plain_parts a x p).1 (plain_parts b y q).1 (shorter a x u s) (shorter b y v t) tails in
+-- whole units end at the first dollar sign that is a unit
+whole_ends_once : (x y u v : List ℕ) → IsWhole x → IsWhole y → x ++ 36 ∷ u ≡ y ++ 36 ∷ v → (x ≡ y) × (u ≡ v)
+whole_ends_once [] [] u v nothing nothing e = (refl, cc)
+whole_ends_once [] (b ∷ y) u v nothing (single n m w) e = absurd (n (let k : 36 ≡ b = cc in sym k))
+whole_ends_once [] (b ∷ c ∷ y) u v nothing (pair is w) e = absurd (let k : 36 ≡ b = cc in omega arith)
+whole_ends_once (a ∷ x) [] u v (single n m w) nothing e = absurd (n (cc))
+whole_ends_once (a ∷ c ∷ x) [] u v (pair is w) nothing e = absurd (let k : a ≡ 36 = cc in omega arith)
+whole_ends_once (a ∷ x) (b ∷ y) u v (single n m w) (single n' m' w') e =
+    let both = whole_ends_once x y u v w w' (let k : x ++ 36 ∷ u ≡ y ++ 36 ∷ v = cc in k) in
     let l : (a ∷ x) ≡ (b ∷ y) = cc (both.0) in
     (l, both.1)
+whole_ends_once (a ∷ x) (b ∷ c ∷ y) u v (single n m w) (pair is w') e = absurd (m (let k : a ≡ b = cc in k ∙ is))
+whole_ends_once (a ∷ c ∷ x) (b ∷ y) u v (pair is w) (single n m w') e = absurd (m (let k : a ≡ b = cc in sym k ∙ is))
+whole_ends_once (a ∷ c ∷ x) (b ∷ d ∷ y) u v (pair is w) (pair is' w') e =
+    let both = whole_ends_once x y u v w w' (let k : x ++ 36 ∷ u ≡ y ++ 36 ∷ v = cc in k) in
+    let l : (a ∷ c ∷ x) ≡ (b ∷ d ∷ y) = cc (both.0) in
+    (l, both.1)
+
+-- whole units hold no dollar sign behind whole units
+never_whole : (x y v : List ℕ) → IsWhole x → IsWhole y → x ≡ y ++ 36 ∷ v → ⊥
+never_whole [] [] v nothing nothing e = cc
+never_whole [] (b ∷ y) v nothing w e = cc
+never_whole (a ∷ x) [] v w nothing e = whole_begins a x w (cc)
+never_whole (a ∷ x) (b ∷ y) v (single n m w) (single n' m' w') e = never_whole x y v w w' (cc)
+never_whole (a ∷ x) (b ∷ c ∷ y) v (single n m w) (pair is w') e = m (let k : a ≡ b = cc in k ∙ is)
+never_whole (a ∷ c ∷ x) (b ∷ y) v (pair is w) (single n m w') e = m (let k : a ≡ b = cc in sym k ∙ is)
+never_whole (a ∷ c ∷ x) (b ∷ d ∷ y) v (pair is w) (pair is' w') e = never_whole x y v w w' (cc)
+
+-- nor do those with a lone backslash behind them
+never_lone : (x y v : List ℕ) → IsWhole x → IsWhole y → x ++ 92 ∷ [] ≡ y ++ 36 ∷ v → ⊥
+never_lone [] [] v nothing nothing e = let k : ◌≡◌ {A = ℕ} 92 36 = cc in omega arith
+never_lone [] (b ∷ []) v nothing w e = cc
+never_lone [] (b ∷ c ∷ y) v nothing w e = cc
+never_lone (a ∷ x) [] v w nothing e = whole_begins a x w (cc)
+never_lone (a ∷ x) (b ∷ y) v (single n m w) (single n' m' w') e = never_lone x y v w w' (cc)
+never_lone (a ∷ x) (b ∷ c ∷ y) v (single n m w) (pair is w') e = m (let k : a ≡ b = cc in k ∙ is)
+never_lone (a ∷ c ∷ x) (b ∷ y) v (pair is w) (single n m w') e = m (let k : a ≡ b = cc in sym k ∙ is)
+never_lone (a ∷ c ∷ x) (b ∷ d ∷ y) v (pair is w) (pair is' w') e = never_lone x y v w w' (cc)
+
+never_plain : (x y v : List ℕ) → IsPlain x → IsWhole y → x ≡ y ++ 36 ∷ v → ⊥
+never_plain x y v (whole p) w e = never_whole x y v p w e
+never_plain x y v (lone {front} p is) w e = never_lone front y v p w (sym is ∙ e)
+
+-- plain text ends at one place only: the first dollar sign that is a unit, or the end
+pub plain_ends_once : (x y u v : List ℕ) → IsPlain x → IsPlain y → EndsBefore x u → EndsBefore y v → x ++ u ≡ y ++ v → (x ≡ y) × (u ≡ v)
+plain_ends_once x y [] [] p q s t e = (sym (append-nil x) ∙ e ∙ append-nil y, refl)
+plain_ends_once x y [] (d ∷ v) p q s t e = absurd (never_plain x y v p t.1 (sym (append-nil x) ∙ e ∙ ap (λ k. y ++ k ∷ v) t.0))
+plain_ends_once x y (c ∷ u) [] p q s t e = absurd (never_plain y x u q s.1 (sym (append-nil y) ∙ sym e ∙ ap (λ k. x ++ k ∷ u) s.0))
+plain_ends_once x y (c ∷ u) (d ∷ v) p q s t e =
+    let both = whole_ends_once x y u v s.1 t.1 (ap (λ k. x ++ k ∷ u) (sym s.0) ∙ e ∙ ap (λ k. y ++ k ∷ v) t.0) in
+    let l : (c ∷ u) ≡ (d ∷ v) = (λ i. (s.0 ∙ sym t.0) i ∷ both.1 i) in
+    (both.0, l)
+
+-- units side by side
+pub whole_append : (x y : List ℕ) → IsWhole x → IsWhole y → IsWhole (x ++ y)
+whole_append [] y nothing v = v
+whole_append (b ∷ x) y (single n m w) v = single n m (whole_append x y w v)
+whole_append (b ∷ c ∷ x) y (pair is w) v = pair is (whole_append x y w v)
+
+pub plain_append : (x y : List ℕ) → IsWhole x → IsPlain y → IsPlain (x ++ y)
+plain_append x y w (whole v) = whole (whole_append x y w v)
+plain_append x y w (lone {front} v is) = lone (whole_append x front w v) (ap (λ l. x ++ l) is ∙ sym (append_assoc x front (92 ∷ [])))
+
+-- one more unit in front
+pub more_single : (b : ℕ) (text : List ℕ) → b ≢ dollar → b ≢ backslash → IsPlain text → IsPlain (b ∷ text)
+more_single b text n m p = plain_append (b ∷ []) text (single n m nothing) p
+
+pub more_pair : (b c : ℕ) (text : List ℕ) → b ≡ backslash → IsPlain text → IsPlain (b ∷ c ∷ text)
+more_pair b c text is p = plain_append (b ∷ c ∷ []) text (pair is nothing) p
+
+same_or_other : (b c : ℕ) → (b ≡ c) ⊎ (b ≢ c)
+same_or_other b c = ⊎_elim (λ h. inl h.1) (λ h. inr h.1) (eqb_tells b c)
 
 pub dollar_or_other : (b : ℕ) → (b ≡ dollar) ⊎ (b ≢ dollar)
-dollar_or_other b = by (is_other b) refl
-  where
-    by : (p : Bool) → is_other b ≡ p → (b ≡ dollar) ⊎ (b ≢ dollar)
-    by true e = inr (other b e)
-    by false e = inl (grind (arith, nat_tests))
+dollar_or_other b = same_or_other b dollar
 
-longer : (b : ℕ) (x u : List ℕ) → EndsBefore x u → EndsBefore (b ∷ x) u
-longer b x [] s = tt
-longer b x (c ∷ u) s = s
+pub backslash_or_other : (b : ℕ) → (b ≡ backslash) ⊎ (b ≢ backslash)
+backslash_or_other b = same_or_other b backslash
+
+-- and one less
+pub behind_single : (b : ℕ) (text : List ℕ) → b ≢ backslash → IsPlain (b ∷ text) → IsPlain text
+behind_single b text m (whole (single n m' w)) = whole w
+behind_single b text m (whole (pair is w)) = absurd (m is)
+behind_single b text m (lone {front} w is) = go front w is
+  where
+    go : (front : List ℕ) → IsWhole front → (b ∷ text) ≡ front ++ 92 ∷ [] → IsPlain text
+    go [] w is = absurd (m (let k : b ≡ 92 = cc in k))
+    go (a ∷ front) (single n m' w) is = lone w (let k : text ≡ front ++ 92 ∷ [] = cc in k)
+    go (a ∷ c ∷ front) (pair is' w) is = absurd (m (let k : b ≡ a = cc in k ∙ is'))
+
+pub behind_pair : (b c : ℕ) (text : List ℕ) → b ≡ backslash → IsPlain (b ∷ c ∷ text) → IsPlain text
+behind_pair b c text is (whole (single n m w)) = absurd (m is)
+behind_pair b c text is (whole (pair is' w)) = whole w
+behind_pair b c text is (lone {front} w e) = go front w e
+  where
+    go : (front : List ℕ) → IsWhole front → (b ∷ c ∷ text) ≡ front ++ 92 ∷ [] → IsPlain text
+    go [] w e = cc
+    go (a ∷ front) (single n m w) e = absurd (m (let k : a ≡ b = cc in k ∙ is))
+    go (a ∷ d ∷ front) (pair is' w) e = lone w (let k : text ≡ front ++ 92 ∷ [] = cc in k)
 
 -- the longest plain front of a text
 abbrev pub PlainFront : List ℕ → Type 0
 PlainFront text = (front : List ℕ) × (rest : List ℕ) × (front ++ rest ≡ text) × IsPlain front × EndsBefore front rest
 
-pub plain_front : (text : List ℕ) → PlainFront text
-plain_front [] = ([], [], refl, refl, tt)
-plain_front (b ∷ text) = by (plain_front text)
+longer : (x text : List ℕ) → IsWhole x → PlainFront text → PlainFront (x ++ text)
+longer x text w (front, rest, j, p, s) =
+    (x ++ front, rest, append_assoc x front rest ∙ ap (λ l. x ++ l) j, plain_append x front w p, ends rest s)
   where
-    by : PlainFront text → PlainFront (b ∷ text)
-    by (front, rest, j, p, s) =
-        ⊎_elim (λ sign. ([], b ∷ text, refl, refl, sign)) (λ n. (b ∷ front, rest, ap (λ l. b ∷ l) j, plain_more b front (is_other-true b n) p, longer b front rest s)) (dollar_or_other b)
+    ends : (rest : List ℕ) → EndsBefore front rest → EndsBefore (x ++ front) rest
+    ends [] s = tt
+    ends (b ∷ rest) s = (s.0, whole_append x front w s.1)
+
+pub plain_front : (text : List ℕ) → PlainFront text
+plain_front [] = ([], [], refl, whole nothing, tt)
+plain_front (b ∷ []) =
+    ⊎_elim (λ sign. ([], b ∷ [], refl, whole nothing, (sign, nothing)))
+    (λ n. ⊎_elim (λ is. (b ∷ [], [], refl, lone nothing (ap (λ c. c ∷ []) is), tt)) (λ m. (b ∷ [], [], refl, whole (single n m nothing), tt)) (backslash_or_other b)) (dollar_or_other b)
+plain_front (b ∷ c ∷ text) =
+    ⊎_elim (λ sign. ([], b ∷ c ∷ text, refl, whole nothing, (sign, nothing)))
+    (λ n. ⊎_elim (λ is. longer (b ∷ c ∷ []) text (pair is nothing) (plain_front text)) (λ m. longer (b ∷ []) (c ∷ text) (single n m nothing) (plain_front (c ∷ text))) (backslash_or_other b)) (dollar_or_other b)
+
+-- the front of a text that was passed: no unit of it is a dollar sign
+pub record Passed (text : List ℕ) (place : ℕ) : Type 0 where
+  pub in_range : place ≤ length text
+  pub plain : IsPlain (take place text)
+  pub whole_inside : place < length text → IsWhole (take place text)
+
+pub nothing_passed : (text : List ℕ) → Passed text 0
+nothing_passed text = record { in_range = omega arith; plain = whole nothing; whole_inside = λ _. nothing }
+
+module _ (text : List ℕ) (place : ℕ) (so : Passed text place) (inside : place < length text) where
+  one_more : take (place + 1) text ≡ take place text ++ get_or text place 0 ∷ []
+  one_more = take_more text place 0 inside
+
+  pub passed_single : get_or text place 0 ≢ dollar → get_or text place 0 ≢ backslash → Passed text (place + 1)
+  passed_single n m =
+      let w : IsWhole (take (place + 1) text) = subst IsWhole (sym one_more) (whole_append (take place text) (get_or text place 0 ∷ []) (so.whole_inside inside) (single n m nothing)) in
+      record { in_range = omega arith; plain = whole w; whole_inside = λ _. w }
+
+  pub passed_lone : get_or text place 0 ≡ backslash → length text ≤ place + 1 → Passed text (place + 1)
+  passed_lone is last = record {
+    in_range = omega arith;
+    plain = lone (so.whole_inside inside) (one_more ∙ ap (λ b. take place text ++ b ∷ []) is);
+    whole_inside = λ lt. absurd (omega arith);
+  }
+
+  pub passed_pair : get_or text place 0 ≡ backslash → place + 1 < length text → Passed text (place + 2)
+  passed_pair is more =
+      let two : take (place + 2) text ≡ (take place text ++ get_or text place 0 ∷ []) ++ get_or text (place + 1) 0 ∷ [] = ap (λ n. take n text) (let k : place + 2 ≡ (place + 1) + 1 = omega arith in k) ∙ (take_more text (place + 1) 0 more ∙ ap (λ l. l ++ get_or text (place + 1) 0 ∷ []) one_more) in
+      let w : IsWhole (take (place + 2) text) = subst IsWhole (sym (two ∙ append_assoc (take place text) (get_or text place 0 ∷ []) (get_or text (place + 1) 0 ∷ []))) (whole_append (take place text) (get_or text place 0 ∷ get_or text (place + 1) 0 ∷ []) (so.whole_inside inside) (pair is nothing)) in
+      record { in_range = omega arith; plain = whole w; whole_inside = λ _. w }
+
+pub ends_here : (text : List ℕ) (place : ℕ) → Passed text place → (place < length text → get_or text place 0 ≡ dollar) → EndsBefore (take place text) (drop place text)
+ends_here text place so is =
+    ⊎_elim (λ inside. subst (EndsBefore (take place text)) (sym (drop_more text place 0 inside)) (is inside, so.whole_inside inside))
+    (λ past. subst (EndsBefore (take place text)) (sym (drop_all place text past)) tt) (order place (length text))

@@ -1,23 +1,33 @@
 -- Laws of documents, and of the formulas in them.
-use Rattle.std.specs.Prelude.{◌≡◌, ◌⊎◌, ℕ, List, ◌++◌}
+use Rattle.std.specs.Prelude.{◌≡◌, ◌⊎◌, ◌==◌, ◌%◌, ℕ, List, ◌++◌}
+use Rattle.std.specs.List.{suffix_len}
 use Rattle.latex2mathml.specs.Documents.{Piece, IsCut, IsAnswer, IsRefusal}
-use Rattle.latex2mathml.specs.Dollars.{IsDollarFree}
+use Rattle.latex2mathml.specs.Dollars.{backslash, IsDollarFree}
 use Rattle.latex2mathml_tokens.specs.Refusal.{Refusal}
 use Rattle.latex2mathml_formulas.specs.Rendering.{IsRendering}
 use Rattle.latex2mathml_tokens.specs.declared.DisplayStyle.{DisplayStyle}
 
--- where the formula holds no dollar sign, no rendering of it does
-abbrev pub KeepsDollarFree : List ℕ → Type 0
-KeepsDollarFree text = (style : DisplayStyle) (markup : List ℕ) → IsRendering text style markup → IsDollarFree text → IsDollarFree markup
+-- no rendering of the formula holds a dollar sign
+abbrev pub RendersDollarFree : List ℕ → Type 0
+RendersDollarFree text = (style : DisplayStyle) (markup : List ℕ) → IsRendering text style markup → IsDollarFree markup
 
 -- two cuts of the document are the same pieces
 abbrev pub HasOneCut : List ℕ → Type 0
 HasOneCut document = (pieces others : List Piece) → IsCut document pieces → IsCut document others → pieces ≡ others
 
--- where both documents have answers, the documents joined have the answers joined
+-- the text ends in an odd number of backslashes: the last would take the first character of what follows
+abbrev pub EndsInOddBackslashes : List ℕ → Type 0
+EndsInOddBackslashes text = suffix_len (λ b. b == backslash) text % 2 ≡ 1
+
+-- where both documents have answers, and no backslash that ends the first takes from the second, the documents joined
+-- have the answers joined
 abbrev pub JoinsAnswers : List ℕ → List ℕ → Type 0
 JoinsAnswers first second =
-    (answer after : List ℕ) → IsAnswer first answer → IsAnswer second after → IsAnswer (first ++ second) (answer ++ after)
+    (¬ EndsInOddBackslashes first)
+    → (answer after : List ℕ)
+    → IsAnswer first answer
+    → IsAnswer second after
+    → IsAnswer (first ++ second) (answer ++ after)
 
 -- the text holds no dollar sign, is its own answer, and has no other
 pub record IsOwnAnswer (answer : List ℕ) : Type 0 where

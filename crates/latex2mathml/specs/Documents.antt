@@ -1,12 +1,12 @@
 -- Documents: prose with formulas between dollar signs. From top to bottom this is what `replace` answers for one: it
--- cuts the document into pieces, keeps the prose byte for byte, and puts the rendering of each formula, alone, in its
--- place; or it refuses the document, for its dollar signs first, and then for its first refused formula.
+-- cuts the document into pieces, keeps the prose byte for byte but for `\$`, and puts the rendering of each formula,
+-- alone, in its place; or it refuses the document, for its dollar signs first, and then for its first refused formula.
 -- `replace` answers nothing else, unless memory is wanting, and each document has exactly one answer or exactly one
 -- refusal (`laws::one_outcome`).
 --
 -- A text is its bytes here.
-use Rattle.std.specs.Prelude.{◌≡◌, ◌≢◌, ◌⊎◌, ℕ, List, [], ◌∷◌, ◌++◌, codes}
-use Rattle.latex2mathml.specs.Dollars.{IsDollarFree}
+use Rattle.std.specs.Prelude.{◌≡◌, ◌≢◌, ◌⊎◌, ◌==◌, ℕ, List, [], ◌∷◌, ◌++◌, codes, if◌then◌else◌}
+use Rattle.latex2mathml.specs.Dollars.{dollar, backslash}
 use Rattle.latex2mathml_tokens.specs.Refusal.{Refusal, InvalidNumberOfDollarSigns}
 use Rattle.latex2mathml_formulas.specs.Rendering.{IsFormulaRefusal, IsRendering}
 use Rattle.latex2mathml_tokens.specs.declared.DisplayStyle.TheVariants.{Block, Inline}
@@ -30,23 +30,36 @@ abbrev pub spelling : List Piece → List ℕ
 spelling [] = []
 spelling (piece ∷ pieces) = piece_text piece ++ spelling pieces
 
--- text in which no formula begins or ends
-abbrev pub IsPlain : List ℕ → Type 0
-IsPlain text = IsDollarFree text
+-- Text is read unit by unit, from left to right: a backslash takes the character behind it with it, whatever that is, and
+-- any other character is a unit by itself. A dollar sign begins or ends a formula where it is a unit. A backslash may take
+-- the first byte of a longer character here, since no further byte of that is a dollar sign or a backslash.
 
--- what may stand between dollar signs
+-- whole units, none of them a dollar sign
+pub data IsWhole : List ℕ → Type 0 where
+  nothing : IsWhole []
+  single : {b : ℕ} {text : List ℕ} → b ≢ dollar → b ≢ backslash → IsWhole text → IsWhole (b ∷ text)
+  pair : {b c : ℕ} {text : List ℕ} → b ≡ backslash → IsWhole text → IsWhole (b ∷ c ∷ text)
+
+-- text in which no formula begins or ends: whole units, and then a backslash or none
+pub data IsPlain : List ℕ → Type 0 where
+  whole : {text : List ℕ} → IsWhole text → IsPlain text
+  lone : {front text : List ℕ} → IsWhole front → text ≡ front ++ codes "\\" → IsPlain text
+
+-- what may stand between dollar signs: its last unit is whole, so a dollar sign may follow
 abbrev pub IsBody : List ℕ → Type 0
-IsBody text = (text ≢ []) × IsPlain text
+IsBody text = (text ≢ []) × IsWhole text
 
--- prose and bodies are plain, and not empty
+-- prose is plain, and not empty
 abbrev pub IsPiece : Piece → Type 0
 IsPiece (prose text) = (text ≢ []) × IsPlain text
 IsPiece (inline body) = IsBody body
 IsPiece (display body) = IsBody body
 
--- the piece may stand before these: prose never stands beside prose
+-- the piece may stand before these: prose never stands beside prose, and before a formula its last unit is whole
 abbrev pub MayFollow : Piece → List Piece → Type 0
+MayFollow (prose text) [] = Unit {0}
 MayFollow (prose text) (prose next ∷ pieces) = ⊥
+MayFollow (prose text) (formula ∷ pieces) = IsWhole text
 MayFollow piece pieces = Unit {0}
 
 -- each is a piece that may stand before the ones behind it
@@ -59,7 +72,7 @@ pub record IsCut (document : List ℕ) (pieces : List Piece) : Type 0 where
   pub well_formed : ArePieces pieces
   pub spelled : spelling pieces ≡ document
 
--- the document has pieces: its dollar signs pair
+-- the document has pieces: the dollar signs that are units pair
 abbrev pub HasCut : List ℕ → Type 0
 HasCut document = (pieces : List Piece) × IsCut document pieces
 
@@ -69,9 +82,19 @@ HasNoCut document = ¬ HasCut document
 
 -- The answer.
 
--- what becomes of prose: it stays as it is
+-- a backslash with the byte that it takes: a dollar sign becomes a reference, and loses its backslash
+abbrev pub pair_answer : ℕ → List ℕ
+pair_answer c = if c == dollar then codes "&#x24;" else backslash ∷ c ∷ []
+
+-- prose, unit by unit
+abbrev pub prose_answer : List ℕ → List ℕ
+prose_answer [] = []
+prose_answer (b ∷ []) = b ∷ []
+prose_answer (b ∷ c ∷ text) = if b == backslash then pair_answer c ++ prose_answer text else b ∷ prose_answer (c ∷ text)
+
+-- what becomes of prose: `\$` becomes `&#x24;`, and every other unit stays as it is
 abbrev pub ProseAnswer : List ℕ → List ℕ → Type 0
-ProseAnswer text answer = answer ≡ text
+ProseAnswer text answer = answer ≡ prose_answer text
 
 -- what becomes of a piece: prose, or the `math` element of the body and of nothing else
 abbrev pub PieceAnswer : Piece → List ℕ → Type 0

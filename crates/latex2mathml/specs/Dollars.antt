@@ -8,6 +8,10 @@ use Rattle.std.specs.Str.{byte}
 abbrev pub dollar : ℕ
 dollar = byte "$"
 
+-- what keeps a dollar sign from beginning or ending a formula
+abbrev pub backslash : ℕ
+backslash = byte "\\"
+
 -- any byte or character but the dollar sign
 abbrev pub is_other : ℕ → Bool
 is_other c = not (c == dollar)

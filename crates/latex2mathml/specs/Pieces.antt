@@ -1,6 +1,6 @@
 -- What the cutter's functions answer, in the words of documents: the pieces, one at a time.
 use Rattle.std.specs.Prelude.{◌≡◌, ℕ, List, [], ◌∷◌, ◌++◌, Option, Some, None, Result, Ok, Err}
-use Rattle.latex2mathml.specs.Documents.{Piece, prose, inline, display, piece_text, spelling, IsPiece, IsCut, HasNoCut}
+use Rattle.latex2mathml.specs.Documents.{Piece, prose, inline, display, piece_text, spelling, IsWhole, IsPiece, IsCut, HasNoCut}
 use Rattle.latex2mathml.specs.Dollars.{dollar}
 use Rattle.latex2mathml.specs.declared.document.NoCut.{NoCut}
 use Rattle.latex2mathml.specs.declared.document.Piece as code
@@ -13,10 +13,10 @@ piece_of (Prose text) = prose text.now
 piece_of (Inline body) = inline body.now
 piece_of (Display body) = display body.now
 
--- plain text before this rest can be no longer: the rest is nothing, or begins with a dollar sign
+-- plain text before this rest can be no longer: the rest is nothing, or begins with a dollar sign that is a unit
 abbrev pub EndsBefore : List ℕ → List ℕ → Type 0
 EndsBefore text [] = Unit {0}
-EndsBefore text (b ∷ rest) = b ≡ dollar
+EndsBefore text (b ∷ rest) = (b ≡ dollar) × IsWhole text
 
 -- the same, of prose; a formula ends with its dollar signs
 abbrev pub IsLongest : Piece → List ℕ → Type 0

@@ -91,16 +91,22 @@ fn first_piece(text: &str) -> Option<(Piece<'_>, &str)>
     }
 }
 
-/// The text up to its first dollar sign, and the text from there on.
+/// The text up to its first dollar sign that no backslash takes, and the text from there on.
 fn until_dollar(text: &str) -> (&str, &str)
     ensures joined { result.0.now ++ result.1.now ≡ text.now }
     ensures plain { IsPlain result.0.now }
     ensures ends { EndsBefore result.0.now result.1.now }
 {
-    match text.find('$') {
-        Some(place) => text.split_at(place),
-        None => text.split_at(text.len()),
+    let bytes = text.as_bytes();
+    let mut place = 0;
+    while place < bytes.len() && bytes[place] != b'$' {
+        if bytes[place] == b'\\' && place + 1 < bytes.len() {
+            place += 2;
+        } else {
+            place += 1;
+        }
     }
+    text.split_at(place)
 }
 
 /// Goes through the pieces once, to see that the document has a cut.

@@ -23,9 +23,10 @@ const ROOM: usize = 4096;
 
 /// Reads a document to its end and converts its formulas, as [`replace`] does.
 ///
-/// It is [`Reading::Unchanged`] exactly where the text holds no dollar sign. It is [`FileFault::Read`] where the source
-/// failed, [`FileFault::NotText`] where its bytes are not UTF-8, and [`FileFault::Refused`] where the document is refused
-/// or memory is not found, also for a source that never ends. A source that failed or ended is not asked again.
+/// It is [`Reading::Unchanged`] exactly where the text holds no dollar sign, also none behind a backslash. It is
+/// [`FileFault::Read`] where the source failed, [`FileFault::NotText`] where its bytes are not UTF-8, and
+/// [`FileFault::Refused`] where the document is refused or memory is not found, also for a source that never ends. A
+/// source that failed or ended is not asked again.
 pub fn read_document<S: Source>(alloc: Global, source: &mut S) -> Result<Reading, FileFault>
     requires unfailed { IsFalse (S.has_failed source.old) }
     requires unended { IsFalse (S.has_ended source.old) }

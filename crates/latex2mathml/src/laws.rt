@@ -1,9 +1,9 @@
 //! Laws of the definitions: of documents, and those of formulas and nodes.
-ghost use Rattle.latex2mathml.specs.DocumentLaws.{HasOneCut, HasOneOutcome, JoinsAnswers, KeepsDollarFree, RepeatsAnswers};
+ghost use Rattle.latex2mathml.specs.DocumentLaws.{HasOneCut, HasOneOutcome, JoinsAnswers, RendersDollarFree, RepeatsAnswers};
 
 pub use latex2mathml_formulas::laws::{
-    one_reading, one_reading_of, one_token_list, read_by_slices, refused_by_slices, rendering,
-    sliced,
+    one_reading, one_reading_of, one_token_list, places, read_by_slices, refused_by_slices,
+    rendering, sliced, white_space,
 };
 pub use latex2mathml_nodes::laws::{balanced, one_element, restyled, widths_are_nearest};
 
@@ -14,14 +14,15 @@ pub fn one_cut(document: &str)
     let _ = document;
 }
 
-/// A formula without a dollar sign has no rendering with one.
+/// No rendering of a formula holds a dollar sign.
 pub fn dollar_free(text: &str)
-    ensures { KeepsDollarFree text.now }
+    ensures { RendersDollarFree text.now }
 {
     let _ = text;
 }
 
-/// Documents that have answers, joined, have the answers joined.
+/// Documents that have answers, joined, have the answers joined, where the first does not end in an odd number of
+/// backslashes.
 pub fn joined(first: &str, second: &str)
     ensures { JoinsAnswers first.now second.now }
 {

@@ -29,11 +29,14 @@ pub use stream::{Sink, Source, Stream, write_document};
 /// The document with the `math` element of each formula in the formula's place.
 ///
 /// A formula stands between single dollar signs, as `$x$`, and is set in the line, or between double dollar signs, as
-/// `$$x$$`, and is set in a block of its own. What stands before, between and behind formulas is kept byte for byte.
+/// `$$x$$`, and is set in a block of its own. What stands before, between and behind formulas is kept byte for byte, but
+/// for `\$`.
 ///
-/// [`LatexError::InvalidNumberOfDollarSigns`] comes, before any formula is looked at, where the dollar signs do not pair
-/// so or a formula is empty; write `&dollar;` for a dollar sign outside formulas. Otherwise the first formula that
-/// [`latex_to_mathml`] refuses decides.
+/// A backslash takes the character behind it with it, so the dollar sign of `\$` begins and ends no formula. In a formula
+/// it is the letter `$`, and outside formulas it becomes `&#x24;`. The answer holds no dollar sign.
+///
+/// [`LatexError::InvalidNumberOfDollarSigns`] comes, before any formula is looked at, where the other dollar signs do not
+/// pair so or a formula is empty. Otherwise the first formula that [`latex_to_mathml`] refuses decides.
 pub fn replace(alloc: Global, input: &str) -> Result<String, LatexError>
     ensures answer { IfOk result (λ answer. IsAnswer input.now (string_bytes answer)) }
     ensures refusal { IfRefused result (IsRefusal input.now) }

@@ -595,6 +595,48 @@ fn keeps_at(alloc: Global, size: usize) -> Result<bool, AllocError> {
     Ok(ended == Ok(()) && output.inner.as_slice() == digits.as_bytes())
 }
 
+/// Requests so many bytes, which tells `tools/run-without-memory` where a run begins and ends.
+fn mark(alloc: Global, size: usize) -> Result<(), AllocError> {
+    let _mark: Vec<u8> = Vec::with_capacity(alloc, size)?;
+    Ok(())
+}
+
+/// Whether a run puts out this answer, or tells want of memory and puts out nothing.
+fn answers_or_wants(
+    alloc: Global,
+    job: Job,
+    bytes: &[u8],
+    answer: &str,
+) -> Result<bool, AllocError> {
+    let mut input = stream(bytes);
+    let mut output = stream(Vec::with_capacity(alloc, ROOM)?);
+    mark(alloc, 7919)?;
+    let ended = run(alloc, job, &mut input, &mut output);
+    mark(alloc, 7927)?;
+    Ok(match ended {
+        Ok(()) => output.inner.as_slice() == answer.as_bytes(),
+        Err(fault) => {
+            fault == FileFault::Refused(LatexError::OutOfMemory) && output.inner.is_empty()
+        }
+    })
+}
+
+/// The output's own memory is found before a run, so that what a run asks for is all that can be refused.
+const ROOM: usize = 1 << 10;
+
+/// `tools/run-without-memory` refuses the requests of these runs.
+#[test]
+fn runs_without_memory(rt: HostRuntime) -> Result<(), Fail> {
+    for (job, bytes, answer) in [
+        (Job::Inline, "x<y", INLINE),
+        (Job::Block, "x<y", BLOCK),
+        (Job::Document, DOCUMENT, ANSWER),
+    ] {
+        assert!(rt; answers_or_wants(rt.alloc(), job, bytes.as_bytes(), answer)?);
+    }
+    Ok(())
+}
+
 /// Around the room that is asked for at once, and far past it.
 #[test]
 fn runs_at_each_size(rt: HostRuntime) -> Result<(), Fail> {

@@ -27,6 +27,7 @@ fn content(alloc: Global, c: char) -> Result<String, AllocError> {
         '&' => String::from_str(alloc, "&amp;"),
         '<' => String::from_str(alloc, "&lt;"),
         '>' => String::from_str(alloc, "&gt;"),
+        '$' => String::from_str(alloc, "&#x24;"),
         c => format!(in alloc; "{c}"),
     }
 }

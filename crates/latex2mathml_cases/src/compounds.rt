@@ -265,6 +265,17 @@ fn sizes_and_words(rt: HostRuntime) -> Result<(), Fail> {
             "<mrow><mo maxsize=\"&lt;&amp;&gt;é\" minsize=\"&lt;&amp;&gt;é\">\"</mo></mrow>"
         )?
     );
+    let signs = Node::SizedParen {
+        size: "$1",
+        paren: "$",
+    };
+    assert!(rt;
+        prints(
+            alloc,
+            &signs,
+            "<mrow><mo maxsize=\"$1\" minsize=\"$1\">&#x24;</mo></mrow>"
+        )?
+    );
     let text = words(alloc, "</mtext>&")?;
     assert!(rt; prints(alloc, &text, "<mtext>&lt;/mtext&gt;&amp;</mtext>")?);
     Ok(())

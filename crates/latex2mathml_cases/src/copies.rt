@@ -32,7 +32,7 @@ fn more_samples(alloc: Global) -> Result<Vec<Node>, AllocError> {
 }
 
 /// One node of each kind, and beside each one that differs in its contents alone.
-fn samples(alloc: Global) -> Result<Vec<Node>, Fail> {
+pub(crate) fn samples(alloc: Global) -> Result<Vec<Node>, Fail> {
     let mut samples = more_samples(alloc)?;
     for sample in first_samples(alloc)? {
         samples.push(sample)?;

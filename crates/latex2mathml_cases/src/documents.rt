@@ -132,6 +132,108 @@ fn prose_and_formulas(rt: HostRuntime) -> Result<(), Fail> {
     Ok(())
 }
 
+/// A backslash takes the character behind it with it, and `\$` becomes a reference.
+#[test]
+fn escaped_dollar_signs(rt: HostRuntime) -> Result<(), Fail> {
+    for (document, answer) in [
+        (r"\$5 and \$6", "&#x24;5 and &#x24;6"),
+        (r"\$", "&#x24;"),
+        (r"\$a", "&#x24;a"),
+        (r"a\$", "a&#x24;"),
+        (r"\$\$", "&#x24;&#x24;"),
+        (r"\\\$", r"\\&#x24;"),
+        (r"\\\\\$", r"\\\\&#x24;"),
+        (r"é\é\$é", r"é\é&#x24;é"),
+        (r"\𝑥\$\", r"\𝑥&#x24;\"),
+        ("\\\n\\$\n", "\\\n&#x24;\n"),
+        (r"a\", r"a\"),
+        (r"\\", r"\\"),
+        (r"\a\&\<", r"\a\&\<"),
+    ] {
+        assert!(rt;
+            becomes(rt.alloc(), document, &[Part::Prose(answer)])?,
+            "{document}"
+        );
+    }
+    Ok(())
+}
+
+/// The letter that `\$` is in a formula.
+const SIGN: &str = "<mi mathvariant=\"normal\">&#x24;</mi>";
+
+#[test]
+fn escaped_dollar_signs_in_formulas(rt: HostRuntime) -> Result<(), Fail> {
+    for (body, before, after) in [
+        (r"\$", "", ""),
+        (r"\$a", "", "<mi>a</mi>"),
+        (r"a\$", "<mi>a</mi>", ""),
+        (r"a\$b", "<mi>a</mi>", "<mi>b</mi>"),
+        (r"\\\$", "<mtext>[PARSE ERROR: NewLine]</mtext>", ""),
+        (r"\$\\", "", "<mtext>[PARSE ERROR: NewLine]</mtext>"),
+    ] {
+        let alloc = rt.alloc();
+        let contents = format!(in alloc; "{before}{SIGN}{after}")?;
+        let in_line = format!(in alloc; "${body}$")?;
+        let in_block = format!(in alloc; "$${body}$$")?;
+        assert!(rt;
+            becomes(alloc, in_line.as_str(), &[Part::Inline(contents.as_str())])?,
+            "{body}"
+        );
+        assert!(rt;
+            becomes(alloc, in_block.as_str(), &[Part::Block(contents.as_str())])?,
+            "{body}"
+        );
+    }
+    Ok(())
+}
+
+#[test]
+fn escaped_dollar_signs_beside_formulas(rt: HostRuntime) -> Result<(), Fail> {
+    let (a, b) = (Part::Inline("<mi>a</mi>"), Part::Block("<mi>b</mi>"));
+    let sign = Part::Prose("&#x24;");
+    for (document, parts) in [
+        (r"\$$a$", [sign, a]),
+        (r"$a$\$", [a, sign]),
+        (r"\$$$b$$", [sign, b]),
+        (r"$$b$$\$", [b, sign]),
+        (r"\\$a$", [Part::Prose(r"\\"), a]),
+        (r"\\\\$$b$$", [Part::Prose(r"\\\\"), b]),
+        (r"\\\$$a$", [Part::Prose(r"\\&#x24;"), a]),
+        (r"\é$a$", [Part::Prose(r"\é"), a]),
+        (r"\ $a$", [Part::Prose(r"\ "), a]),
+        (r"$a$\", [a, Part::Prose(r"\")]),
+    ] {
+        assert!(rt; becomes(rt.alloc(), document, &parts)?, "{document}");
+    }
+    for (document, parts) in [
+        (r"$a$\$$a$", [a, sign, a]),
+        (r"$$b$$\$$$b$$", [b, sign, b]),
+        (r"\$$a$\$", [sign, a, sign]),
+        (r"\$$$b$$\", [sign, b, Part::Prose(r"\")]),
+    ] {
+        assert!(rt; becomes(rt.alloc(), document, &parts)?, "{document}");
+    }
+    Ok(())
+}
+
+/// A backslash that another takes leaves the dollar sign behind it to the formula.
+#[test]
+fn backslashes_at_the_end_of_formulas(rt: HostRuntime) -> Result<(), Fail> {
+    let line = "<mi>a</mi><mtext>[PARSE ERROR: NewLine]</mtext>";
+    let alloc = rt.alloc();
+    assert!(rt; becomes(alloc, r"$a\\$", &[Part::Inline(line)])?);
+    assert!(rt; becomes(alloc, r"$$a\\$$", &[Part::Block(line)])?);
+    assert!(rt;
+        becomes(
+            alloc,
+            r"$a\\$\$",
+            &[Part::Inline(line), Part::Prose("&#x24;")]
+        )?
+    );
+    assert!(rt; becomes(alloc, r"$\ $", &[Part::Inline("<mspace width=\"1em\"/>")])?);
+    Ok(())
+}
+
 /// Whether the document is refused for its dollar signs.
 fn is_unpaired(alloc: Global, document: &str) -> bool {
     match replace(alloc, document) {
@@ -143,8 +245,35 @@ fn is_unpaired(alloc: Global, document: &str) -> bool {
 #[test]
 fn unpaired_dollar_signs(rt: HostRuntime) {
     for document in [
-        "$", "$$", "$$$", "$$$$", "a$", "$a", "$$a", "$$a$", "$a$$", "$a$ $", "$$x$y$$", "$$a$$b$",
-        "$$$x$$$", "a$$b", "é$é",
+        "$",
+        "$$",
+        "$$$",
+        "$$$$",
+        "a$",
+        "$a",
+        "$$a",
+        "$$a$",
+        "$a$$",
+        "$a$ $",
+        "$$x$y$$",
+        "$$a$$b$",
+        "$$$x$$$",
+        "a$$b",
+        "é$é",
+        r"\$x$",
+        r"$a\$",
+        r"$\$",
+        r"$$a\$$",
+        r"$$\$$",
+        r"\$$",
+        r"a\$$",
+        r"$\",
+        r"$a\",
+        r"$$a\",
+        r"\\\$x$",
+        r"$\\\$",
+        r"$$a$\$",
+        r"$$a\$$b$$$",
     ] {
         assert!(rt; is_unpaired(rt.alloc(), document), "{document}");
     }
@@ -155,6 +284,7 @@ fn unpaired_dollar_signs(rt: HostRuntime) {
 fn dollar_signs_come_first(rt: HostRuntime) {
     assert!(rt; is_unpaired(rt.alloc(), "${$ $"));
     assert!(rt; is_unpaired(rt.alloc(), "$${$$ $x$ $$"));
+    assert!(rt; is_unpaired(rt.alloc(), r"${$ \$ $"));
 }
 
 /// Whether the document is refused because a group is open at the end of a formula.
@@ -178,6 +308,8 @@ fn refused_formulas(rt: HostRuntime) {
         "${$ $x$",
         "${$ $\\left<$",
         "prose $x$ $${a b$$ prose",
+        r"\$ ${$",
+        r"${\$$",
     ] {
         assert!(rt; is_left_open(rt.alloc(), document), "{document}");
     }
@@ -201,15 +333,32 @@ fn joined_documents(rt: HostRuntime) -> Result<(), Fail> {
         ("$a$ x", "y $b$"),
         ("", "$a$"),
         ("é", "é"),
+        (r"\$", "$a$"),
+        (r"\\", "$a$"),
+        (r"\\", r"\$"),
+        (r"a\\\\", "$a$"),
+        (r"$a\\$", r"\$"),
+        ("a", r"\"),
+        (r"$a$\$", r"b\$"),
     ] {
         assert!(rt; joins(rt.alloc(), first, second)?, "{first} and {second}");
     }
     Ok(())
 }
 
+/// A backslash that ends the first document would take the first character of the second.
+#[test]
+fn backslash_ends_the_first_document(rt: HostRuntime) -> Result<(), Fail> {
+    let alloc = rt.alloc();
+    assert!(rt; becomes(alloc, r"\", &[Part::Prose(r"\")])?);
+    assert!(rt; becomes(alloc, "$x$", &[Part::Inline("<mi>x</mi>")])?);
+    assert!(rt; is_unpaired(alloc, r"\$x$"));
+    Ok(())
+}
+
 #[test]
 fn laws_of_documents() {
-    for document in ["", "no sign", "$a$ é", "$$$"] {
+    for document in ["", "no sign", "$a$ é", "$$$", r"\$ $\$$ \", r"\\"] {
         laws::one_cut(document);
         laws::one_outcome(document);
         laws::dollar_free(document);
@@ -317,11 +466,21 @@ fn reads(alloc: Global, document: &str, step: usize, reading: &Reading) -> Resul
 
 #[test]
 fn unchanged_documents(rt: HostRuntime) -> Result<(), Fail> {
-    for document in ["", "no sign", "é\r\n"] {
+    for document in ["", "no sign", "é\r\n", r"a\", r"\a\\"] {
         let reading = Reading::Unchanged(String::from_str(rt.alloc(), document)?);
         for step in [1, 3, 4096] {
             assert!(rt; reads(rt.alloc(), document, step, &reading)?, "{document}");
         }
+    }
+    Ok(())
+}
+
+/// A dollar sign that is no formula's changes the document too.
+#[test]
+fn escaped_dollar_sign_changes(rt: HostRuntime) -> Result<(), Fail> {
+    let reading = Reading::Changed(String::from_str(rt.alloc(), "&#x24;5")?);
+    for step in [1, 2, 4096] {
+        assert!(rt; reads(rt.alloc(), r"\$5", step, &reading)?, "{step}");
     }
     Ok(())
 }
@@ -352,6 +511,40 @@ fn reads_long(alloc: Global) -> Result<bool, Fail> {
 #[test]
 fn long_document(rt: HostRuntime) -> Result<(), Fail> {
     assert!(rt; reads_long(rt.alloc())?);
+    Ok(())
+}
+
+/// So many letters, and a character of two bytes behind them.
+fn letters_and_character(alloc: Global, letters: usize) -> Result<String, AllocError> {
+    let mut document = String::new(alloc);
+    for _ in 0..letters {
+        document.push('z')?;
+    }
+    document.push('é')?;
+    Ok(document)
+}
+
+/// Whether such a document is read whole, and is no text without its last byte.
+fn is_read_whole(alloc: Global, letters: usize) -> Result<bool, Fail> {
+    let document = letters_and_character(alloc, letters)?;
+    let Some((_, cut)) = document.as_bytes().split_last() else {
+        return Ok(false);
+    };
+    let mut from = source(cut, 4096, ENOUGH);
+    let is_no_text = match read_document(alloc, &mut from) {
+        Ok(_) => false,
+        Err(fault) => fault == FileFault::NotText,
+    };
+    let reading = Reading::Unchanged(document.clone()?);
+    Ok(is_no_text && from.ended && reads(alloc, document.as_str(), 4096, &reading)?)
+}
+
+/// A call gives 4096 bytes, and the last of them is the last but two, the last but one, or the last of the text.
+#[test]
+fn character_at_the_end_of_a_call(rt: HostRuntime) -> Result<(), Fail> {
+    for letters in [4093, 4094, 4095, 4096, 8191] {
+        assert!(rt; is_read_whole(rt.alloc(), letters)?, "{letters}");
+    }
     Ok(())
 }
 

@@ -48,7 +48,7 @@ fn letters_and_characters(rt: HostRuntime) -> Result<(), Fail> {
         ("a&", "<mi>a</mi><mtext>[PARSE ERROR: Ampersand]</mtext>"),
         ("Zz", "<mi>Z</mi><mi>z</mi>"),
         ("é", "<mi mathvariant=\"normal\">é</mi>"),
-        ("$", "<mi mathvariant=\"normal\">$</mi>"),
+        ("$", "<mi mathvariant=\"normal\">&#x24;</mi>"),
         (
             "\"~∞",
             "<mi mathvariant=\"normal\">\"</mi><mi mathvariant=\"normal\">~</mi><mi mathvariant=\"normal\">∞</mi>",
@@ -223,7 +223,7 @@ fn characters_by_command(rt: HostRuntime) -> Result<(), Fail> {
             "\\&\\lt",
             "<mi mathvariant=\"normal\">&amp;</mi><mo>&lt;</mo>",
         ),
-        ("\\$", "<mi mathvariant=\"normal\">$</mi>"),
+        ("\\$", "<mi mathvariant=\"normal\">&#x24;</mi>"),
         (
             "\\a\\A",
             "<mi mathvariant=\"normal\">\u{e5}</mi><mi mathvariant=\"normal\">\u{c5}</mi>",

@@ -1,6 +1,15 @@
 //! Inputs that nobody would write.
 
+use crate::compounds::{
+    fenced, frac, letter, over_op, overset, root, slashed, sqrt, style, sub_sup, under, under_op,
+    under_over, underset,
+};
+use crate::copies::samples;
 use crate::formulas::has;
+use crate::nodes::{applied, pair, subscript, superscript};
+use crate::refusals::is_refused;
+use latex2mathml::ast::Node;
+use latex2mathml::attribute::{Accent, ColumnAlign, LineThickness};
 use latex2mathml::token::Token;
 use latex2mathml::{DisplayStyle, LatexError, latex_to_mathml};
 use std::alloc::{AllocError, Global};
@@ -121,6 +130,133 @@ fn deep_fences(rt: HostRuntime) -> Result<(), Fail> {
     let close = r#"<mo stretchy="true" form="postfix">)</mo></mrow>"#;
     let contents = nested(alloc, opening, "<mi>x</mi>", close, DEEP)?;
     assert!(rt; has(alloc, formula.as_str(), contents.as_str())?);
+    Ok(())
+}
+
+/// A node inside each kind that carries scripts or limits, in each of its places.
+fn scripted(alloc: Global, x: Node) -> Result<Node, AllocError> {
+    let x = subscript(alloc, x, letter('a'))?;
+    let x = subscript(alloc, letter('a'), x)?;
+    let x = superscript(alloc, x, letter('a'))?;
+    let x = superscript(alloc, letter('a'), x)?;
+    let x = sub_sup(alloc, x, letter('a'), letter('b'))?;
+    let x = sub_sup(alloc, letter('a'), x, letter('b'))?;
+    let x = sub_sup(alloc, letter('a'), letter('b'), x)?;
+    let x = under(alloc, x, letter('a'))?;
+    let x = under(alloc, letter('a'), x)?;
+    let x = under_over(alloc, x, letter('a'), letter('b'))?;
+    let x = under_over(alloc, letter('a'), x, letter('b'))?;
+    under_over(alloc, letter('a'), letter('b'), x)
+}
+
+/// A node inside each other kind that holds one node or two, in each of its places.
+fn framed(alloc: Global, x: Node) -> Result<Node, AllocError> {
+    let x = applied(alloc, "sin", x)?;
+    let x = over_op(alloc, '^', Accent::True, x)?;
+    let x = under_op(alloc, '_', Accent::False, x)?;
+    let x = overset(alloc, x, letter('a'))?;
+    let x = overset(alloc, letter('a'), x)?;
+    let x = underset(alloc, x, letter('a'))?;
+    let x = underset(alloc, letter('a'), x)?;
+    let x = sqrt(alloc, x)?;
+    let x = root(alloc, x, letter('a'))?;
+    let x = root(alloc, letter('a'), x)?;
+    let x = frac(alloc, x, letter('a'), LineThickness::Medium)?;
+    let x = frac(alloc, letter('a'), x, LineThickness::Medium)?;
+    let x = fenced(alloc, "(", ")", x)?;
+    let x = slashed(alloc, x)?;
+    style(alloc, None, x)
+}
+
+/// A node inside rows and matrices: alone, first, last and between nodes, which hold nodes themselves.
+fn listed(alloc: Global, x: Node) -> Result<Node, AllocError> {
+    let x = Node::Row(vec![in alloc; x]?);
+    let x = pair(alloc, x, letter('a'))?;
+    let x = pair(alloc, letter('a'), x)?;
+    let x = pair(alloc, x, slashed(alloc, letter('a'))?)?;
+    let x = pair(alloc, slashed(alloc, letter('a'))?, x)?;
+    let x = Node::Matrix(vec![in alloc; x, Node::Ampersand]?, ColumnAlign::Left);
+    let a = sqrt(alloc, letter('a'))?;
+    let b = sqrt(alloc, letter('b'))?;
+    Ok(Node::Matrix(vec![in alloc; a, x, b]?, ColumnAlign::Center))
+}
+
+const LEVELS: usize = 100_000;
+
+/// A letter in so many levels of scripts and limits.
+fn deep_in_scripts(alloc: Global) -> Result<Node, AllocError> {
+    let mut x = letter('x');
+    for _ in 0..LEVELS {
+        x = scripted(alloc, x)?;
+    }
+    Ok(x)
+}
+
+/// A letter in so many levels of the other kinds of one node or two.
+fn deep_in_frames(alloc: Global) -> Result<Node, AllocError> {
+    let mut x = letter('x');
+    for _ in 0..LEVELS {
+        x = framed(alloc, x)?;
+    }
+    Ok(x)
+}
+
+/// A letter in so many levels of rows and matrices.
+fn deep_in_lists(alloc: Global) -> Result<Node, AllocError> {
+    let mut x = letter('x');
+    for _ in 0..LEVELS {
+        x = listed(alloc, x)?;
+    }
+    Ok(x)
+}
+
+/// Trees that no stack of 8 MiB could drop by recursion, also where only one kind in one place of it recursed.
+#[test]
+fn deep_trees_are_dropped(rt: HostRuntime) -> Result<(), Fail> {
+    let alloc = rt.alloc();
+    let scripts = deep_in_scripts(alloc)?;
+    assert!(rt; matches!(&scripts, Node::UnderOver { .. }));
+    drop(scripts);
+    let frames = deep_in_frames(alloc)?;
+    assert!(rt; matches!(&frames, Node::Style(..)));
+    drop(frames);
+    let lists = deep_in_lists(alloc)?;
+    assert!(rt; matches!(&lists, Node::Matrix(..)));
+    drop(lists);
+    Ok(())
+}
+
+/// A group that is not closed, with scripts in it, one in the other: what was read of it is dropped, and never printed.
+#[test]
+fn deep_and_refused(rt: HostRuntime) -> Result<(), Fail> {
+    let alloc = rt.alloc();
+    let scripts = nested(alloc, "a^", "x", "", LEVELS)?;
+    let formula = format!(in alloc; "{{{}", scripts.as_str())?;
+    let text = r#"The token "RBrace" is expected, but the token "EOF" is found.""#;
+    assert!(rt; is_refused(alloc, formula.as_str(), text)?);
+    Ok(())
+}
+
+/// Whether the markup of a node that is put behind a text is what its `Display` prints.
+fn appends_its_print(alloc: Global, node: &Node) -> Result<bool, AllocError> {
+    let mut text = String::from_str(alloc, "before ")?;
+    node.append_markup(alloc, &mut text)?;
+    let printed = format!(in alloc; "before {node}")?;
+    Ok(text == printed)
+}
+
+/// A node of each kind prints alike in both ways, by itself and far below others.
+#[test]
+fn appended_markup(rt: HostRuntime) -> Result<(), Fail> {
+    let alloc = rt.alloc();
+    for sample in samples(alloc)? {
+        assert!(rt; appends_its_print(alloc, &sample)?, "{sample}");
+        let mut deep = sample;
+        for _ in 0..100 {
+            deep = sqrt(alloc, deep)?;
+        }
+        assert!(rt; appends_its_print(alloc, &deep)?, "{deep}");
+    }
     Ok(())
 }
 

@@ -9,4 +9,6 @@ fn laws_return() {
     laws::sliced();
     laws::read_by_slices();
     laws::refused_by_slices();
+    laws::places("x_1");
+    laws::white_space("x", " \t\n\r", "_1");
 }

@@ -46,4 +46,6 @@ mod table;
 #[cfg(test)]
 mod tokens;
 #[cfg(test)]
+mod white_space;
+#[cfg(test)]
 mod wide;

@@ -31,6 +31,7 @@ fn each_kind_prints(rt: HostRuntime) -> Result<(), Fail> {
     );
     assert!(rt; prints(alloc, &Node::OtherOperator("⟨"), "<mo>⟨</mo>")?);
     assert!(rt; prints(alloc, &Node::OtherOperator("a<b"), "<mo>a&lt;b</mo>")?);
+    assert!(rt; prints(alloc, &Node::OtherOperator("$é$"), "<mo>&#x24;é&#x24;</mo>")?);
     assert!(rt;
         prints(
             alloc,
@@ -144,6 +145,7 @@ fn undefined_prints(rt: HostRuntime) -> Result<(), Fail> {
         ("", "<mtext>[PARSE ERROR: Undefined(\"\")]</mtext>"),
         ("<", "<mtext>[PARSE ERROR: Undefined(\"&lt;\")]</mtext>"),
         ("\"", "<mtext>[PARSE ERROR: Undefined(\"\\\"\")]</mtext>"),
+        ("$", "<mtext>[PARSE ERROR: Undefined(\"&#x24;\")]</mtext>"),
         (
             "\\&",
             "<mtext>[PARSE ERROR: Undefined(\"\\\\&amp;\")]</mtext>",
@@ -166,6 +168,7 @@ fn letters_print(rt: HostRuntime) -> Result<(), Fail> {
         ('あ', Variant::Normal, "<mi mathvariant=\"normal\">あ</mi>"),
         ('<', Variant::Bold, "<mi mathvariant=\"bold\">&lt;</mi>"),
         ('&', Variant::Italic, "<mi>&amp;</mi>"),
+        ('$', Variant::Bold, "<mi mathvariant=\"bold\">&#x24;</mi>"),
     ] {
         assert!(rt;
             prints(rt.alloc(), &Node::Letter(c, variant), markup)?,
@@ -180,6 +183,7 @@ fn operators_print(rt: HostRuntime) -> Result<(), Fail> {
     for (c, markup) in [
         ('+', "<mo>+</mo>"),
         ('>', "<mo>&gt;</mo>"),
+        ('$', "<mo>&#x24;</mo>"),
         ('∑', "<mo>∑</mo>"),
         ('∂', "<mo mathvariant=\"italic\">∂</mo>"),
     ] {

@@ -5,7 +5,7 @@ use std::alloc::Global;
 use std::test::Fail;
 
 /// Whether the formula is refused with this text.
-fn is_refused(alloc: Global, formula: &str, text: &str) -> Result<bool, Fail> {
+pub(crate) fn is_refused(alloc: Global, formula: &str, text: &str) -> Result<bool, Fail> {
     match latex_to_mathml(alloc, formula, DisplayStyle::Inline) {
         Ok(_) => Ok(false),
         Err(refusal) => {

@@ -23,3 +23,4 @@ pub mod Taking
 pub mod Tokenizing
 pub mod Total
 pub mod Unique
+pub mod WhiteSpace

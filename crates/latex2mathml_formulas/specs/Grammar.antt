@@ -7,7 +7,7 @@ use Rattle.latex2mathml_tokens.specs.Refusal.{Refusal, UnexpectedToken, MissingP
 use Rattle.latex2mathml_nodes.specs.Style.{styled}
 use Rattle.latex2mathml_tokens.specs.Tok.{Tok, EOF, Begin, End, Ampersand, Paren, LBrace, RBrace, NewLine, Left, Right, Middle, Frac, Underscore, Circumflex, Binom, Overset, Underset, Overbrace, Underbrace, Sqrt, Integral, Lim, Letter, Number, Operator, BigOp, Space, Style, Big, Over, Under, Function, OperatorName, Slashed, Text}
 use Rattle.latex2mathml_tokens.specs.TokenText.{token_text}
-use Rattle.latex2mathml_nodes.specs.Tree.{Tree, number, letter, operator, function, space, other_operator, subscript, superscript, sub_sup, over_op, under_op, overset, underset, under, under_over, root, sqrt, frac, fenced, sized_paren, words, ampersand, new_line, slashed, undefined, no_trees, trees_of, row}
+use Rattle.latex2mathml_nodes.specs.Tree.{Tree, number, letter, operator, function, space, other_operator, subscript, superscript, sub_sup, over_op, under_op, overset, underset, under, under_over, root, sqrt, frac, fenced, sized_paren, words, ampersand, new_line, slashed, undefined}
 use Rattle.latex2mathml_tokens.specs.declared.attribute.LineThickness.TheVariants.{Medium}
 
 -- what a part of a rule may be: a core, a single, which is a core with what stands directly behind it, or a node, which
@@ -36,9 +36,9 @@ pub data Rule : Type 0 where
   -- the longest run of letters is taken, of any variant, and what follows has their characters
   takes_letters : (List ℕ → Rule) → Rule
 
--- the operands of roots, fractions, accents and styles
+-- the operands of roots, fractions, accents and styles: what follows them stays outside
 abbrev pub operand : Sort
-operand = node
+operand = core
 
 -- a rule of one operand
 abbrev pub of_one : (Tree → Tree) → Rule

@@ -8,6 +8,7 @@ pub mod Levels
 pub mod Lexing
 pub mod Marks
 pub mod Openers
+pub mod Places
 pub mod Rendering
 pub mod SliceRefusals
 pub mod Slices

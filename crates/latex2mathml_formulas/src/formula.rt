@@ -36,7 +36,7 @@ pub(crate) fn append_math(
         "<math xmlns=\"http://www.w3.org/1998/Math/MathML\" display=\"{display}\">"
     )?;
     'nodes: while let Some(node) = next_node(alloc, tokens, frames)? {
-        append_node(node, markup)?;
+        append_node(alloc, node, markup)?;
     }
     markup.push_str("</math>")?;
     Ok(())
@@ -62,10 +62,10 @@ pub(crate) fn math(
     Ok(markup)
 }
 
-fn append_node(node: Node, markup: &mut String) -> Result<(), AllocError>
+fn append_node(alloc: Global, node: Node, markup: &mut String) -> Result<(), AllocError>
     ensures { OnOk result (string_bytes markup.new ≡ string_bytes markup.old ++ print (tree node)) }
 {
-    write!(markup, "{node}")
+    node.append_markup(alloc, markup)
 }
 
 /// Puts the markup of a formula behind the text.

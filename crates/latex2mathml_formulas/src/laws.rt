@@ -3,6 +3,7 @@ ghost use Rattle.std.specs.Prelude.{ℕ, List, map};
 ghost use Rattle.std.specs.Str.{chars};
 ghost use Rattle.latex2mathml_formulas.specs.Laws.{HasOneReading, IsReadBySlices, IsRefusedBySlices, IsSliced};
 ghost use Rattle.latex2mathml_nodes.specs.MathSchema.{IsMathElement};
+ghost use Rattle.latex2mathml_formulas.specs.Places.{HasPlaces, SpaceChangesNothing};
 ghost use Rattle.latex2mathml_formulas.specs.Rendering.{IsRendering};
 ghost use Rattle.latex2mathml_tokens.specs.Tok.{tok};
 ghost use Rattle.latex2mathml_formulas.specs.TokenLists.{HasOneTokenList, TextHasOneReading};
@@ -53,4 +54,21 @@ pub fn rendering(text: &str, display: DisplayStyle)
 {
     let _ = text;
     let _ = display;
+}
+
+/// A place lies between each two tokens of a text that stand side by side.
+pub fn places(text: &str)
+    ensures { HasPlaces (chars text.now) }
+{
+    let _ = text;
+}
+
+/// White space at a place between two tokens leaves the tokens as they were, and so every answer. A digit place is left
+/// out: `\frac12` has one behind `\frac`, and there white space makes another formula of it.
+pub fn white_space(before: &str, space: &str, after: &str)
+    ensures { SpaceChangesNothing before.now space.now after.now }
+{
+    let _ = before;
+    let _ = space;
+    let _ = after;
 }

@@ -28,8 +28,8 @@ use std::alloc::Global;
 /// `<mtext>[PARSE ERROR: ..]</mtext>`. [`LatexError::UnexpectedToken`] comes where a group is open at the end of the
 /// text, and [`LatexError::OutOfMemory`] where an allocation was refused. An `Err` leaves nothing behind.
 ///
-/// Reading and printing recurse as deep as braces and scripts stand one in the other, so the machine's stack bounds the
-/// nesting.
+/// Neither reading nor printing recurses as deep as braces and scripts stand one in the other: what is nested deep takes
+/// memory for a list.
 ///
 /// `x<y`, inline, is `<math xmlns="http://www.w3.org/1998/Math/MathML" display="inline"><mi>x</mi><mo>&lt;</mo><mi>y</mi></math>`.
 pub fn latex_to_mathml(

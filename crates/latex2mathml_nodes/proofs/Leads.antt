@@ -5,7 +5,7 @@ use Rattle.std.specs.List.{flat_map, list_all}
 use Rattle.std.proofs.lemmas.Grind.{flat_map-append}
 use Rattle.std.proofs.lemmas.List.Folds.{list_all-append}
 use Rattle.latex2mathml_tokens.specs.Escape.{content, content_byte, value, value_byte}
-use Rattle.latex2mathml_nodes.specs.Markup.{Name, named, Part, refers, plain, attribute, Piece, open_tag, close_tag, empty_tag, reference, data_byte, Levels, lowest, above, add, mark, Schema, step, run, Leads, spell, spell_part, spell_piece, is_part, is_piece}
+use Rattle.latex2mathml_nodes.specs.Markup.{Name, named, numbered, Part, refers, plain, attribute, Piece, open_tag, close_tag, empty_tag, reference, data_byte, Levels, lowest, above, add, mark, Schema, step, run, Leads, spell, spell_part, spell_piece, is_part, is_piece}
 
 run-append_at : (schema : Schema) (ps qs : List Piece) (o : Option Levels) → ((s : Levels) → run schema (ps ++ qs) s ≡ option_and_then (run schema qs) (run schema ps s)) → option_and_then (run schema (ps ++ qs)) o ≡ option_and_then (run schema qs) (option_and_then (run schema ps) o)
 run-append_at schema ps qs None h = refl
@@ -52,45 +52,49 @@ pub closed : (schema : Schema) (n : Name) (ks : List Name) (d : Bool) (s : Level
 closed schema n ks d s valid fit = single schema (close_tag n) (above n ks d s) s valid fit
 
 -- Contents. The tests of a byte are variables, so that each case computes.
-piece_by : Bool → Bool → Bool → ℕ → Piece
-piece_by true q r b = reference (named (codes "amp"))
-piece_by false true r b = reference (named (codes "lt"))
-piece_by false false true b = reference (named (codes "gt"))
-piece_by false false false b = data_byte b
+piece_by : Bool → Bool → Bool → Bool → ℕ → Piece
+piece_by true q r d b = reference (named (codes "amp"))
+piece_by false true r d b = reference (named (codes "lt"))
+piece_by false false true d b = reference (named (codes "gt"))
+piece_by false false false true b = reference (numbered (codes "24"))
+piece_by false false false false b = data_byte b
 
 piece_of : ℕ → Piece
-piece_of b = piece_by (b == 38) (b == 60) (b == 62) b
+piece_of b = piece_by (b == 38) (b == 60) (b == 62) (b == 36) b
 
-piece_by-spells : (p q r : Bool) (b : ℕ) → spell_piece (piece_by p q r b) ≡ cond p (codes "&amp;") (cond q (codes "&lt;") (cond r (codes "&gt;") (b ∷ [])))
+piece_by-spells : (p q r d : Bool) (b : ℕ) → spell_piece (piece_by p q r d b) ≡ cond p (codes "&amp;") (cond q (codes "&lt;") (cond r (codes "&gt;") (cond d (codes "&#x24;") (b ∷ []))))
 unfolding piece_by
-piece_by-spells true q r b = refl
-piece_by-spells false true r b = refl
-piece_by-spells false false true b = refl
-piece_by-spells false false false b = refl
+piece_by-spells true q r d b = refl
+piece_by-spells false true r d b = refl
+piece_by-spells false false true d b = refl
+piece_by-spells false false false true b = refl
+piece_by-spells false false false false b = refl
 
 piece_of-spells : (b : ℕ) → spell_piece (piece_of b) ≡ content_byte b
 unfolding piece_of
-piece_of-spells b = piece_by-spells (b == 38) (b == 60) (b == 62) b
+piece_of-spells b = piece_by-spells (b == 38) (b == 60) (b == 62) (b == 36) b
 
-piece_by-valid : (p q r : Bool) (b : ℕ) → p ≡ (b == 38) → q ≡ (b == 60) → r ≡ (b == 62) → IsTrue (is_piece (piece_by p q r b))
+piece_by-valid : (p q r d : Bool) (b : ℕ) → p ≡ (b == 38) → q ≡ (b == 60) → r ≡ (b == 62) → IsTrue (is_piece (piece_by p q r d b))
 unfolding piece_by
-piece_by-valid true q r b h i j = refl
-piece_by-valid false true r b h i j = refl
-piece_by-valid false false true b h i j = refl
-piece_by-valid false false false b h i j = rw (← i, ← j, ← h) refl
+piece_by-valid true q r d b h i j = refl
+piece_by-valid false true r d b h i j = refl
+piece_by-valid false false true d b h i j = refl
+piece_by-valid false false false true b h i j = refl
+piece_by-valid false false false false b h i j = rw (← i, ← j, ← h) refl
 
-piece_by-runs : (schema : Schema) (p q r : Bool) (b : ℕ) (s : Levels) → step schema (piece_by p q r b) s ≡ Some (mark true s)
+piece_by-runs : (schema : Schema) (p q r d : Bool) (b : ℕ) (s : Levels) → step schema (piece_by p q r d b) s ≡ Some (mark true s)
 unfolding piece_by
-piece_by-runs schema true q r b s = refl
-piece_by-runs schema false true r b s = refl
-piece_by-runs schema false false true b s = refl
-piece_by-runs schema false false false b s = refl
+piece_by-runs schema true q r d b s = refl
+piece_by-runs schema false true r d b s = refl
+piece_by-runs schema false false true d b s = refl
+piece_by-runs schema false false false true b s = refl
+piece_by-runs schema false false false false b s = refl
 
 content_byte_leads : (schema : Schema) (b : ℕ) (s : Levels) → Leads schema (content_byte b) s (mark true s)
 unfolding piece_of
 content_byte_leads schema b s =
     spelled_as (piece_of-spells b)
-    (single schema (piece_of b) s (mark true s) (piece_by-valid (b == 38) (b == 60) (b == 62) b refl refl refl) (piece_by-runs schema (b == 38) (b == 60) (b == 62) b s))
+    (single schema (piece_of b) s (mark true s) (piece_by-valid (b == 38) (b == 60) (b == 62) (b == 36) b refl refl refl) (piece_by-runs schema (b == 38) (b == 60) (b == 62) (b == 36) b s))
 
 mark-false : (s : Levels) → mark false s ≡ s
 mark-false (lowest ks true) = refl
@@ -139,35 +143,38 @@ empty_with schema n a u s t valid e =
     spelled_as (sym (append-nil _) ∙ reach_value (codes "<") n (codes " ") a (codes "=\"") (flat_map spell_part u) (codes "\"") (codes "/>") []) (single schema (empty_tag n (attribute a u ∷ [])) s t valid e)
 
 -- Values with escapes, in the same way as contents.
-part_by : Bool → Bool → Bool → Bool → ℕ → Part
-part_by true p q r b = refers (named (codes "quot"))
-part_by false true q r b = refers (named (codes "amp"))
-part_by false false true r b = refers (named (codes "lt"))
-part_by false false false true b = refers (named (codes "gt"))
-part_by false false false false b = plain b
+part_by : Bool → Bool → Bool → Bool → Bool → ℕ → Part
+part_by true d p q r b = refers (named (codes "quot"))
+part_by false true p q r b = plain 36
+part_by false false true q r b = refers (named (codes "amp"))
+part_by false false false true r b = refers (named (codes "lt"))
+part_by false false false false true b = refers (named (codes "gt"))
+part_by false false false false false b = plain b
 
 part_of : ℕ → Part
-part_of b = part_by (b == 34) (b == 38) (b == 60) (b == 62) b
+part_of b = part_by (b == 34) (b == 36) (b == 38) (b == 60) (b == 62) b
 
-part_by-spells : (o p q r : Bool) (b : ℕ) → spell_part (part_by o p q r b) ≡ cond o (codes "&quot;") (cond p (codes "&amp;") (cond q (codes "&lt;") (cond r (codes "&gt;") (b ∷ []))))
+part_by-spells : (o d p q r : Bool) (b : ℕ) → spell_part (part_by o d p q r b) ≡ cond o (codes "&quot;") (cond d (codes "$") (cond p (codes "&amp;") (cond q (codes "&lt;") (cond r (codes "&gt;") (cond d (codes "&#x24;") (b ∷ []))))))
 unfolding part_by
-part_by-spells true p q r b = refl
-part_by-spells false true q r b = refl
-part_by-spells false false true r b = refl
-part_by-spells false false false true b = refl
-part_by-spells false false false false b = refl
+part_by-spells true d p q r b = refl
+part_by-spells false true p q r b = refl
+part_by-spells false false true q r b = refl
+part_by-spells false false false true r b = refl
+part_by-spells false false false false true b = refl
+part_by-spells false false false false false b = refl
 
 part_of-spells : (b : ℕ) → spell_part (part_of b) ≡ value_byte b
 unfolding part_of
-part_of-spells b = part_by-spells (b == 34) (b == 38) (b == 60) (b == 62) b
+part_of-spells b = part_by-spells (b == 34) (b == 36) (b == 38) (b == 60) (b == 62) b
 
-part_by-valid : (o p q r : Bool) (b : ℕ) → o ≡ (b == 34) → p ≡ (b == 38) → q ≡ (b == 60) → r ≡ (b == 62) → IsTrue (is_part (part_by o p q r b))
+part_by-valid : (o d p q r : Bool) (b : ℕ) → o ≡ (b == 34) → p ≡ (b == 38) → q ≡ (b == 60) → r ≡ (b == 62) → IsTrue (is_part (part_by o d p q r b))
 unfolding part_by
-part_by-valid true p q r b g h i j = refl
-part_by-valid false true q r b g h i j = refl
-part_by-valid false false true r b g h i j = refl
-part_by-valid false false false true b g h i j = refl
-part_by-valid false false false false b g h i j = rw (← i, ← j, ← h, ← g) refl
+part_by-valid true d p q r b g h i j = refl
+part_by-valid false true p q r b g h i j = refl
+part_by-valid false false true q r b g h i j = refl
+part_by-valid false false false true r b g h i j = refl
+part_by-valid false false false false true b g h i j = refl
+part_by-valid false false false false false b g h i j = rw (← i, ← j, ← h, ← g) refl
 
 -- the parts of a text as an attribute's value
 pub parts : List ℕ → List Part
@@ -181,4 +188,4 @@ parts-spell (b ∷ bs) = ap (λ l. l ++ flat_map spell_part (parts bs)) (part_of
 pub parts-valid : (bs : List ℕ) → IsTrue (list_all is_part (parts bs))
 unfolding parts part_of
 parts-valid [] = refl
-parts-valid (b ∷ bs) = ap (λ t. t && list_all is_part (parts bs)) (part_by-valid (b == 34) (b == 38) (b == 60) (b == 62) b refl refl refl refl) ∙ parts-valid bs
+parts-valid (b ∷ bs) = ap (λ t. t && list_all is_part (parts bs)) (part_by-valid (b == 34) (b == 36) (b == 38) (b == 60) (b == 62) b refl refl refl refl) ∙ parts-valid bs

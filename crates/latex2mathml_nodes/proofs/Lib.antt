@@ -1,9 +1,12 @@
 pub mod Balance
 pub mod Cells
+pub mod Chains
 pub mod Elements
 pub mod Leads
 pub mod Leaves
 pub mod Members
+pub mod Pieces
+pub mod PrintWeights
 pub mod Prints
 pub mod Styles
 pub mod Styling

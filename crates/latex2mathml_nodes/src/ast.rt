@@ -2,20 +2,23 @@
 ghost use Rattle.std.specs.Prelude.{◌≡◌, IfOk, map};
 ghost use Rattle.latex2mathml_nodes.specs.Tree.{optional_tree, tree};
 
+mod dismantle;
 mod equality;
 mod make;
 pub(crate) mod print;
 mod style;
 mod styling;
 
+use crate::ast::dismantle::dismantle;
 use latex2mathml_tokens::DisplayStyle;
 use latex2mathml_tokens::attribute::{Accent, ColumnAlign, LineThickness, Variant};
 use std::alloc::{AllocError, Global};
 
 /// A part of a formula. Its `Display` prints the markup, and escapes texts and characters there.
 ///
-/// Printing, copying, comparing and dropping recurse as deep as it is nested.
-#[derive(Debug, Drop)]
+/// Printing, copying and comparing recurse as deep as it is nested. Dropping is a loop and takes no memory, however deep
+/// it is. As it has a `drop` of its own, match on a reference to it: only its methods take it apart.
+#[derive(Debug)]
 pub enum Node {
     Number(String),
     /// A letter, or any other character that stands for itself, and its style.
@@ -93,6 +96,24 @@ pub enum Node {
     Style(Option<DisplayStyle>, Box<Node>),
     /// The text of a token that has no meaning where it stands. It is marked as an error.
     Undefined(String),
+}
+
+impl Drop for Node {
+    #[inline]
+    fn drop(self) {
+        // leaves go at once
+        match self {
+            Node::Letter(_, _)
+            | Node::Operator(_)
+            | Node::Space(_)
+            | Node::OtherOperator(_)
+            | Node::SizedParen { size: _, paren: _ }
+            | Node::Ampersand
+            | Node::NewLine => {}
+            Node::Number(_) | Node::StrechedOp(_, _) | Node::Text(_) | Node::Undefined(_) => {}
+            node => dismantle(node),
+        }
+    }
 }
 
 impl Node {

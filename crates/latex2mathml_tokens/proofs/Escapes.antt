@@ -24,22 +24,23 @@ alike f g [] h = refl
 alike f g (b ∷ bs) h =
     ap (λ l. l ++ flat_map f bs) (h 0 (omega arith)) ∙ ap (λ l. g b ++ l) (alike f g bs (λ k lt. h (suc k) (omega arith)))
 
-content_byte-other : (b : ℕ) → b ≢ 38 → b ≢ 60 → b ≢ 62 → content_byte b ≡ b ∷ []
-content_byte-other b ampersand less greater = grind (arith, nat_tests)
+content_byte-other : (b : ℕ) → b ≢ 38 → b ≢ 60 → b ≢ 62 → b ≢ 36 → content_byte b ≡ b ∷ []
+content_byte-other b ampersand less greater dollar = grind (arith, nat_tests)
 
-value_byte-other : (b : ℕ) → b ≢ 34 → value_byte b ≡ content_byte b
-value_byte-other b quote = grind (arith, nat_tests)
+value_byte-other : (b : ℕ) → b ≢ 34 → b ≢ 36 → value_byte b ≡ content_byte b
+value_byte-other b quote dollar = grind (arith, nat_tests)
 
 quoted_byte-other : (b : ℕ) → b ≢ 34 → b ≢ 92 → quoted_byte b ≡ b ∷ []
 quoted_byte-other b quote backslash = grind (arith, nat_tests)
 
 -- a character that contents leave as it is
-pub content_char-other : (c : ℕ) → c ≢ 38 → c ≢ 60 → c ≢ 62 → content (encode_utf8 c) ≡ encode_utf8 c
-content_char-other c ampersand less greater = same_char content_byte c (λ b s. content_byte-other b (λ e. ampersand (sym (s (omega arith)) ∙ e)) (λ e. less (sym (s (omega arith)) ∙ e)) (λ e. greater (sym (s (omega arith)) ∙ e)))
+pub content_char-other : (c : ℕ) → c ≢ 38 → c ≢ 60 → c ≢ 62 → c ≢ 36 → content (encode_utf8 c) ≡ encode_utf8 c
+content_char-other c ampersand less greater dollar = same_char content_byte c (λ b s. content_byte-other b (λ e. ampersand (sym (s (omega arith)) ∙ e)) (λ e. less (sym (s (omega arith)) ∙ e)) (λ e. greater (sym (s (omega arith)) ∙ e)) (λ e. dollar (sym (s (omega arith)) ∙ e)))
 
 -- a character that the value of an attribute holds as contents do
-pub value_char-other : (c : ℕ) → c ≢ 34 → value (encode_utf8 c) ≡ content (encode_utf8 c)
-value_char-other c quote = alike value_byte content_byte (encode_utf8 c) (λ k lt. value_byte-other (get_or (encode_utf8 c) k 0) (λ e. quote (inside_one c [] (encode_utf8 c) k (sym (append-nil (encode_utf8 c))) lt (omega arith) ∙ e)))
+pub value_char-other : (c : ℕ) → c ≢ 34 → c ≢ 36 → value (encode_utf8 c) ≡ content (encode_utf8 c)
+value_char-other c quote dollar =
+    alike value_byte content_byte (encode_utf8 c) (λ k lt. (let same : get_or (encode_utf8 c) k 0 < 128 → c ≡ get_or (encode_utf8 c) k 0 = inside_one c [] (encode_utf8 c) k (sym (append-nil (encode_utf8 c))) lt in value_byte-other (get_or (encode_utf8 c) k 0) (λ e. quote (same (omega arith) ∙ e)) (λ e. dollar (same (omega arith) ∙ e))))
 
 -- a character that quotation marks leave as it is
 pub quoted_char-other : (c : ℕ) → c ≢ 34 → c ≢ 92 → flat_map quoted_byte (encode_utf8 c) ≡ encode_utf8 c
@@ -74,7 +75,7 @@ pub quoted_content-append : (xs ys : List ℕ) → quoted_content (xs ++ ys) ≡
 quoted_content-append xs ys = ap content (quoted_bytes-append xs ys) ∙ content-append (flat_map quoted_byte xs) (flat_map quoted_byte ys)
 
 unescaped : (c : ℕ) → is_escaped c ≡ false → content (encode_utf8 c) ≡ encode_utf8 c
-unescaped c h = content_char-other c (grind (arith, nat_tests)) (grind (arith, nat_tests)) (grind (arith, nat_tests))
+unescaped c h = content_char-other c (grind (arith, nat_tests)) (grind (arith, nat_tests)) (grind (arith, nat_tests)) (grind (arith, nat_tests))
 
 plain_characters : (cs : List ℕ) → NonePass is_escaped cs → content (encode_utf8_all cs) ≡ encode_utf8_all cs
 plain_characters [] h = refl

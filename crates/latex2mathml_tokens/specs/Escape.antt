@@ -7,16 +7,16 @@ use Rattle.std.specs.Str.{byte}
 
 -- what contents do not hold as it is
 abbrev pub is_escaped : ℕ → Bool
-is_escaped c = c == byte "&" || c == byte "<" || c == byte ">"
+is_escaped c = c == byte "&" || c == byte "<" || c == byte ">" || c == byte "$"
 
 -- a byte of contents
 abbrev pub content_byte : ℕ → List ℕ
 content_byte b =
-    if b == byte "&" then codes "&amp;" else (if b == byte "<" then codes "&lt;" else (if b == byte ">" then codes "&gt;" else b ∷ []))
+    if b == byte "&" then codes "&amp;" else (if b == byte "<" then codes "&lt;" else (if b == byte ">" then codes "&gt;" else (if b == byte "$" then codes "&#x24;" else b ∷ [])))
 
--- a byte of an attribute's value: the quotation mark is escaped as well
+-- a byte of an attribute's value: the quotation mark is escaped as well, and the dollar sign is not
 abbrev pub value_byte : ℕ → List ℕ
-value_byte b = if b == byte "\"" then codes "&quot;" else content_byte b
+value_byte b = if b == byte "\"" then codes "&quot;" else (if b == byte "$" then codes "$" else content_byte b)
 
 -- a text as contents
 abbrev pub content : List ℕ → List ℕ

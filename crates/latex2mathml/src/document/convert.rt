@@ -1,13 +1,13 @@
 //! Documents, piece by piece, to their answers.
 ghost use Rattle.std.specs.Prelude.{◌≡◌, ℕ, ◌++◌, List, IfOk, OnOk, string_bytes};
 ghost use Rattle.latex2mathml.specs.Pieces.{piece_of};
-ghost use Rattle.latex2mathml.specs.Documents.{IsAnswer, IsRefusal, PieceAnswer, PieceRefuses};
+ghost use Rattle.latex2mathml.specs.Documents.{IsAnswer, IsPiece, IsPlain, IsRefusal, PieceAnswer, PieceRefuses, prose_answer};
 ghost use Rattle.latex2mathml_tokens.specs.Refusal.{IfRefused};
 
 use crate::document::{NoCut, Piece, Pieces, check_cut};
 use latex2mathml_formulas::append_formula;
 use latex2mathml_tokens::{DisplayStyle, LatexError};
-use std::alloc::Global;
+use std::alloc::{AllocError, Global};
 
 impl From<NoCut> for LatexError {
     ghost use Rattle.latex2mathml_tokens.specs.declared.error.LatexError.TheVariants.{InvalidNumberOfDollarSigns};
@@ -34,14 +34,29 @@ pub(crate) fn converted(alloc: Global, document: &str) -> Result<String, LatexEr
 
 /// Puts what becomes of a piece behind the text.
 fn append_piece(alloc: Global, text: &mut String, piece: Piece<'_>) -> Result<(), LatexError>
+    requires { IsPiece (piece_of piece) }
     ensures answer { OnOk result ((answer : List ℕ) × PieceAnswer (piece_of piece.entry) answer
         × (string_bytes text.new ≡ string_bytes text.old ++ answer)) }
     ensures refusal { IfRefused result (PieceRefuses (piece_of piece.entry)) }
 {
     match piece {
-        Piece::Prose(prose) => text.push_str(prose)?,
+        Piece::Prose(prose) => append_prose(text, prose)?,
         Piece::Inline(body) => append_formula(alloc, text, body, DisplayStyle::Inline)?,
         Piece::Display(body) => append_formula(alloc, text, body, DisplayStyle::Block)?,
     }
     Ok(())
+}
+
+/// Puts prose behind the text, with a reference for each dollar sign that a backslash takes.
+fn append_prose(text: &mut String, prose: &str) -> Result<(), AllocError>
+    requires { IsPlain prose.now }
+    ensures { OnOk result (string_bytes text.new ≡ string_bytes text.old ++ prose_answer prose.now) }
+{
+    let mut rest = prose;
+    while let Some((before, after)) = rest.split_once("\\$") {
+        text.push_str(before)?;
+        text.push_str("&#x24;")?;
+        rest = after;
+    }
+    text.push_str(rest)
 }

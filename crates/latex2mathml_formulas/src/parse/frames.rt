@@ -143,7 +143,7 @@ impl Frame {
             Frame::Degree(_) => Due::Member(GroupEnd::Bracket),
             Frame::Fence(_, _) => Due::Member(GroupEnd::Right),
             Frame::Environment(_, _) => Due::Member(GroupEnd::End),
-            Frame::One(_) | Frame::First(_) | Frame::Second(_, _) => Due::Node,
+            Frame::One(_) | Frame::First(_) | Frame::Second(_, _) => Due::Core,
             Frame::Slashed | Frame::Script(_, _) => Due::Node,
             Frame::Single(_) | Frame::Behind(_, _) => Due::Single,
             Frame::Limit(_) | Frame::Stretch(_) => Due::Single,

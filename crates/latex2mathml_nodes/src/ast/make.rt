@@ -1,7 +1,7 @@
 //! Nodes made of the parts that the parser has read.
 ghost use Rattle.std.specs.Prelude.{◌≡◌, ◌∷◌, [], Some, true, IfOk, map, option_map, string_bytes};
 ghost use Rattle.std.specs.Char.{encode_utf8};
-ghost use Rattle.latex2mathml_nodes.specs.Productions.{binomial_tree, coefficient, environment_tree, fenced_matrix, matrix_of, overbraced, overbraced_with, spread, stretched_of, underbraced, underbraced_with, grouped, prime_mark};
+ghost use Rattle.latex2mathml_nodes.specs.Productions.{binomial_tree, coefficient, environment_tree, fenced_matrix, matrix_of, members_of, overbraced, overbraced_with, spread, stretched_of, underbraced, underbraced_with, grouped, prime_mark};
 ghost use Rattle.latex2mathml_nodes.specs.Tree.{optional_tree, tree, trees, function, subscript, superscript, sub_sup, over_op, under_op, overset, underset, under, under_over, root, root_tree, sqrt, frac, fenced, sized_paren, slashed, stretched, style, row, trees_of, words};
 
 use crate::ast::Node;
@@ -248,6 +248,16 @@ impl Node {
         Ok(Node::Slashed(Box::new(alloc, x)?))
     }
 
+    /// The members, where the node is a row.
+    fn into_members(self) -> Option<Vec<Node>>
+        ensures { option_map (λ members. trees members.items) result ≡ members_of (tree self) }
+    {
+        match self {
+            Node::Row(members) => Some(members),
+            _ => None,
+        }
+    }
+
     /// A matrix of a group's members.
     pub fn matrix(members: Vec<Node>, align: ColumnAlign) -> Node
         ensures { tree result ≡ matrix_of align (grouped (map tree members.items)) }
@@ -332,9 +342,11 @@ fn stretched_text(alloc: Global, text: &str) -> Result<Option<Node>, AllocError>
 fn spread_members(mut members: Vec<Node>) -> Vec<Node>
     ensures { trees result.items ≡ spread (grouped (map tree members.items)) }
 {
-    if let [Node::Row(_)] = members.as_slice() {
-        if let Some(Node::Row(inner)) = members.pop() {
-            return inner;
+    if let [Node::Row(..)] = members.as_slice() {
+        if let Some(group) = members.pop() {
+            if let Some(inner) = group.into_members() {
+                return inner;
+            }
         }
     }
     members

@@ -37,7 +37,7 @@ impl Node {
         let mut turn = Turn::Style(node);
         'nodes: loop {
             match turn {
-                Turn::Style(x) => turn = style_one(alloc, variant, x, &mut rows)?,
+                Turn::Style(x) => turn = x.style_one(alloc, variant, &mut rows)?,
                 Turn::PutBack(x) => {
                     let Some(row) = rows.pop() else {
                         return Ok(x);
@@ -47,24 +47,24 @@ impl Node {
             }
         }
     }
-}
 
-/// Gives a node the style, or opens it, where it is a row.
-fn style_one(
-    alloc: Global,
-    variant: Variant,
-    node: Node,
-    rows: &mut Vec<OpenRow>,
-) -> Result<Turn, AllocError>
-    ensures keeps { IfOk result (λ next. within variant rows.new.items (comes_to variant next)
-        ≡ within variant rows.old.items (styled variant (tree node))) }
-    ensures falls { IfOk result (λ next. sum_by row_load rows.new.items + turn_load next
-        < sum_by row_load rows.old.items + (load (tree node) + 1)) }
-{
-    match node {
-        Node::Letter(c, _) => Ok(Turn::PutBack(Node::Letter(c, variant))),
-        Node::Row(members) => open_row(alloc, variant, members, rows),
-        other => Ok(Turn::PutBack(other)),
+    /// Gives the node the style, or begins with its members, where it is a row.
+    fn style_one(
+        self,
+        alloc: Global,
+        variant: Variant,
+        rows: &mut Vec<OpenRow>,
+    ) -> Result<Turn, AllocError>
+        ensures keeps { IfOk result (λ next. within variant rows.new.items (comes_to variant next)
+            ≡ within variant rows.old.items (styled variant (tree self))) }
+        ensures falls { IfOk result (λ next. sum_by row_load rows.new.items + turn_load next
+            < sum_by row_load rows.old.items + (load (tree self) + 1)) }
+    {
+        match self {
+            Node::Letter(c, _) => Ok(Turn::PutBack(Node::Letter(c, variant))),
+            Node::Row(members) => open_row(alloc, variant, members, rows),
+            other => Ok(Turn::PutBack(other)),
+        }
     }
 }
 

@@ -1,17 +1,16 @@
-use Rattle.std.proofs.Common.{length, sym, subst, arith}
-use Rattle.std.specs.Prelude.{Some, None}
-use Rattle.std.proofs.lemmas.Str.Pattern.{find_char}
-use Rattle.latex2mathml.specs.Documents.{IsPlain}
-use Rattle.latex2mathml.specs.Dollars.{dollar}
-use Rattle.latex2mathml.proofs.PlainTexts.{plain_before}
+use Rattle.latex2mathml.proofs.PlainTexts.{nothing_passed, passed_single, passed_lone, passed_pair}
 use Rattle.latex2mathml.proofs.document.until_dollar.Goals as goal
+use Rattle.latex2mathml.proofs.document.until_dollar.Goals.{else-bytes-place-eq92-via-then-bytes-place-eq92+else-place-bytes, else-bytes-place-eq92-via-else-bytes-place-eq92}
 
-pub returns-in-Some-clause-plain : goal.returns-in-Some-clause-plain
-returns-in-Some-clause-plain c =
-    subst IsPlain (sym c.split_at.ensures.front)
-    (plain_before c.args.text.now c.in-Some.place (find_char dollar c.args.text.now (Some c.in-Some.place) c.in-Some.ensures.cases (omega arith)).2)
+pub loop-place-init : goal.loop-place-init
+loop-place-init c = nothing_passed c.as_bytes-bytes.result.now
 
-pub returns-in-None-clause-plain : goal.returns-in-None-clause-plain
-returns-in-None-clause-plain c =
-    subst IsPlain (sym c.split_at-in-None.ensures.front)
-    (plain_before c.args.text.now (length c.args.text.now) (find_char dollar c.args.text.now None c.in-None.ensures.cases (omega arith)))
+pub loop-place-preserved-then-place-bytes : goal.loop-place-preserved-then-place-bytes
+loop-place-preserved-then-place-bytes c = passed_pair c.as_bytes-bytes.result.now c.loop-place.place c.loop-place.invariant c.loop-place-test.true c.if-bytes-place-eq92.true c.if-place-bytes.true
+
+pub loop-place-preserved : goal.loop-place-preserved
+loop-place-preserved c =
+    elim c.else-bytes-place-eq92.branch [
+      | else-bytes-place-eq92-via-then-bytes-place-eq92+else-place-bytes w ↦ passed_lone c.as_bytes-bytes.result.now c.loop-place.place c.loop-place.invariant c.loop-place-test.true w.if-bytes-place-eq92.true w.if-place-bytes.false
+      | else-bytes-place-eq92-via-else-bytes-place-eq92 w ↦ passed_single c.as_bytes-bytes.result.now c.loop-place.place c.loop-place.invariant c.loop-place-test.true c.if-bytes-place-ne36.true w.if-bytes-place-eq92.false
+    ]

@@ -2,4 +2,4 @@ use Rattle.latex2mathml.proofs.Repeating.{repeated}
 use Rattle.latex2mathml.proofs.laws.repeated.Goals as goal
 
 pub returns : goal.returns
-returns c = repeated c.args.document.now c.utf8.document
+returns c = repeated c.args.document.now

@@ -1,6 +1,6 @@
 use Rattle.std.proofs.Common.{ap, refl}
 use Rattle.latex2mathml_formulas.specs.Frames.{inside, made, stands, whole}
-use Rattle.latex2mathml_formulas.specs.Grammar.{core, node, gives}
+use Rattle.latex2mathml_formulas.specs.Grammar.{core, operand, gives}
 use Rattle.latex2mathml_formulas.specs.Levels.{awaits_part}
 use Rattle.latex2mathml_nodes.specs.Tree.{root}
 use Rattle.latex2mathml_formulas.specs.declared.parse.frames.Frame.TheVariants.{One}
@@ -21,7 +21,7 @@ pub returns-in-Degree-clause-holds : goal.returns-in-Degree-clause-holds
 returns-in-Degree-clause-holds c = λ input end d k.
     let l = inside (whole input) c.pop.new.self.stack.items in
     c.put_back.ensures.holds input _
-    (part_awaited l (One (Root c.of_group-in-Degree.result)) _ core _ _ (ap (λ t. awaits_part node (λ x. gives (root t x))) c.of_group-in-Degree.ensures) refl
+    (part_awaited l (One (Root c.of_group-in-Degree.result)) _ core _ _ (ap (λ t. awaits_part operand (λ x. gives (root t x))) c.of_group-in-Degree.ensures) refl
     (group_closed (whole input) _ _ c.in-Some.frame _ _ _ _ _ _ c.in-Some.ensures.stack (ap stands c.in-Degree.is) (ap made c.in-Degree.is) d k))
 
 pub returns-in-Fence-clause-holds : goal.returns-in-Fence-clause-holds

@@ -1,6 +1,9 @@
-use Rattle.std.proofs.Common.{rules, refl, append_assoc}
+use Rattle.std.proofs.Common.{◌<◌, rules, refl, append_assoc}
 use Rattle.std.proofs.Output.{has_written_append, has_written_of_eq}
 use Rattle.latex2mathml_nodes.proofs.Prints.{prints-more, members-more}
+use Rattle.latex2mathml_nodes.proofs.PrintWeights.{print_weights-at}
+use Rattle.latex2mathml_nodes.specs.Tree.{tree, trees}
+use Rattle.latex2mathml_nodes.specs.PrintWeight.{print_weight, print_weights}
 use Rattle.latex2mathml_nodes.proofs.ast.print.+print.Goals as goal
 
 pub write_all-loop-node-preserved : goal.write_all-loop-node-preserved
@@ -18,3 +21,13 @@ write_applied-returns g t c = λ plain ok.
     let name_closed = c.in_ok-write_str-2.ensures.writes named.plain refl in
     let all = c.write_node.ensures name_closed.plain ok in
     has_written_of_eq _ _ _ _ _ (simp append_assoc) (has_written_append _ _ _ _ _ _ (has_written_append _ _ _ _ _ _ (has_written_append _ _ _ _ _ _ name_opened named) name_closed) all)
+
+pub write_all-write_node-requires : goal.write_all-write_node-requires
+write_all-write_node-requires g t c =
+    let lighter : print_weight (tree c.node-item.result) < print_weights (trees c.args.nodes.now) = print_weights-at c.args.nodes.now c.loop-node.node-index c.node-item.result c.loop-node-test.true c.node-item.is in
+    search (rules, lighter)
+
+pub write_members-write_member-requires : goal.write_members-write_member-requires
+write_members-write_member-requires g t c =
+    let lighter : print_weight (tree c.node-item.result) < print_weights (trees c.args.members.now) = print_weights-at c.args.members.now c.loop-node.node-index c.node-item.result c.loop-node-test.true c.node-item.is in
+    search (rules, lighter)

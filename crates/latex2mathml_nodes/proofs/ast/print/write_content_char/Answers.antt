@@ -5,4 +5,4 @@ use Rattle.latex2mathml_nodes.proofs.ast.print.write_content_char.Goals as goal
 
 pub returns-in_default : goal.returns-in_default
 returns-in_default g c = λ plain ok.
-    has_written_of_eq _ _ _ _ _ (sym (content_char-other c.args.c (omega arith) (omega arith) (omega arith))) (c.write_char.ensures.writes plain ok)
+    has_written_of_eq _ _ _ _ _ (sym (content_char-other c.args.c (omega arith) (omega arith) (omega arith) (omega arith))) (c.write_char.ensures.writes plain ok)

@@ -1,0 +1,120 @@
+//! Makes one call of the library, with a mark before it and one behind it, and prints its answer: `tools/run-without-memory`
+//! refuses requests for memory between the marks.
+#![tactic(auto)]
+
+mod copies;
+
+use latex2mathml::{
+    DisplayStyle, FileFault, Reading, Stream, convert_html, latex_to_mathml,
+    latex_to_mathml_counted, read_document, replace,
+};
+use std::alloc::{AllocError, Global};
+use std::fmt::Display;
+use std::process::ExitCode;
+use std::{env, io};
+
+/// A request for so many bytes marks the beginning of a call. Nothing else asks for as many.
+const BEGINNING: usize = 7919;
+
+/// A request for so many bytes marks the end of a call.
+const END: usize = 7927;
+
+/// Requests so many bytes.
+fn mark(alloc: Global, size: usize) -> Result<(), AllocError> {
+    let _mark: Vec<u8> = Vec::with_capacity(alloc, size)?;
+    Ok(())
+}
+
+/// Prints an answer.
+fn tell<T: Display, E: Display>(rt: &HostRuntime, answer: &Result<T, E>) -> io::Result<()> {
+    match answer {
+        Ok(answer) => println!(rt; "answer: {answer}"),
+        Err(refusal) => println!(rt; "refusal: {refusal}"),
+    }
+}
+
+fn formula(rt: &HostRuntime, latex: &str) -> io::Result<()> {
+    mark(rt.alloc(), BEGINNING)?;
+    let answer = latex_to_mathml(rt.alloc(), latex, DisplayStyle::Inline);
+    mark(rt.alloc(), END)?;
+    tell(rt, &answer)
+}
+
+/// The answer, and the tokens and frames of one that is no refusal.
+fn counted_formula(rt: &HostRuntime, latex: &str) -> io::Result<()> {
+    mark(rt.alloc(), BEGINNING)?;
+    let (answer, steps) = latex_to_mathml_counted(rt.alloc(), latex, DisplayStyle::Block);
+    mark(rt.alloc(), END)?;
+    tell(rt, &answer)?;
+    if answer.is_ok() {
+        println!(rt; "{} tokens, {} frames", steps.tokens, steps.frames)?;
+    }
+    Ok(())
+}
+
+fn document(rt: &HostRuntime, input: &str) -> io::Result<()> {
+    mark(rt.alloc(), BEGINNING)?;
+    let answer = replace(rt.alloc(), input);
+    mark(rt.alloc(), END)?;
+    tell(rt, &answer)
+}
+
+/// The answer for a document that is read.
+fn reading(rt: &HostRuntime, input: &str) -> io::Result<()> {
+    let mut source = Stream {
+        inner: input.as_bytes(),
+        failed: false,
+        ended: false,
+    };
+    mark(rt.alloc(), BEGINNING)?;
+    let reading = read_document(rt.alloc(), &mut source);
+    mark(rt.alloc(), END)?;
+    match reading {
+        Ok(Reading::Changed(answer)) => println!(rt; "changed: {answer}"),
+        Ok(Reading::Unchanged(text)) => println!(rt; "unchanged: {text}"),
+        Err(fault) => tell::<&str, FileFault>(rt, &Err(fault)),
+    }
+}
+
+/// What was not converted under a path, a line each.
+fn files(rt: &HostRuntime, path: &str) -> io::Result<()> {
+    mark(rt.alloc(), BEGINNING)?;
+    let unconverted = convert_html(rt, rt.alloc(), path);
+    mark(rt.alloc(), END)?;
+    match unconverted {
+        Ok(unconverted) => {
+            for one in &unconverted {
+                println!(rt; "{}: {}", one.path, one.fault)?;
+            }
+            Ok(())
+        }
+        Err(refusal) => println!(rt; "refusal: {refusal}"),
+    }
+}
+
+/// Makes the call that the words name, and answers whether they name one.
+fn call(rt: &HostRuntime) -> io::Result<bool> {
+    let words: Vec<String> = env::args(rt)?.skip(1).collect(rt.alloc())?;
+    let [name, text] = words.as_slice() else {
+        return Ok(false);
+    };
+    let text = text.as_str();
+    match name.as_str() {
+        "latex_to_mathml" => formula(rt, text)?,
+        "latex_to_mathml_counted" => counted_formula(rt, text)?,
+        "replace" => document(rt, text)?,
+        "read_document" => reading(rt, text)?,
+        "convert_html" => files(rt, text)?,
+        "clone" => return copies::copy(rt, text),
+        _ => return Ok(false),
+    }
+    Ok(true)
+}
+
+fn main(rt: HostRuntime) -> ExitCode {
+    match call(&rt) {
+        Ok(true) => ExitCode::SUCCESS,
+        Ok(false) => ExitCode::from(2),
+        Err(_) => ExitCode::from(1),
+    }
+}

@@ -1,0 +1,234 @@
+-- White space at a place between two tokens that is no digit place leaves the token list as it was.
+use Rattle.std.proofs.Common.{◌≡◌, ℕ, Bool, true, false, ◌&&◌, List, [], ◌∷◌, ◌++◌, Option, Some, None, map, refl, sym, ap, subst, ◌∙◌, append_assoc, arith}
+use Rattle.std.proofs.lemmas.Bool.{and_parts}
+use Rattle.std.proofs.lemmas.Bool.Decides.{nat_tests}
+use Rattle.std.proofs.lemmas.Str.{chars-append}
+use Rattle.std.specs.Char.{is_ascii_digit, is_ascii_alphabetic}
+use Rattle.std.specs.List.{AllPass}
+use Rattle.std.specs.Str.{IsUtf8, chars}
+use Rattle.latex2mathml_formulas.specs.Characters.{Begins, Stops, head, is_empty, is_space}
+use Rattle.latex2mathml_formulas.specs.Cutting.{slices_of}
+use Rattle.latex2mathml_formulas.specs.Places.{AreSlices, IsBetweenTokens, IsDigitPlace, IsReadAlike, SpaceChangesNothing, HasPlaces}
+use Rattle.latex2mathml_formulas.specs.Rendering.{IsRendering, IsFormulaRefusal}
+use Rattle.latex2mathml_formulas.specs.Spelling.{SpellsAt, Slice, HasSlices, HasTokens, is_equals_sign, is_period, takes_digit, character, colon, colon_equals, number, digit, symbol_command, letter_command, lone_backslash}
+use Rattle.latex2mathml_tokens.specs.Tok.{Tok}
+use Rattle.latex2mathml_formulas.proofs.FirstSlices.{Dark, spells_dark}
+use Rattle.latex2mathml_formulas.proofs.OneList.{at_most_one, cut}
+use Rattle.latex2mathml_formulas.proofs.Passing.{Each, each, passing}
+
+-- a slice, where other characters may follow it
+
+-- white space stands next
+abbrev IsLight : Option ℕ → Type 0
+IsLight None = ⊥
+IsLight (Some c) = is_space c ≡ true
+
+light_stops : (p : ℕ → Bool) (next : Option ℕ) → ((c : ℕ) → is_space c ≡ true → p c ≡ false) → IsLight next → Stops p next
+light_stops p None other light = absurd light
+light_stops p (Some c) other light = other c light
+
+no_digit : (c : ℕ) → is_space c ≡ true → is_ascii_digit c ≡ false
+no_digit c h = grind (arith, nat_tests)
+
+no_period : (c : ℕ) → is_space c ≡ true → is_period c ≡ false
+no_period c h = grind (arith, nat_tests)
+
+no_equals_sign : (c : ℕ) → is_space c ≡ true → is_equals_sign c ≡ false
+no_equals_sign c h = grind (arith, nat_tests)
+
+no_letter : (c : ℕ) → is_space c ≡ true → is_ascii_alphabetic c ≡ false
+no_letter c h = grind (arith, nat_tests)
+
+-- a slice that does not end the text spells the same before white space
+spells_before_space : (alone : Bool) (w : List ℕ) (next other : Option ℕ) (t : Tok) → (next ≡ None → ⊥) → IsLight other → SpellsAt alone w next t → SpellsAt alone w other t
+spells_before_space alone w next other t some light (character c longer dark e f) = character c longer dark e f
+spells_before_space alone w next other t some light (colon stops e f) = colon (light_stops is_equals_sign other no_equals_sign light) e f
+spells_before_space alone w next other t some light (colon_equals e f) = colon_equals e f
+spells_before_space alone w next other t some light (number a n f) =
+    number a (record {
+      begins = n.begins;
+      holds = n.holds;
+      at_most_one = n.at_most_one;
+      ends = light_stops is_ascii_digit other no_digit light;
+      longest = λ none. light_stops is_period other no_period light;
+    }) f
+spells_before_space alone w next other t some light (digit c a d e f) = digit c a d e f
+spells_before_space alone w next other t some light (symbol_command c l e f) = symbol_command c l e f
+spells_before_space alone w next other t some light (letter_command c cs e l s f) = letter_command c cs e l (light_stops is_ascii_alphabetic other no_letter light) f
+spells_before_space alone w next other t some light (lone_backslash e n f) = absurd (some n)
+
+-- a slice that is no digit spells the same where a digit is no number of its own
+spells_apart : (alone : Bool) (w : List ℕ) (next : Option ℕ) (t : Tok) → (alone ≡ true → Begins is_ascii_digit w → ⊥) → SpellsAt alone w next t → SpellsAt false w next t
+spells_apart alone w next t none (character c longer dark e f) = character c longer dark e f
+spells_apart alone w next t none (colon stops e f) = colon stops e f
+spells_apart alone w next t none (colon_equals e f) = colon_equals e f
+spells_apart alone w next t none (number a n f) = number refl n f
+spells_apart alone w next t none (digit c a d e f) = absurd (none a (subst (Begins is_ascii_digit) (sym e) d))
+spells_apart alone w next t none (symbol_command c l e f) = symbol_command c l e f
+spells_apart alone w next t none (letter_command c cs e l s f) = letter_command c cs e l s f
+spells_apart alone w next t none (lone_backslash e n f) = lone_backslash e n f
+
+-- the slices before the place
+
+spells_longer : (alone : Bool) (w more behind other : List ℕ) (t : Tok) → (head behind ≡ None → ⊥) → IsLight (head other) → SpellsAt alone w (head (more ++ behind)) t → SpellsAt alone w (head (more ++ other)) t
+spells_longer alone w [] behind other t some light spells = spells_before_space alone w (head behind) (head other) t some light spells
+spells_longer alone w (c ∷ more) behind other t some light spells = spells
+
+-- they are slices too where white space follows them
+slices_before_space : (takes : Bool) (w behind other : List ℕ) (ss : List Slice) → (head behind ≡ None → ⊥) → IsLight (head other) → AreSlices takes w behind ss → AreSlices takes w other ss
+slices_before_space takes w behind other [] some light h = h
+slices_before_space takes w behind other (s ∷ ss) some light (space, more, whole, white, spells, later) =
+    (space, more, whole, white, spells_longer (takes && is_empty space) s.text more behind other s.token some light spells, slices_before_space (takes_digit (Some s.token)) more behind other ss some light later)
+
+step_whole : (w behind space text more : List ℕ) → w ≡ space ++ (text ++ more) → w ++ behind ≡ space ++ (text ++ (more ++ behind))
+step_whole w behind space text more e = ap (λ x. x ++ behind) e ∙ append_assoc space (text ++ more) behind ∙ ap (λ x. space ++ x) (append_assoc text more behind)
+
+-- slices, and then those of the text behind them
+slices_joined : (takes : Bool) (w behind : List ℕ) (ss : List Slice) (s : Slice) (rs : List Slice) → AreSlices takes w behind (ss ++ s ∷ []) → HasSlices (takes_digit (Some s.token)) behind rs → HasSlices takes (w ++ behind) (ss ++ s ∷ rs)
+slices_joined takes w behind [] s rs (space, more, whole, white, spells, none) later =
+    (more ++ behind, (space, step_whole w behind space s.text more whole, white, spells), subst (λ m. HasSlices (takes_digit (Some s.token)) (m ++ behind) rs) (sym none) later)
+slices_joined takes w behind (r ∷ ss) s rs (space, more, whole, white, spells, between) later =
+    (more ++ behind, (space, step_whole w behind space r.text more whole, white, spells), slices_joined (takes_digit (Some r.token)) more behind ss s rs between later)
+
+-- the slice behind the place
+
+-- the white space at the place, with more of it
+gap_grown : (left cs right : List ℕ) → Each is_space (left ++ right) → Each is_space cs → Each is_space (left ++ (cs ++ right))
+gap_grown [] [] right h k = h
+gap_grown [] (c ∷ cs) right h k = (k.0, gap_grown [] cs right h k.1)
+gap_grown (x ∷ left) cs right h k = (h.0, gap_grown left cs right h.1 k)
+
+light_first : (left : List ℕ) (c : ℕ) (cs right : List ℕ) → Each is_space (left ++ right) → is_space c ≡ true → (behind : List ℕ) → IsLight (head (left ++ (c ∷ cs ++ behind)))
+light_first [] c cs right h k behind = k
+light_first (x ∷ left) c cs right h k behind = h.0
+
+some_stands : (left right text : List ℕ) → Dark text → head (left ++ (right ++ text)) ≡ None → ⊥
+some_stands [] [] [] dark none = absurd dark
+some_stands [] [] (c ∷ text) dark none = cc
+some_stands [] (r ∷ right) text dark none = cc
+some_stands (x ∷ left) right text dark none = cc
+
+gap_some : (left : List ℕ) (c : ℕ) (cs : List ℕ) → is_empty (left ++ c ∷ cs) ≡ false
+gap_some [] c cs = refl
+gap_some (x ∷ left) c cs = refl
+
+empty_nil : (cs : List ℕ) → is_empty cs ≡ true → cs ≡ []
+empty_nil [] h = refl
+empty_nil (c ∷ cs) h = cc
+
+and_false : (b : Bool) → (b && false) ≡ false
+and_false true = refl
+and_false false = refl
+
+-- white space, a slice, and the slices of the rest
+next_slices : (takes : Bool) (gap : List ℕ) (s : Slice) (rest text : List ℕ) → text ≡ gap ++ (s.text ++ rest) → AllPass is_space gap → SpellsAt (takes && is_empty gap) s.text (head rest) s.token → HasSlices takes text (s ∷ slices_of (takes_digit (Some s.token)) rest)
+next_slices takes gap s rest text whole white spells = (rest, (gap, whole, white, spells), cut (takes_digit (Some s.token)) rest)
+
+-- the slices of a text with a place between two tokens
+
+abbrev around : (before after : List ℕ) → IsBetweenTokens before after → List Slice
+around before after place = place.earlier ++ place.last ∷ place.next ∷ slices_of (takes_digit (Some place.next.token)) place.rest
+
+has_slices : (before after : List ℕ) (place : IsBetweenTokens before after) → HasSlices false (before ++ after) (around before after place)
+has_slices before after place =
+    let takes : Bool = takes_digit (Some place.last.token) in
+    let behind : List ℕ = place.left ++ after in
+    let whole : before ++ after ≡ place.front ++ behind = ap (λ x. x ++ after) place.before_is ∙ append_assoc place.front place.left after in
+    let next : behind ≡ (place.left ++ place.right) ++ (place.next.text ++ place.rest) = ap (λ x. place.left ++ x) place.after_is ∙ sym (append_assoc place.left place.right (place.next.text ++ place.rest)) in
+    let later : HasSlices takes behind (place.next ∷ slices_of (takes_digit (Some place.next.token)) place.rest) = next_slices takes (place.left ++ place.right) place.next place.rest behind next place.space place.spells in
+    subst (λ x. HasSlices false x (around before after place)) (sym whole) (slices_joined false place.front behind place.earlier place.last _ place.slices later)
+
+-- .. also with white space put there
+has_slices_spaced : (before after : List ℕ) (place : IsBetweenTokens before after) → ¬ (IsDigitPlace place) → (c : ℕ) (cs : List ℕ) → Each is_space (c ∷ cs) → HasSlices false (before ++ (c ∷ cs ++ after)) (around before after place)
+has_slices_spaced before after place no_digit_place c cs white =
+    let takes : Bool = takes_digit (Some place.last.token) in
+    let slice : List ℕ = place.next.text ++ place.rest in
+    let gap : List ℕ = place.left ++ (c ∷ cs ++ place.right) in
+    let behind : List ℕ = place.left ++ (c ∷ cs ++ after) in
+    let whole : before ++ (c ∷ cs ++ after) ≡ place.front ++ behind = ap (λ x. x ++ (c ∷ cs ++ after)) place.before_is ∙ append_assoc place.front place.left (c ∷ cs ++ after) in
+    let next : behind ≡ gap ++ slice = ap (λ x. place.left ++ (c ∷ cs ++ x)) place.after_is ∙ sym (append_assoc place.left (c ∷ cs ++ place.right) slice ∙ ap (λ x. place.left ++ x) (append_assoc (c ∷ cs) place.right slice)) in
+    let space : Each is_space (place.left ++ place.right) = each is_space (place.left ++ place.right) place.space in
+    let dark : Dark slice = spells_dark (takes && is_empty (place.left ++ place.right)) place.next.text place.rest place.next.token place.spells in
+    let some : head (place.left ++ after) ≡ None → ⊥ = λ none. some_stands place.left place.right slice dark (ap (λ x. head (place.left ++ x)) (sym place.after_is) ∙ none) in
+    let earlier : AreSlices false place.front behind (place.earlier ++ place.last ∷ []) = slices_before_space false place.front (place.left ++ after) behind (place.earlier ++ place.last ∷ []) some (light_first place.left c cs place.right space white.0 after) place.slices in
+    let apart : (takes && is_empty gap) ≡ false = ap (λ b. takes && b) (gap_some place.left c (cs ++ place.right)) ∙ and_false takes in
+    let spells : SpellsAt false place.next.text (head place.rest) place.next.token = spells_apart (takes && is_empty (place.left ++ place.right)) place.next.text (head place.rest) place.next.token (λ alone digit. (let both = and_parts takes (is_empty (place.left ++ place.right)) alone in no_digit_place (record { touching = empty_nil (place.left ++ place.right) both.1; takes = both.0; digit = digit }))) place.spells in
+    let later : HasSlices takes behind (place.next ∷ slices_of (takes_digit (Some place.next.token)) place.rest) = next_slices takes gap place.next place.rest behind next (passing is_space gap (gap_grown place.left (c ∷ cs) place.right space white)) (subst (λ b. SpellsAt b place.next.text (head place.rest) place.next.token) (sym apart) spells) in
+    subst (λ x. HasSlices false x (around before after place)) (sym whole) (slices_joined false place.front behind place.earlier place.last _ earlier later)
+
+same_slices : (before after : List ℕ) (place : IsBetweenTokens before after) → ¬ (IsDigitPlace place) → (space : List ℕ) → Each is_space space → HasSlices false (before ++ (space ++ after)) (around before after place)
+same_slices before after place no_digit_place [] white = has_slices before after place
+same_slices before after place no_digit_place (c ∷ cs) white = has_slices_spaced before after place no_digit_place c cs white
+
+-- texts with the same slices
+
+same_tokens : (text other : List ℕ) (ss : List Slice) → HasSlices false text ss → HasSlices false other ss → (ts : List Tok) → HasTokens None text ts → HasTokens None other ts
+same_tokens text other ss a b ts h =
+    subst (HasTokens None other) (at_most_one None text (map (λ s. s.token) ss) ts (ss, a, refl) h) (ss, b, refl)
+
+read_alike : (text other : List ℕ) → ((ts : List Tok) → HasTokens None (chars text) ts → HasTokens None (chars other) ts) → ((ts : List Tok) → HasTokens None (chars other) ts → HasTokens None (chars text) ts) → IsReadAlike text other
+unfolding IsRendering IsFormulaRefusal
+read_alike text other to from = record {
+  tokens = λ ts. (to ts, from ts);
+  renderings = λ display markup. (λ h. (h.0, to h.0 h.1, h.2), λ h. (h.0, from h.0 h.1, h.2));
+  refusals = λ refusal. (λ h. (h.0, to h.0 h.1, h.2), λ h. (h.0, from h.0 h.1, h.2));
+}
+
+pub space_changes_nothing : (before space after : List ℕ) → IsUtf8 before → IsUtf8 space → SpaceChangesNothing before space after
+space_changes_nothing before space after u v = λ place no_digit_place white.
+    let text : chars (before ++ after) ≡ chars before ++ chars after = chars-append before after u in
+    let other : chars (before ++ (space ++ after)) ≡ chars before ++ (chars space ++ chars after) = chars-append before (space ++ after) u ∙ ap (λ x. chars before ++ x) (chars-append space after v) in
+    let ss : List Slice = around (chars before) (chars after) place in
+    let a : HasSlices false (chars (before ++ after)) ss = subst (λ x. HasSlices false x ss) (sym text) (has_slices (chars before) (chars after) place) in
+    let b : HasSlices false (chars (before ++ (space ++ after))) ss = subst (λ x. HasSlices false x ss) (sym other) (same_slices (chars before) (chars after) place no_digit_place (chars space) (each is_space (chars space) white)) in
+    read_alike (before ++ after) (before ++ (space ++ after)) (same_tokens _ _ ss a b) (same_tokens _ _ ss b a)
+
+-- where places are
+
+-- the slices of a text up to one of them, and those behind it
+abbrev Parted : Bool → List ℕ → List Slice → Slice → List Slice → Type 0
+Parted takes text ss s rs =
+    (front : List ℕ) × (behind : List ℕ)
+    × (text ≡ front ++ behind)
+    × AreSlices takes front behind (ss ++ s ∷ [])
+    × HasSlices (takes_digit (Some s.token)) behind rs
+
+parted : (takes : Bool) (text : List ℕ) (ss : List Slice) (s : Slice) (rs : List Slice) → HasSlices takes text (ss ++ s ∷ rs) → Parted takes text ss s rs
+parted takes text [] s rs (rest, (space, whole, white, spells), later) =
+    let front : List ℕ = space ++ (s.text ++ []) in
+    (front, rest, whole ∙ sym (step_whole front rest space s.text [] refl), (space, [], refl, white, spells, refl), later)
+parted takes text (r ∷ ss) s rs (rest, (space, whole, white, spells), later) =
+    let more : Parted (takes_digit (Some r.token)) rest ss s rs = parted (takes_digit (Some r.token)) rest ss s rs later in
+    let front : List ℕ = space ++ (r.text ++ more.0) in
+    (front, more.1, whole ∙ ap (λ x. space ++ (r.text ++ x)) more.2 ∙ sym (step_whole front more.1 space r.text more.0 refl), (space, more.0, refl, white, subst (λ x. SpellsAt (takes && is_empty space) r.text (head x) r.token) more.2 spells, more.3), more.4)
+
+pub has_places : (text : List ℕ) → HasPlaces text
+has_places text = λ earlier later last next h.
+    let p : Parted false text earlier last (next ∷ later) = parted false text earlier last (next ∷ later) h in
+    let rest : List ℕ = p.4.0 in
+    let space : List ℕ = p.4.1.0 in
+    let behind : List ℕ = next.text ++ rest in
+    let takes : Bool = takes_digit (Some last.token) in (
+      p.0,
+      space,
+      behind,
+      p.2 ∙ ap (λ x. p.0 ++ x) p.4.1.1,
+      λ left right e. (let whole : p.1 ≡ left ++ (right ++ behind) = p.4.1.1 ∙ ap (λ x. x ++ behind) e ∙ append_assoc left right behind in (
+        record {
+          front = p.0;
+          left = left;
+          earlier = earlier;
+          last = last;
+          right = right;
+          next = next;
+          rest = rest;
+          before_is = refl;
+          after_is = refl;
+          slices = subst (λ x. AreSlices false p.0 x (earlier ++ last ∷ [])) whole p.3;
+          space = subst (AllPass is_space) e p.4.1.2;
+          spells = subst (λ x. SpellsAt (takes && is_empty x) next.text (head rest) next.token) e p.4.1.3;
+        },
+        refl,
+        refl,
+      )),
+    )

@@ -1,0 +1,58 @@
+-- How many nodes and lists there are to let go.
+use Rattle.std.specs.Prelude.{ℕ, ◌+◌}
+use Rattle.latex2mathml_nodes.specs.Tree.{Tree, Trees, applied, subscript, superscript, sub_sup, over_op, under_op, overset, underset, under, under_over, root, sqrt, frac, row, fenced, matrix, slashed, style, no_trees, more_trees}
+
+abbrev mutual
+  -- how many nodes and lists are in a tree, the tree itself not counted
+  pub weight : Tree → ℕ
+  weight (applied name x) = weight x + 1
+  weight (subscript x y) = weight x + weight y + 2
+  weight (superscript x y) = weight x + weight y + 2
+  weight (sub_sup x y z) = weight x + weight y + weight z + 3
+  weight (over_op c accent x) = weight x + 1
+  weight (under_op c accent x) = weight x + 1
+  weight (overset x y) = weight x + weight y + 2
+  weight (underset x y) = weight x + weight y + 2
+  weight (under x y) = weight x + weight y + 2
+  weight (under_over x y z) = weight x + weight y + weight z + 3
+  weight (root x y) = weight x + weight y + 2
+  weight (sqrt x) = weight x + 1
+  weight (frac x y thickness) = weight x + weight y + 2
+  weight (row members) = weights members + 1
+  weight (fenced opening close x) = weight x + 1
+  weight (matrix members align) = weights members + 1
+  weight (slashed x) = weight x + 1
+  weight (style display x) = weight x + 1
+  weight leaf = 0
+
+  -- how many nodes the trees of a list are, with what is in them
+  pub weights : Trees → ℕ
+  weights no_trees = 0
+  weights (more_trees x rest) = weight x + weights rest + 1
+
+abbrev mutual
+  -- how many nodes hang on a chain: each link has the chain before it in place of its first part
+  pub hung : Tree → ℕ
+  hung (applied name x) = hung x + 1
+  hung (subscript x y) = hung x + weight y + 1
+  hung (superscript x y) = hung x + weight y + 1
+  hung (sub_sup x y z) = hung x + weight y + weight z + 2
+  hung (over_op c accent x) = hung x + 1
+  hung (under_op c accent x) = hung x + 1
+  hung (overset x y) = hung x + weight y + 1
+  hung (underset x y) = hung x + weight y + 1
+  hung (under x y) = hung x + weight y + 1
+  hung (under_over x y z) = hung x + weight y + weight z + 2
+  hung (root x y) = hung x + weight y + 1
+  hung (sqrt x) = hung x + 1
+  hung (frac x y thickness) = hung x + weight y + 1
+  hung (row members) = hung_in members
+  hung (fenced opening close x) = hung x + 1
+  hung (matrix members align) = hung_in members
+  hung (slashed x) = hung x + 1
+  hung (style display x) = hung x + 1
+  hung leaf = 0
+
+  pub hung_in : Trees → ℕ
+  hung_in no_trees = 0
+  hung_in (more_trees x rest) = hung x + weights rest + 1

@@ -1,0 +1,155 @@
+//! Letting nodes go, however deep they are.
+ghost use Rattle.std.specs.Prelude.{◌≡◌, ◌+◌, ◌<◌, IfSome};
+ghost use Rattle.latex2mathml_nodes.specs.Tree.{tree, trees};
+ghost use Rattle.latex2mathml_nodes.specs.Weight.{hung, hung_in, weight, weights};
+ghost use Rattle.latex2mathml_nodes.specs.Held.{held, hung_on};
+
+use crate::ast::Node;
+use std::mem;
+
+/// The nodes that a node was made of, in the boxes or the list that held them.
+enum Parts {
+    None,
+    One(Box<Node>),
+    Two(Box<Node>, Box<Node>),
+    Three(Box<Node>, Box<Node>, Box<Node>),
+    All(Vec<Node>),
+}
+
+impl Node {
+    /// What the node was made of. All else in it goes.
+    fn parts(self) -> Parts
+        ensures weight { weight (tree self) ≡ held result }
+        ensures hung { hung (tree self) ≡ hung_on result }
+    {
+        match self {
+            Node::Letter(_, _)
+            | Node::Operator(_)
+            | Node::Space(_)
+            | Node::OtherOperator(_)
+            | Node::SizedParen { size: _, paren: _ }
+            | Node::Ampersand
+            | Node::NewLine => Parts::None,
+            Node::Number(_) | Node::StrechedOp(_, _) | Node::Text(_) | Node::Undefined(_) =>
+                Parts::None,
+            Node::Function(_, argument) => match argument {
+                None => Parts::None,
+                Some(x) => Parts::One(x),
+            },
+            Node::OverOp(_, _, x)
+            | Node::UnderOp(_, _, x)
+            | Node::Fenced {
+                opening: _,
+                close: _,
+                content: x,
+            }
+            | Node::Slashed(x)
+            | Node::Style(_, x) => Parts::One(x),
+            Node::Subscript(x, y)
+            | Node::Superscript(x, y)
+            | Node::Overset { over: x, target: y }
+            | Node::Underset {
+                under: x,
+                target: y,
+            }
+            | Node::Under(x, y)
+            | Node::Frac(x, y, _) => Parts::Two(x, y),
+            Node::Sqrt(degree, x) => match degree {
+                None => Parts::One(x),
+                Some(degree) => Parts::Two(degree, x),
+            },
+            Node::SubSup {
+                target: x,
+                sub: y,
+                sup: z,
+            }
+            | Node::UnderOver {
+                target: x,
+                under: y,
+                over: z,
+            } => Parts::Three(x, y, z),
+            Node::Row(members) | Node::Matrix(members, _) => Parts::All(members),
+        }
+    }
+}
+
+/// Lets a node go with all that is in it, without recursion and without memory.
+///
+/// What is still whole hangs on a chain of the boxes and lists that held it: each link has the chain before it in place
+/// of its first part. An `Ampersand` is the end of the chain.
+#[inline(never)]
+pub(crate) fn dismantle(node: Node) {
+    let mut current = node.parts();
+    let mut chain = Node::Ampersand;
+    'parts: while let Some((parts, rest)) = step(current, chain) {
+        current = parts;
+        chain = rest;
+    }
+}
+
+/// The parts of the first part, and the chain with its other parts. Where there are none, what hangs on the chain is
+/// next.
+fn step(parts: Parts, chain: Node) -> Option<(Parts, Node)>
+    ensures { IfSome result (λ p. held p.0 + hung (tree p.1) < held parts + hung (tree chain)) }
+{
+    match parts {
+        Parts::None => next(chain),
+        Parts::One(x) => Some((Box::into_inner(x).parts(), chain)),
+        Parts::Two(mut x, y) => {
+            let first = mem::replace(&mut *x, chain);
+            Some((first.parts(), Node::Subscript(x, y)))
+        }
+        Parts::Three(mut target, sub, sup) => {
+            let first = mem::replace(&mut *target, chain);
+            Some((first.parts(), Node::SubSup { target, sub, sup }))
+        }
+        Parts::All(members) => first_of_all(members, chain),
+    }
+}
+
+/// The parts of the first member, whose place the chain takes.
+fn first_of_all(mut members: Vec<Node>, chain: Node) -> Option<(Parts, Node)>
+    ensures { IfSome result (λ p. held p.0 + hung (tree p.1)
+        < weights (trees members.items) + 1 + hung (tree chain)) }
+{
+    if members.is_empty() {
+        members.destroy_empty();
+        return next(chain);
+    }
+    let first = mem::replace(&mut members[0], chain);
+    Some((first.parts(), Node::Row(members)))
+}
+
+/// The parts of the last part that hangs on the chain, and the rest of the chain.
+fn next(chain: Node) -> Option<(Parts, Node)>
+    ensures { IfSome result (λ p. held p.0 + hung (tree p.1) < hung (tree chain)) }
+{
+    match chain.parts() {
+        Parts::None => None,
+        Parts::One(before) => Some((Parts::None, Box::into_inner(before))),
+        Parts::Two(before, x) => Some((Box::into_inner(x).parts(), Box::into_inner(before))),
+        Parts::Three(before, x, y) => {
+            Some((Box::into_inner(y).parts(), Node::Subscript(before, x)))
+        }
+        Parts::All(members) => last_of_all(members),
+    }
+}
+
+/// The parts of the last member that has some, and the chain of the members before it. The first member is the chain
+/// before them.
+fn last_of_all(mut members: Vec<Node>) -> Option<(Parts, Node)>
+    ensures { IfSome result (λ p. held p.0 + hung (tree p.1) < hung_in (trees members.items)) }
+{
+    'members: while let Some(last) = members.pop() {
+        if members.is_empty() {
+            members.destroy_empty();
+            return Some((Parts::None, last));
+        }
+        match last.parts() {
+            Parts::None => {}
+            parts => return Some((parts, Node::Row(members))),
+        }
+    }
+    members.destroy_empty();
+    None
+}

@@ -1,0 +1,143 @@
+/* Loaded before the C library, by LD_PRELOAD, this makes calls of a program fail that hardly fail by themselves.
+   The environment says which, and what is empty there says nothing:
+
+     FAULT=CALL:FIRST:LAST:ERROR  of the calls of one kind, the FIRSTth to the LASTth fail with this error number, and
+                                  with the number 0 they answer 0. A kind is memory (a request for it), open, read, write
+                                  (but to standard error), list (the entries of a directory) or look (at what a path is)
+     FAULT_MARKED=1               calls count only behind a request for 7919 bytes, and up to one for 7927
+     FAULT_STEP=N                 reading and writing moves at most N bytes a call
+     FAULT_PATH=PATH FAULT_RUN=COMMAND FAULT_TIME=N
+                                  the shell runs the command before the Nth opening of the path, or of what lies below it
+     FAULT_REPORT=FILE            gets a line for each call that failed, and for the command */
+
+#define _GNU_SOURCE
+#include <dlfcn.h>
+#include <errno.h>
+#include <fcntl.h>
+#include <stdarg.h>
+#include <stdio.h>
+#include <stdlib.h>
+#include <string.h>
+#include <sys/stat.h>
+#include <sys/syscall.h>
+#include <sys/types.h>
+#include <unistd.h>
+
+#define BEGINNING 7919
+#define END 7927
+
+/* the function of this name that the program would call without this library */
+#define NEXT(name) ((__typeof__(&name))dlsym(RTLD_NEXT, #name))
+
+static char kind[16];
+static long first, last, calls;
+static int error, is_marked, counts;
+static size_t step;
+static const char *path_due, *command, *report_file;
+static long time_due, times;
+
+/* what the environment says, or NULL */
+static const char *said(const char *name) {
+    const char *value = getenv(name);
+    return value && *value ? value : NULL;
+}
+
+__attribute__((constructor)) static void begin(void) {
+    const char *fault = said("FAULT"), *steps = said("FAULT_STEP"), *time = said("FAULT_TIME");
+    if (fault && sscanf(fault, "%15[a-z]:%ld:%ld:%d", kind, &first, &last, &error) != 4) {
+        dprintf(2, "faults.c: FAULT=%s is no fault\n", fault);
+        _exit(125);
+    }
+    step = steps ? strtoul(steps, NULL, 10) : 0;
+    path_due = said("FAULT_PATH");
+    command = said("FAULT_RUN");
+    time_due = time ? atol(time) : 1;
+    report_file = said("FAULT_REPORT");
+    is_marked = said("FAULT_MARKED") != NULL;
+    counts = !is_marked;
+}
+
+static void report(const char *what) {
+    if (!report_file) return;
+    int file = syscall(SYS_openat, AT_FDCWD, report_file, O_WRONLY | O_CREAT | O_APPEND, 0666);
+    if (file < 0) return;
+    syscall(SYS_write, file, what, strlen(what));
+    syscall(SYS_write, file, "\n", 1);
+    syscall(SYS_close, file);
+}
+
+/* whether this call fails */
+static int fails(const char *name) {
+    if (!counts || strcmp(name, kind) != 0) return 0;
+    calls++;
+    if (calls < first || calls > last) return 0;
+    report(name);
+    errno = error;
+    return 1;
+}
+
+static ssize_t failure(void) { return error ? -1 : 0; }
+
+static int is_refused(size_t size) {
+    if (is_marked && size == BEGINNING) {
+        counts = 1;
+        return 0;
+    }
+    if (is_marked && size == END) counts = 0;
+    return fails("memory");
+}
+
+void *malloc(size_t size) { return is_refused(size) ? NULL : NEXT(malloc)(size); }
+
+void *realloc(void *old, size_t size) { return is_refused(size) ? NULL : NEXT(realloc)(old, size); }
+
+/* runs the command where this is the opening that it waits for */
+static void before_opening(const char *path) {
+    if (!command || !path_due || strncmp(path, path_due, strlen(path_due)) != 0 || ++times != time_due) return;
+    const char *now = command;
+    command = NULL;
+    unsetenv("LD_PRELOAD");
+    report("command");
+    if (system(now) != 0) dprintf(2, "faults.c: the command failed: %s\n", now);
+}
+
+static mode_t mode_of(int flags, va_list rest) { return flags & O_CREAT ? va_arg(rest, mode_t) : 0; }
+
+int openat(int folder, const char *path, int flags, ...) {
+    va_list rest;
+    va_start(rest, flags);
+    mode_t mode = mode_of(flags, rest);
+    va_end(rest);
+    before_opening(path);
+    return fails("open") ? -1 : NEXT(openat)(folder, path, flags, mode);
+}
+
+int open(const char *path, int flags, ...) {
+    va_list rest;
+    va_start(rest, flags);
+    mode_t mode = mode_of(flags, rest);
+    va_end(rest);
+    before_opening(path);
+    return fails("open") ? -1 : NEXT(open)(path, flags, mode);
+}
+
+static size_t stepped(size_t count) { return step && step < count ? step : count; }
+
+ssize_t read(int file, void *room, size_t count) {
+    return fails("read") ? failure() : NEXT(read)(file, room, stepped(count));
+}
+
+ssize_t write(int file, const void *bytes, size_t count) {
+    if (file == 2) return NEXT(write)(file, bytes, count);
+    return fails("write") ? failure() : NEXT(write)(file, bytes, stepped(count));
+}
+
+ssize_t __write(int file, const void *bytes, size_t count) { return write(file, bytes, count); }
+
+ssize_t getdents64(int folder, void *room, size_t count) {
+    return fails("list") ? failure() : NEXT(getdents64)(folder, room, count);
+}
+
+int statx(int folder, const char *restrict path, int flags, unsigned mask, struct statx *restrict found) {
+    return fails("look") ? -1 : NEXT(statx)(folder, path, flags, mask, found);
+}
