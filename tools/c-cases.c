@@ -202,34 +202,33 @@ static void memory(void) {
 
 struct nest {
     const char *name;
-    size_t levels;
     const char *before, *middle, *after;
     uint32_t code;
     const char *printed_before, *printed_middle, *printed_after;
 };
 
 static const struct nest nests[] = {
-    {"braces", LEVELS, "{", "x", "}", LATEX2MATHML_DONE, "", "<mi>x</mi>", ""},
-    {"open braces", LEVELS, "{", "x", "", LATEX2MATHML_REFUSED, NULL, NULL, NULL},
-    {"open rows", LEVELS, "{a", "x", "", LATEX2MATHML_REFUSED, NULL, NULL, NULL},
-    {"rows", LEVELS, "{a", "x", "}", LATEX2MATHML_DONE, "<mrow><mi>a</mi>", "<mi>x</mi>", "</mrow>"},
-    {"scripts", LEVELS, "x^", "x", "", LATEX2MATHML_DONE, "<msup><mi>x</mi>", "<mi>x</mi>", "</msup>"},
-    {"roots", LEVELS, "\\sqrt", " x", "", LATEX2MATHML_DONE, "<msqrt>", "<mi>x</mi>", "</msqrt>"},
-    {"fractions", LEVELS, "\\frac1{", "x", "}", LATEX2MATHML_DONE, "<mfrac><mn>1</mn>", "<mi>x</mi>", "</mfrac>"},
+    {"braces", "{", "x", "}", LATEX2MATHML_DONE, "", "<mi>x</mi>", ""},
+    {"open braces", "{", "x", "", LATEX2MATHML_REFUSED, NULL, NULL, NULL},
+    {"open rows", "{a", "x", "", LATEX2MATHML_REFUSED, NULL, NULL, NULL},
+    {"rows", "{a", "x", "}", LATEX2MATHML_DONE, "<mrow><mi>a</mi>", "<mi>x</mi>", "</mrow>"},
+    {"scripts", "x^", "x", "", LATEX2MATHML_DONE, "<msup><mi>x</mi>", "<mi>x</mi>", "</msup>"},
+    {"roots", "\\sqrt", " x", "", LATEX2MATHML_DONE, "<msqrt>", "<mi>x</mi>", "</msqrt>"},
+    {"fractions", "\\frac1{", "x", "}", LATEX2MATHML_DONE, "<mfrac><mn>1</mn>", "<mi>x</mi>", "</mfrac>"},
 };
 
 /* The middle between so many of both ends, which the caller frees. */
-static char *repeated(size_t levels, const char *before, const char *middle, const char *after, size_t *length) {
+static char *repeated(size_t times, const char *before, const char *middle, const char *after, size_t *length) {
     size_t b = strlen(before), m = strlen(middle), a = strlen(after);
-    char *text = malloc(levels * (b + a) + m + 1);
+    char *text = malloc(times * (b + a) + m + 1);
     if (!text)
         abort();
     *length = 0;
-    for (size_t i = 0; i < levels; i++, *length += b)
+    for (size_t i = 0; i < times; i++, *length += b)
         memcpy(text + *length, before, b);
     memcpy(text + *length, middle, m);
     *length += m;
-    for (size_t i = 0; i < levels; i++, *length += a)
+    for (size_t i = 0; i < times; i++, *length += a)
         memcpy(text + *length, after, a);
     return text;
 }
@@ -238,7 +237,7 @@ static char *repeated(size_t levels, const char *before, const char *middle, con
 static char *due_of(const struct nest *nest, size_t *length) {
     if (nest->code != LATEX2MATHML_DONE)
         return repeated(1, "", OPEN_BRACE, "", length);
-    char *contents = repeated(nest->levels, nest->printed_before, nest->printed_middle, nest->printed_after, length);
+    char *contents = repeated(LEVELS, nest->printed_before, nest->printed_middle, nest->printed_after, length);
     char *due = malloc(*length + sizeof MATH("inline", ""));
     size_t start = sizeof MATH("inline", "") - sizeof "</math>";
     if (!due)
@@ -256,7 +255,7 @@ static void *is_nested(void *given) {
     static char met;
     const struct nest *nest = given;
     size_t length, due_length, asked, needed;
-    char *formula = repeated(nest->levels, nest->before, nest->middle, nest->after, &length);
+    char *formula = repeated(LEVELS, nest->before, nest->middle, nest->after, &length);
     char *due = due_of(nest, &due_length), *room = malloc(due_length);
     if (!room)
         abort();

@@ -56,8 +56,7 @@ enum latex2mathml_code {
  *   - `out` and `needed` overlap neither each other nor `latex`, and nothing else touches the three during the call.
  *   - No length is larger than PTRDIFF_MAX.
  *   - It is called from no signal handler, and not in the forked child of a process that has threads.
- *   - The stack is large enough: 150 bytes for each byte of the formula are, so 128 KiB serve 800 bytes and 8 MiB 50,000.
- *     This is measured, and only parts that stand one in the other take so much.
+ *   - 128 KiB of the stack are free. This is tested; however deep a formula is nested, it takes memory for that and no stack.
  *
  * It keeps nothing between calls and takes no lock, so any number of threads may call at once. The memory that it takes
  * by malloc and realloc is freed before it returns. */
