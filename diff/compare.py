@@ -91,7 +91,7 @@ class Crate:
         """The refusals that may stand where the crate panics. Braces would hide the token behind a `\\middle`."""
         formulas = [(trial.word, normal.with_stand_in(trial.text))]
         if trial.word == "document":
-            formulas, _ = normal.formulas_of(normal.in_formulas(normal.with_stand_in, trial.text))
+            formulas = [("inline", normal.with_stand_in("".join(units))) for units in normal.parts(trial.text)[2::4]]
         asked = [("inline", sized) for _, formula in formulas for sized in normal.sized_behind_middle(formula)]
         return [normal.refusal_of_middle(*answer) for answer in rust_crate.answers(self.driver, asked)]
 

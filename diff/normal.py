@@ -268,26 +268,16 @@ def parts(document):
     return found
 
 
-def changed(document, prose, formula):
-    """The document with the units of each piece of prose, and the text of each formula, changed so."""
-    handed = ""
-    for place, units in enumerate(parts(document)):
-        if place % 4 == 0:
-            units = prose(units)
-        text = "".join(units)
-        handed += formula(text) if place % 4 == 2 else text
-    return handed
-
-
-def in_formulas(change, document):
-    """The document with each formula changed so."""
-    return changed(document, lambda units: units, change)
-
-
 def document_for_crate(document):
     """A document in which the crate reads each formula as it reads one alone. A backslash takes nothing with it there,
     so the crate is handed the reference that `\\$` of prose becomes here."""
-    return changed(document, lambda units: ["&#x24;" if unit == ESCAPED_SIGN else unit for unit in units], for_crate)
+    handed = ""
+    for place, units in enumerate(parts(document)):
+        if place % 4 == 0:
+            units = ["&#x24;" if unit == ESCAPED_SIGN else unit for unit in units]
+        text = "".join(units)
+        handed += for_crate(text) if place % 4 == 2 else text
+    return handed
 
 
 def is_body(formula):
