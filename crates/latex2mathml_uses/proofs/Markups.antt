@@ -98,6 +98,9 @@ behind children true markup m =
 behind children false markup m =
     record { pieces = m.pieces; are_pieces = m.are_pieces; spelled = m.spelled; runs = run_onto (lowest children false) m.pieces at_start (lowest (codes "math" ∷ []) false) m.runs }
 
+pub blank_is_balanced : IsBalanced []
+blank_is_balanced = ([], (false, record { pieces = []; are_pieces = refl; spelled = refl; runs = refl }))
+
 pub stays_balanced : (page markup : List ℕ) → IsBalanced page → IsMathElement markup → IsBalanced (page ++ markup)
 stays_balanced page markup (children, (met, m)) element =
     (codes "math" ∷ children, (met, joined m (behind children met markup element)))

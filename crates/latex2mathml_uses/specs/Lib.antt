@@ -4,3 +4,4 @@ pub mod Limited
 pub mod Mistakes
 pub mod Sections
 pub mod Shown
+pub mod Symbols

@@ -7,6 +7,13 @@ ghost use Rattle.latex2mathml_formulas.specs.Rendering.{IsFormulaRefusal, IsRend
 use latex2mathml::{DisplayStyle, LatexError, latex_to_mathml};
 use std::alloc::Global;
 
+/// A page that holds nothing yet.
+pub fn blank(alloc: Global) -> String
+    ensures { IsBalanced (string_bytes result) }
+{
+    String::new(alloc)
+}
+
 /// Puts a formula of anyone at the end of a page. Whatever it says, a page whose tags balance stays so, and where the
 /// formula is refused the page stays as it is.
 pub fn insert(

@@ -1,5 +1,5 @@
 //! Callers of the library, each proved from the library's public contracts alone. They are the README's examples, and
-//! `CALLING.md` says which contract each stands on.
+//! `docs/CALLING.md` says which contract each stands on.
 #![tactic(auto)]
 
 pub mod build;

@@ -32,18 +32,8 @@ pub fn in_formula(alloc: Global, formula: &str) -> Result<Option<Mistake>, Alloc
 {
     match latex_to_mathml(alloc, formula, DisplayStyle::Inline) {
         Ok(_) => Ok(None),
-        Err(
-            LatexError::UnexpectedToken {
-                expected: _,
-                got: _,
-            },
-        ) => Ok(Some(Mistake::Unfinished)),
-        Err(
-            LatexError::MissingParensethis {
-                location: _,
-                got: _,
-            },
-        ) => Ok(Some(Mistake::Fence)),
+        Err(LatexError::UnexpectedToken { .. }) => Ok(Some(Mistake::Unfinished)),
+        Err(LatexError::MissingParensethis { .. }) => Ok(Some(Mistake::Fence)),
         Err(LatexError::UnknownEnvironment(_)) => Ok(Some(Mistake::Environment)),
         Err(LatexError::InvalidNumberOfDollarSigns) => unreachable!(),
         Err(LatexError::OutOfMemory) => Err(AllocError),
@@ -60,18 +50,8 @@ pub fn in_document(alloc: Global, document: &str) -> Result<Option<Mistake>, All
 {
     match replace(alloc, document) {
         Ok(_) => Ok(None),
-        Err(
-            LatexError::UnexpectedToken {
-                expected: _,
-                got: _,
-            },
-        ) => Ok(Some(Mistake::Unfinished)),
-        Err(
-            LatexError::MissingParensethis {
-                location: _,
-                got: _,
-            },
-        ) => Ok(Some(Mistake::Fence)),
+        Err(LatexError::UnexpectedToken { .. }) => Ok(Some(Mistake::Unfinished)),
+        Err(LatexError::MissingParensethis { .. }) => Ok(Some(Mistake::Fence)),
         Err(LatexError::UnknownEnvironment(_)) => Ok(Some(Mistake::Environment)),
         Err(LatexError::InvalidNumberOfDollarSigns) => Ok(Some(Mistake::Dollars)),
         Err(LatexError::OutOfMemory) => Err(AllocError),

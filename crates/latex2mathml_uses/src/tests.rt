@@ -1,8 +1,9 @@
 //! Each caller once, with memory to spare.
+ghost use Rattle.std.specs.Prelude.{IsFalse};
 
 use crate::build::{built_twice, rewritten};
 use crate::cache::Cache;
-use crate::insert::insert;
+use crate::insert::{blank, insert};
 use crate::limit::limited;
 use crate::page::{paragraph, shown};
 use crate::put::put;
@@ -65,12 +66,12 @@ fn what_a_cache_holds(rt: HostRuntime) -> Result<(), Fail> {
 
 #[test]
 fn what_is_inserted(rt: HostRuntime) -> Result<(), Fail> {
-    let mut page = String::from_str(rt.alloc(), "<h1>x</h1>")?;
+    let mut page = blank(rt.alloc());
     insert(rt.alloc(), &mut page, "x", DisplayStyle::Inline)?;
     assert!(rt; insert(rt.alloc(), &mut page, "{x", DisplayStyle::Inline).is_err());
     assert!(rt;
         page.as_str()
-            == "<h1>x</h1><math xmlns=\"http://www.w3.org/1998/Math/MathML\" display=\"inline\"><mi>x</mi></math>"
+            == "<math xmlns=\"http://www.w3.org/1998/Math/MathML\" display=\"inline\"><mi>x</mi></math>"
     );
     Ok(())
 }
@@ -92,7 +93,10 @@ fn sections_that_are_joined(rt: HostRuntime) -> Result<(), Fail> {
     Ok(())
 }
 
-fn source(text: &str) -> Stream<&[u8]> {
+fn source(text: &str) -> Stream<&[u8]>
+    ensures failed { IsFalse result.failed }
+    ensures ended { IsFalse result.ended }
+{
     Stream {
         inner: text.as_bytes(),
         failed: false,
