@@ -1,0 +1,3 @@
+mod CachedRenderings
+mod Markups
+mod Mending

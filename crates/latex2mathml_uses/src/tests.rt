@@ -1,8 +1,16 @@
 //! Each caller once, with memory to spare.
+ghost use Rattle.std.specs.Prelude.{IsFalse};
 
+use crate::build::{built_twice, rewritten};
+use crate::cache::Cache;
+use crate::insert::{blank, insert};
+use crate::limit::limited;
 use crate::page::{paragraph, shown};
 use crate::put::put;
+use crate::refusal::{Mistake, in_document, in_formula};
 use crate::symbol::symbol;
+use crate::wiki::{converted, ends_open, joined};
+use latex2mathml::{DisplayStyle, Stream};
 use std::test::Fail;
 
 #[test]
@@ -40,5 +48,91 @@ fn the_symbol_of_a_command(rt: HostRuntime) -> Result<(), Fail> {
     assert!(rt; symbol(rt.alloc(), "alpha")? == Some('α'));
     assert!(rt; symbol(rt.alloc(), "to")? == Some('→'));
     assert!(rt; symbol(rt.alloc(), "frac")? == None);
+    Ok(())
+}
+
+#[test]
+fn what_a_cache_holds(rt: HostRuntime) -> Result<(), Fail> {
+    let mut cache = Cache::new(rt.alloc());
+    assert!(rt; cache.held("x", DisplayStyle::Block).is_none());
+    let markup = cache.markup(rt.alloc(), "x", DisplayStyle::Block)?;
+    assert!(rt; cache.held("x", DisplayStyle::Block) == Some(&markup));
+    assert!(rt; cache.held("x", DisplayStyle::Inline).is_none());
+    assert!(rt; cache.markup(rt.alloc(), "x", DisplayStyle::Block)? == markup);
+    assert!(rt; cache.markup(rt.alloc(), "{x", DisplayStyle::Block).is_err());
+    assert!(rt; cache.held("{x", DisplayStyle::Block).is_none());
+    Ok(())
+}
+
+#[test]
+fn what_is_inserted(rt: HostRuntime) -> Result<(), Fail> {
+    let mut page = blank(rt.alloc());
+    insert(rt.alloc(), &mut page, "x", DisplayStyle::Inline)?;
+    assert!(rt; insert(rt.alloc(), &mut page, "{x", DisplayStyle::Inline).is_err());
+    assert!(rt;
+        page.as_str()
+            == "<math xmlns=\"http://www.w3.org/1998/Math/MathML\" display=\"inline\"><mi>x</mi></math>"
+    );
+    Ok(())
+}
+
+#[test]
+fn sections_that_are_joined(rt: HostRuntime) -> Result<(), Fail> {
+    let first = converted(rt.alloc(), "One is $x$, ")?;
+    let second = converted(rt.alloc(), "and \\$2.")?;
+    assert!(rt; !ends_open(first.source.as_str()));
+    let page = joined(rt.alloc(), &first, &second)?;
+    assert!(rt; page.source.as_str() == "One is $x$, and \\$2.");
+    assert!(rt;
+        page.shown.as_str()
+            == "One is <math xmlns=\"http://www.w3.org/1998/Math/MathML\" display=\"inline\"><mi>x</mi></math>, and &#x24;2."
+    );
+    assert!(rt; ends_open("a\\"));
+    assert!(rt; !ends_open("a\\\\"));
+    assert!(rt; !ends_open(""));
+    Ok(())
+}
+
+fn source(text: &str) -> Stream<&[u8]>
+    ensures failed { IsFalse result.failed }
+    ensures ended { IsFalse result.ended }
+{
+    Stream {
+        inner: text.as_bytes(),
+        failed: false,
+        ended: false,
+    }
+}
+
+#[test]
+fn a_build_that_runs_twice(rt: HostRuntime) -> Result<(), Fail> {
+    let page = built_twice(rt.alloc(), "$x$")?;
+    assert!(rt;
+        page.as_str()
+            == "<math xmlns=\"http://www.w3.org/1998/Math/MathML\" display=\"inline\"><mi>x</mi></math>"
+    );
+    let first = rewritten(rt.alloc(), &mut source("$x$"))?;
+    assert!(rt; first == Some(page));
+    let second = rewritten(rt.alloc(), &mut source("<math></math>"))?;
+    assert!(rt; second == None);
+    Ok(())
+}
+
+#[test]
+fn what_is_to_be_mended(rt: HostRuntime) -> Result<(), Fail> {
+    assert!(rt; in_formula(rt.alloc(), "x$")? == None);
+    assert!(rt; in_formula(rt.alloc(), "{x")? == Some(Mistake::Unfinished));
+    assert!(rt; in_formula(rt.alloc(), "\\left x")? == Some(Mistake::Fence));
+    assert!(rt; in_formula(rt.alloc(), "\\begin{box}x\\end{box}")? == Some(Mistake::Environment));
+    assert!(rt; in_document(rt.alloc(), "$x$")? == None);
+    assert!(rt; in_document(rt.alloc(), "${x$")? == Some(Mistake::Unfinished));
+    assert!(rt; in_document(rt.alloc(), "$x")? == Some(Mistake::Dollars));
+    Ok(())
+}
+
+#[test]
+fn what_is_within_a_limit(rt: HostRuntime) -> Result<(), Fail> {
+    assert!(rt; limited(rt.alloc(), "x+1", DisplayStyle::Inline, 3)?.is_some());
+    assert!(rt; limited(rt.alloc(), "x+1", DisplayStyle::Inline, 2)?.is_none());
     Ok(())
 }

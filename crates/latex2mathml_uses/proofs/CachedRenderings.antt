@@ -1,0 +1,37 @@
+-- A text has one rendering, and a map that is given renderings alone holds nothing else.
+use Rattle.std.proofs.Common.{◌≡◌, ℕ, Bool, true, false, cond, List, Option, Some, None, String, Bor, refl, sym, ap, ◌∙◌, subst, string_bytes}
+use Rattle.std.specs.Prelude.{IfSome, option_map, option_copied}
+use Rattle.std.specs.Cmp.Lexicographic.{bytes_decides}
+use Rattle.std.specs.HashMap.{HashMap, get_by_text}
+use Rattle.std.specs.Map.{update}
+use Rattle.std.specs.Str.{bytes_eq, chars}
+use Rattle.latex2mathml_tokens.specs.declared.DisplayStyle.{DisplayStyle}
+use Rattle.latex2mathml_formulas.specs.Grammar.{Reading}
+use Rattle.latex2mathml_formulas.specs.Rendering.{IsRendering, math_print}
+use Rattle.latex2mathml_formulas.specs.TokenLists.{TextHasOneReading}
+use Rattle.latex2mathml_uses.specs.Cached.{HoldsRenderings, IsOnlyRendering}
+
+one_rendering : (text : List ℕ) (display : DisplayStyle) (markup other : List ℕ) → TextHasOneReading (chars text) → IsRendering text display markup → IsRendering text display other → other ≡ markup
+unfolding IsRendering
+one_rendering text display markup other one (ts, h, d) (us, k, e) =
+    let same : ts ≡ us = one.one_list.one ts us h k in
+    e.2 ∙ ap (math_print display) ((one.read us k).one_reading e.0 d.0 e.1 (subst (λ l. Reading l d.0) same d.1)) ∙ sym d.2
+
+-- what is rendered once is the only rendering
+pub only_rendering : (text : List ℕ) (display : DisplayStyle) (markup : List ℕ) → TextHasOneReading (chars text) → IsRendering text display markup → IsOnlyRendering text display markup
+only_rendering text display markup one is =
+    record { rendering = is; no_other = λ other also. one_rendering text display markup other one is also }
+
+-- what is lent from a map holds what is said of the map
+pub lent : {Y : Type 0} (P : List ℕ → Type 0) (o : Option (Bor (String Y))) (m : Option (String Y)) → option_copied o ≡ m → IfSome (option_map string_bytes m) P → IfSome o (λ x. P (string_bytes x.now))
+lent P None m e h = tt
+lent P (Some x) m e h = subst (λ v. IfSome (option_map string_bytes v) P) (sym e) h
+
+-- with one rendering more the map holds renderings alone
+pub one_more : {K V S : Type 0} (old new : HashMap (String K) (String V) S) (text : List ℕ) (markup : String V) (display : DisplayStyle) → HoldsRenderings display old → IsOnlyRendering text display (string_bytes markup) → ((q : List ℕ) → get_by_text new q ≡ update bytes_eq (get_by_text old) text (Some markup) q) → HoldsRenderings display new
+one_more old new text markup display sound only sets q =
+    subst (λ o. IfSome (option_map string_bytes o) (λ m. IsOnlyRendering q display m)) (sym (sets q)) (at (bytes_eq text q) refl)
+  where
+    at : (b : Bool) → bytes_eq text q ≡ b → IfSome (option_map string_bytes (cond b (Some markup) (get_by_text old q))) (λ m. IsOnlyRendering q display m)
+    at true same = subst (λ t. IsOnlyRendering t display (string_bytes markup)) ((bytes_decides text q).0 same) only
+    at false differs = sound q

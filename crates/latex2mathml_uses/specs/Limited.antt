@@ -1,0 +1,8 @@
+-- The size of a formula.
+use Rattle.std.specs.Prelude.{◌≡◌, ℕ, List, false, length}
+use Rattle.std.specs.Str.{chars}
+use Rattle.latex2mathml_formulas.specs.Spelling.{Slice, HasSlices}
+
+-- the text is cut into so many slices, a token each
+abbrev pub HasTokenCount : List ℕ → ℕ → Type 0
+HasTokenCount text count = (slices : List Slice) × HasSlices false (chars text) slices × (count ≡ length slices)

@@ -1,0 +1,11 @@
+-- What an author is to mend.
+use Rattle.latex2mathml_tokens.specs.Refusal.{Refusal, UnexpectedToken, MissingParensethis, UnknownEnvironment, InvalidNumberOfDollarSigns}
+use Rattle.latex2mathml_uses.specs.declared.refusal.Mistake.{Mistake}
+use Rattle.latex2mathml_uses.specs.declared.refusal.Mistake.TheVariants.{Unfinished, Fence, Environment, Dollars}
+
+-- where the refusal is this one
+abbrev pub mistake_of : Refusal → Mistake
+mistake_of (UnexpectedToken expected got) = Unfinished
+mistake_of (MissingParensethis location got) = Fence
+mistake_of (UnknownEnvironment name) = Environment
+mistake_of InvalidNumberOfDollarSigns = Dollars

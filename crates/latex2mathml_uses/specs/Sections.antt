@@ -1,0 +1,8 @@
+-- Sections of a page.
+use Rattle.std.specs.Prelude.{string_bytes}
+use Rattle.latex2mathml.specs.Documents.{IsAnswer}
+use Rattle.latex2mathml_uses.specs.declared.wiki.Section.{Section}
+
+-- what is shown is the answer for the source
+abbrev pub IsConverted : Section → Type 0
+IsConverted section = IsAnswer (string_bytes section.source) (string_bytes section.shown)

@@ -1,0 +1,59 @@
+//! Refusals, and what an author is to mend.
+ghost use Rattle.std.specs.Prelude.{◌≡◌, ◌≢◌, ◌↔◌, Some, ℕ, List, IfOk, MatchOption};
+ghost use Rattle.latex2mathml.specs.Documents.{HasNoCut, IsAnswer, IsRefusal};
+ghost use Rattle.latex2mathml_tokens.specs.Refusal.{Refusal};
+ghost use Rattle.latex2mathml_formulas.specs.Rendering.{IsFormulaRefusal, IsRendering};
+ghost use Rattle.latex2mathml_tokens.specs.declared.DisplayStyle.TheVariants.{Inline};
+ghost use Rattle.latex2mathml_uses.specs.Mistakes.{mistake_of};
+ghost use Rattle.latex2mathml_uses.specs.declared.refusal.Mistake.TheVariants.{Dollars};
+
+use latex2mathml::{DisplayStyle, LatexError, latex_to_mathml, replace};
+use std::alloc::{AllocError, Global};
+
+/// What an author is to mend.
+#[derive(Debug, Clone, Copy, PartialEq, Eq)]
+pub enum Mistake {
+    /// A group that is not closed, or a size without a parenthesis.
+    Unfinished,
+    /// A fence, or what is stretched between two, that is none.
+    Fence,
+    /// An environment that there is not.
+    Environment,
+    /// Dollar signs that do not mark off formulas.
+    Dollars,
+}
+
+/// What is to be mended in a formula, or nothing where it has markup. It is never a dollar sign: those are a document's.
+pub fn in_formula(alloc: Global, formula: &str) -> Result<Option<Mistake>, AllocError>
+    ensures told { IfOk result (λ found. MatchOption found
+        ((markup : List ℕ) × IsRendering formula.now Inline markup)
+        (λ mistake. (refusal : Refusal) × IsFormulaRefusal formula.now refusal × (mistake ≡ mistake_of refusal))) }
+    ensures never { IfOk result (λ found. found ≢ Some Dollars) }
+{
+    match latex_to_mathml(alloc, formula, DisplayStyle::Inline) {
+        Ok(_) => Ok(None),
+        Err(LatexError::UnexpectedToken { .. }) => Ok(Some(Mistake::Unfinished)),
+        Err(LatexError::MissingParensethis { .. }) => Ok(Some(Mistake::Fence)),
+        Err(LatexError::UnknownEnvironment(_)) => Ok(Some(Mistake::Environment)),
+        Err(LatexError::InvalidNumberOfDollarSigns) => unreachable!(),
+        Err(LatexError::OutOfMemory) => Err(AllocError),
+    }
+}
+
+/// What is to be mended in a document, or nothing where it has an answer. It is a dollar sign exactly where the document
+/// cannot be cut into prose and formulas.
+pub fn in_document(alloc: Global, document: &str) -> Result<Option<Mistake>, AllocError>
+    ensures told { IfOk result (λ found. MatchOption found
+        ((answer : List ℕ) × IsAnswer document.now answer)
+        (λ mistake. (refusal : Refusal) × IsRefusal document.now refusal × (mistake ≡ mistake_of refusal))) }
+    ensures dollars { IfOk result (λ found. (found ≡ Some Dollars) ↔ HasNoCut document.now) }
+{
+    match replace(alloc, document) {
+        Ok(_) => Ok(None),
+        Err(LatexError::UnexpectedToken { .. }) => Ok(Some(Mistake::Unfinished)),
+        Err(LatexError::MissingParensethis { .. }) => Ok(Some(Mistake::Fence)),
+        Err(LatexError::UnknownEnvironment(_)) => Ok(Some(Mistake::Environment)),
+        Err(LatexError::InvalidNumberOfDollarSigns) => Ok(Some(Mistake::Dollars)),
+        Err(LatexError::OutOfMemory) => Err(AllocError),
+    }
+}
