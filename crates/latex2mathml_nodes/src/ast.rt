@@ -16,8 +16,9 @@ use std::alloc::{AllocError, Global};
 
 /// A part of a formula. Its `Display` prints the markup, and escapes texts and characters there.
 ///
-/// Printing, copying and comparing recurse as deep as it is nested. Dropping is a loop and takes no memory, however deep
-/// it is. As it has a `drop` of its own, match on a reference to it: only its methods take it apart.
+/// `Display`, copying, comparing and [`Node::set_variant`] recurse as deep as it is nested; [`Node::append_markup`] and
+/// [`Node::styled`] do not, and take memory in place of that. Dropping is a loop and takes no memory, however deep it is. As
+/// it has a `drop` of its own, match on a reference to it: only its methods take it apart.
 #[derive(Debug)]
 pub enum Node {
     Number(String),
