@@ -1,5 +1,5 @@
 -- A document is answered piece by piece, and refused for its first refused piece.
-use Rattle.std.proofs.Common.{◌≡◌, ℕ, List, [], ◌∷◌, ◌++◌, Option, Some, None, inl, inr, refl, sym, ap, ◌∙◌, append_assoc, append-nil, subst}
+use Rattle.std.proofs.Common.{◌≡◌, ◌⊎◌, ℕ, List, [], ◌∷◌, ◌++◌, Option, Some, None, inl, inr, refl, sym, ap, ◌∙◌, append_assoc, append-nil, subst}
 use Rattle.std.specs.Prelude.{IfSome}
 use Rattle.latex2mathml.specs.Pieces.{BeginsWith, IsFront}
 use Rattle.latex2mathml.specs.Documents.{Piece, IsCut, HasCut, HasNoCut, PieceAnswer, PiecesAnswer, IsAnswer, PieceRefuses, FirstRefused, IsRefusal}
@@ -43,3 +43,8 @@ module _ (document : List ℕ) (given : List Piece) (text : List ℕ) (piece : P
   -- as an error tells it
   pub refused : (told : Option Refusal) → IfSome told (PieceRefuses piece) → IfSome told (IsRefusal document)
   refused told r = refused_more told (PieceRefuses piece) (IsRefusal document) refused_with r
+
+-- the refusal that is reported where the first error, of a formula, tells another: dollar signs come first
+pub dollars_first : (document : List ℕ) (reported told : Option Refusal) → (HasNoCut document × (reported ≡ Some InvalidNumberOfDollarSigns)) ⊎ (HasCut document × (reported ≡ told)) → (HasCut document → IfSome told (IsRefusal document)) → IfSome reported (IsRefusal document)
+dollars_first document reported told (inl (none, is)) refused = rw is (no_cut_refused document none)
+dollars_first document reported told (inr (cut, is)) refused = rw is (refused cut)

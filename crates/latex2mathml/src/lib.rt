@@ -35,8 +35,8 @@ pub use stream::{Sink, Source, Stream, write_document};
 /// A backslash takes the character behind it with it, so the dollar sign of `\$` begins and ends no formula. In a formula
 /// it is the letter `$`, and outside formulas it becomes `&#x24;`. The answer holds no dollar sign.
 ///
-/// [`LatexError::InvalidNumberOfDollarSigns`] comes, before any formula is looked at, where the other dollar signs do not
-/// pair so or a formula is empty. Otherwise the first formula that [`latex_to_mathml`] refuses decides.
+/// [`LatexError::InvalidNumberOfDollarSigns`] comes where the other dollar signs do not pair so or a formula is empty,
+/// whatever the formulas say. Otherwise the first formula that [`latex_to_mathml`] refuses decides.
 pub fn replace(alloc: Global, input: &str) -> Result<String, LatexError>
     ensures answer { IfOk result (λ answer. IsAnswer input.now (string_bytes answer)) }
     ensures refusal { IfRefused result (IsRefusal input.now) }

@@ -1,8 +1,8 @@
 //! Documents, piece by piece, to their answers.
-ghost use Rattle.std.specs.Prelude.{◌≡◌, ℕ, ◌++◌, List, IfOk, OnOk, string_bytes};
+ghost use Rattle.std.specs.Prelude.{◌≡◌, ◌⊎◌, ℕ, ◌++◌, List, IfOk, OnOk, Some, string_bytes};
 ghost use Rattle.latex2mathml.specs.Pieces.{piece_of};
-ghost use Rattle.latex2mathml.specs.Documents.{IsAnswer, IsPiece, IsPlain, IsRefusal, PieceAnswer, PieceRefuses, prose_answer};
-ghost use Rattle.latex2mathml_tokens.specs.Refusal.{IfRefused};
+ghost use Rattle.latex2mathml.specs.Documents.{HasCut, HasNoCut, IsAnswer, IsPiece, IsPlain, IsRefusal, PieceAnswer, PieceRefuses, prose_answer};
+ghost use Rattle.latex2mathml_tokens.specs.Refusal.{IfRefused, InvalidNumberOfDollarSigns, refusal_of};
 
 use crate::document::{NoCut, Piece, Pieces, check_cut};
 use latex2mathml_formulas::append_formula;
@@ -24,12 +24,26 @@ pub(crate) fn converted(alloc: Global, document: &str) -> Result<String, LatexEr
     ensures answer { IfOk result (λ answer. IsAnswer document.now (string_bytes answer)) }
     ensures refusal { IfRefused result (IsRefusal document.now) }
 {
-    check_cut(document)?;
     let mut answer = String::new(alloc);
     for piece in Pieces::new(document) {
-        append_piece(alloc, &mut answer, piece?)?;
+        let piece = piece?;
+        if let Err(error) = append_piece(alloc, &mut answer, piece) {
+            return Err(refusal(document, error));
+        }
     }
     Ok(answer)
+}
+
+/// The error of a document whose first error is this one, of a formula. Dollar signs come first, and those behind the formula
+/// were not looked at yet: only a document that is refused is cut twice.
+fn refusal(document: &str, error: LatexError) -> LatexError
+    ensures { (HasNoCut document.now × (refusal_of result ≡ Some InvalidNumberOfDollarSigns))
+        ⊎ (HasCut document.now × (refusal_of result ≡ refusal_of error)) }
+{
+    match check_cut(document) {
+        Ok(()) => error,
+        Err(no_cut) => LatexError::from(no_cut),
+    }
 }
 
 /// Puts what becomes of a piece behind the text.
