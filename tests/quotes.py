@@ -1,0 +1,83 @@
+"""What documents quote of the sources: lines of definitions, and signatures with their clauses.
+
+A definition is linked by its line, as [`IsAnswer`](../crates/latex2mathml/specs/Documents.antt#L93). A signature is a block
+of Rust behind a comment that names its file: `<!-- quoted from crates/latex2mathml/src/lib.rt -->`.
+"""
+import re
+from dataclasses import dataclass
+from pathlib import Path
+
+from tests.support import ROOT
+
+DEFINITION = re.compile(r"\[`(?P<word>[^`]+)`\]\((?P<path>[^)#\s]+\.antt)#L(?P<line>\d+)\)")
+QUOTE = re.compile(r"<!-- quoted from (?P<path>\S+) -->\n```rust\n(?P<text>.*?)```", re.S)
+
+# what the library's crates offer to callers
+LIBRARY = ("latex2mathml_tokens", "latex2mathml_nodes", "latex2mathml_formulas", "latex2mathml")
+
+
+@dataclass(frozen=True)
+class Definition:
+    """A link to a definition's line."""
+    document: Path
+    word: str
+    source: Path
+    line: int
+
+    def line_now(self):
+        """The line in which the definition begins, or None where there is none."""
+        begins = re.compile(rf"\s*(?:(?:abbrev|unfoldable|opaque) )?(?:pub )?(?:(?:data|record) )?{re.escape(self.word)}(?=[\s:({{]|$)")
+        for number, line in enumerate(self.source.read_text().split("\n"), 1):
+            if begins.match(line) and not line.lstrip().startswith("--") and re.search(r"[:({]", line):
+                return number
+        return None
+
+
+def definitions(document):
+    """The links to definitions in a document."""
+    for found in DEFINITION.finditer(document.read_text()):
+        source = (document.parent / found["path"]).resolve()
+        yield Definition(document, found["word"], source, int(found["line"]))
+
+
+def renew(document):
+    """Puts the line of today into each link to a definition."""
+    def renewed(found):
+        link = Definition(document, found["word"], (document.parent / found["path"]).resolve(), int(found["line"]))
+        return f"[`{found['word']}`]({found['path']}#L{link.line_now()})"
+
+    text = document.read_text()
+    new = DEFINITION.sub(renewed, text)
+    if new != text:
+        document.write_text(new)
+
+
+@dataclass(frozen=True)
+class Quote:
+    """A block of Rust that a document quotes."""
+    source: Path
+    text: str
+
+    def stands(self):
+        """Whether the source has these lines, whatever their indentation."""
+        return plain(self.text) in plain(self.source.read_text())
+
+
+def plain(text):
+    return " ".join(text.split())
+
+
+def quoted(document):
+    """The blocks that a document quotes."""
+    for found in QUOTE.finditer(document.read_text()):
+        yield Quote(ROOT / found["path"], found["text"])
+
+
+def public_calls():
+    """The names of the library's public functions that have a contract, those of traits left out."""
+    names = set()
+    for crate in LIBRARY:
+        for source in sorted((ROOT / "crates" / crate / "src").rglob("*.rt")):
+            for found in re.finditer(r"^ *pub (?:const )?fn (\w+)", source.read_text(), re.M):
+                names.add(found[1])
+    return sorted(names)

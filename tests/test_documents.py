@@ -1,0 +1,163 @@
+"""What the documents claim is so: links lead somewhere, commands print what is shown, quoted source is the source's, and
+sentences stay short.
+
+`python3 -m tests.test_documents` renews the line numbers of links to definitions.
+"""
+import re
+import sys
+import unittest
+
+from tests import quotes
+from tests.support import ROOT, Case, program, run, scratch
+
+# the most words that a sentence may have
+LONGEST = 35
+
+README_LINES = 130
+
+
+def documents():
+    """The documents that git keeps."""
+    listed = run(["git", "-C", ROOT, "ls-files", "-co", "--exclude-standard", "*.md"]).stdout.decode().split("\n")
+    return [ROOT / name for name in listed if name and (ROOT / name).is_file()]
+
+
+def without_code(text):
+    """The text without its blocks of code, fenced or indented."""
+    text = re.sub(r"^```.*?^```$", "", text, flags=re.M | re.S)
+    return re.sub(r"(?:^|\n)(?:(?:    .*)?\n)+(?=\n|\S)", lambda block: block[0] if not re.search(r"^    \S", block[0], re.M) else "\n\n", text)
+
+
+def anchors(text):
+    """The anchors of a document's headings, as GitHub makes them."""
+    found = set()
+    for heading in re.findall(r"^#+ +(.*?)\s*$", re.sub(r"^```.*?^```$", "", text, flags=re.M | re.S), re.M):
+        plain = re.sub(r"\[([^\]]*)\]\([^)]*\)", r"\1", heading).lower()
+        found.add(re.sub(r"[^\w\- ]", "", plain).replace(" ", "-"))
+    return found
+
+
+class Links(Case):
+    def test_each_leads_somewhere(self):
+        broken = []
+        for document in documents():
+            for target in re.findall(r"\]\(([^)\s]+)\)", without_code(document.read_text())):
+                if re.match(r"[a-z]+:", target):
+                    continue
+                path, _, anchor = target.partition("#")
+                led = (document.parent / path).resolve() if path else document
+                if not led.exists():
+                    broken.append(f"{document.relative_to(ROOT)}: {target}: there is no such file")
+                elif anchor and led.suffix == ".md" and anchor not in anchors(led.read_text()):
+                    broken.append(f"{document.relative_to(ROOT)}: {target}: there is no such heading")
+        self.assertFalse(broken, "\n".join(broken))
+
+    def test_definitions_stand_in_their_lines(self):
+        stale = [f"{link.document.relative_to(ROOT)}: {link.word} stands in line {link.line_now()}, not in {link.line}"
+                 for document in documents() for link in quotes.definitions(document) if link.line_now() != link.line]
+        self.assertFalse(stale, "\n".join([*stale, "renew them by: python3 -m tests.test_documents"]))
+
+
+class Quotes(Case):
+    def test_signatures_are_those_of_the_source(self):
+        wrong = []
+        for document in documents():
+            for quote in quotes.quoted(document):
+                if not quote.stands():
+                    wrong.append(f"{document.relative_to(ROOT)}: {quote.source.relative_to(ROOT)} does not have\n{quote.text}")
+        self.assertFalse(wrong, "\n".join(wrong))
+
+    def test_each_public_call_is_quoted(self):
+        document = ROOT / "docs/CALLING.md"
+        text = document.read_text()
+        missing = [name for name in quotes.public_calls() if f"fn {name}" not in text]
+        self.assertFalse(missing, f"docs/CALLING.md does not quote: {', '.join(missing)}")
+
+
+class Sentences(Case):
+    def test_none_is_long(self):
+        long = []
+        for document in documents():
+            for sentence in sentences(without_code(document.read_text())):
+                if len(sentence.split()) > LONGEST:
+                    long.append(f"{document.relative_to(ROOT)}: {len(sentence.split())} words: {sentence}")
+        self.assertFalse(long, "\n".join(long))
+
+
+def sentences(text):
+    """The sentences of a document's prose, without tables and headings; a member of a list begins one."""
+    kept = [line for line in text.split("\n") if not re.match(r"\s*(\||#|!\[|\[.*\]:)", line)]
+    prose = re.sub(r"^\s*(?:[-*]|\d+\.) +", "\n\n", "\n".join(kept), flags=re.M)
+    prose = re.sub(r"``.*?``|`[^`]*`", "code", prose, flags=re.S)
+    # an enumeration of code, with the sign of each command behind it, is read as one word
+    item = r"code(?:\s+(?:code|\S{1,2})(?:\s+\(U\+\w+\))?)?"
+    prose = re.sub(rf"{item}(?:,\s+(?:and\s+)?{item})+", "code", prose)
+    prose = re.sub(r"\]\([^)]*\)", "]", prose)
+    for paragraph in re.split(r"\n\s*\n", prose):
+        yield from (part.strip() for part in re.split(r"(?<=[.?!])[)\"]?\s+", " ".join(paragraph.split())) if part.strip())
+
+
+class Readme(Case):
+    text = (ROOT / "README.md").read_text()
+
+    def test_is_short(self):
+        self.assertLessEqual(self.text.count("\n"), README_LINES)
+
+    def test_its_formula_prints_what_it_shows(self):
+        shown = re.search(r"^    (printf '(.*)' \| \./latex2mathml (\w+))\n\nprints\n\n    (.*)\n", self.text, re.M)
+        self.assertIsNotNone(shown)
+        done = run([program(), shown[3]], stdin=shown[2].encode())
+        self.expect(done, stdout=f"{shown[4]}\n".encode())
+
+    def test_its_refusal_is_the_one_that_it_shows(self):
+        shown = re.search(r"^    \$ printf '(.*)' \| \./latex2mathml (\w+)\n    (.*)\n", self.text, re.M)
+        self.assertIsNotNone(shown)
+        done = run([program(), shown[2]], stdin=shown[1].encode())
+        self.expect(done, status=1, stdout=b"", stderr=f"{shown[3]}\n".encode())
+
+    def test_its_words_are_all_that_there_are(self):
+        words = re.findall(r"^\| `latex2mathml (\w+)(?: PATH)?` \|", self.text, re.M)
+        usage = run([program()])
+        self.expect(usage, status=2, stdout=b"", stderr=None)
+        self.assertEqual(sorted(words), sorted(re.findall(r"\b(inline|block|document|html)\b", usage.stderr.decode())))
+
+    def test_its_statuses(self):
+        self.assertIn("the status is 1", self.text)
+        self.assertIn("0 on success and 2 where the arguments are wrong", self.text)
+        self.expect(run([program(), "inline"], stdin=b"x"), stdout=None)
+        self.expect(run([program(), "inline"], stdin=b"{"), status=1, stdout=b"", stderr=None)
+        self.expect(run([program(), "wrong"]), status=2, stdout=b"", stderr=None)
+
+    def test_its_site_is_converted_over_a_copy(self):
+        command = re.search(r"^    (cp -R site site\.new && .*)\n", self.text, re.M)
+        self.assertIsNotNone(command)
+        folder = self.enterContext(scratch())
+        (folder / "site").mkdir()
+        (folder / "site/a.html").write_text("<p>$x$</p>")
+        (folder / "latex2mathml").symlink_to(program())
+        self.expect(run(["sh", "-c", command[1]], cwd=folder), stdout=b"")
+        self.assertEqual((folder / "site.old/a.html").read_text(), "<p>$x$</p>")
+        self.assertIn("<mi>x</mi>", (folder / "site/a.html").read_text())
+
+
+class Versions(Case):
+    """The version stands in one place, the newest heading of the change log, and all else says the same."""
+
+    def test_all_are_one(self):
+        newest = re.search(r"^## (\d+\.\d+\.\d+)", (ROOT / "CHANGELOG.md").read_text(), re.M)[1]
+        for name, pattern in {
+            "crates/latex2mathml_c/include/latex2mathml.h": r'#define LATEX2MATHML_VERSION "(.*)"',
+            "integrations/python/pyproject.toml": r'^version = "(.*)"',
+            "integrations/node/package.json": r'"version": "(.*)"',
+            "integrations/rust/Cargo.toml": r'^version = "(.*)"',
+        }.items():
+            with self.subTest(name):
+                found = re.search(pattern, (ROOT / name).read_text(), re.M)
+                self.assertIsNotNone(found, f"{name} has no version")
+                self.assertEqual(found[1], newest)
+
+
+if __name__ == "__main__":
+    for document in documents():
+        quotes.renew(document)
+    sys.exit(0)
