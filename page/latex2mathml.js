@@ -29,9 +29,37 @@ const latex2mathml = (() => {
         'double-struck': {C: 'ℂ', H: 'ℍ', N: 'ℕ', P: 'ℙ', Q: 'ℚ', R: 'ℝ', Z: 'ℤ'},
     };
     // Browsers stretch these to the tallest thing beside them where the markup does not say otherwise.
-    const UPRIGHT = [...'()[]{}|‖∣∥⟨⟩⌈⌉⌊⌋⦗⦘⟦⟧↑↓↕⇑⇓⇕↿↾⇃⇂⇈⇊'];
-    const SCRIPTED = ':is(msub, msup, msubsup, munder, mover, munderover) > :first-child';
-    const THIN = '0.167em';
+    const UPRIGHT = [...'()[]{}|‖∣∥⟨⟩⌈⌉⌊⌋⦗⦘⟦⟧↑↓↕⇑⇓⇕↿↾⇃⇂⇈⇊↰↱'];
+    const CENTRED = {'-': '−', '*': '∗'};
+
+    // TeX's classes of what stands in a row. A MARK is a relation between two operands, and ordinary elsewhere.
+    const [ORDINARY, OPERATOR, BINARY, RELATION, OPENING, CLOSING, PUNCTUATION, INNER, MIDDLE, MARK] = Array(10).keys();
+    const SIGNS = [
+        [ORDINARY, /^[./|'′‖¬∀∃∄∂𝜕∇⊤▽⋮]/u],
+        [OPERATOR, /^[∏-∑∫-∳⋀-⋃⨀-⨉]/u],
+        [BINARY, /^[-+*±×÷·−∓∔∖-∙∧-∪≀⊌-⊎⊓-⊡⊲-⊵⊺-⊽⋄-⋇⋉-⋌⋎⋏⋒⋓⋖⋗◁▷◯⤙⤚⧄⧅⧈⨿﹨]/u],
+        [RELATION, /^[:<=>←-⇿∈-∍∝∣∤∼≁-⊋⊏-⊒⊢⊣⊦-⊱⊸⋈⋍⋐⋑⋔-⋭⌢⌣△⟵-⟿⤀-⥿⩦-⫠]/u],
+        [OPENING, /^[([{⟨⌈⌊⦗⟦]/u],
+        [CLOSING, /^[)\]}⟩⌉⌋⦘⟧!]/u],
+        [PUNCTUATION, /^[,;]/u],
+        [INNER, /^[…⋯⋱]/u],
+        [MARK, /^[∥⊥]/u],
+    ];
+    const NAMES = [[OPERATOR, /^\p{L}{2}/u], [BINARY, /^[†‡]/u], [RELATION, /^[∴∵]/u], [PUNCTUATION, /^:/u]];
+    const INVISIBLE = /^[\u2061-\u2064]/u;
+    const ENDS = [ORDINARY, CLOSING, INNER];
+    const BEGINS = [ORDINARY, OPERATOR, BINARY, OPENING, INNER, MARK];
+    // TeX's spaces between two neighbours, a row for each class of the left one: none, thin, thin, medium and thick.
+    // In scripts only the second of the thin ones is left.
+    const SPACES = ['02340001', '22040001', '33003003', '44004004', '00000000', '02340001', '11011111', '12341011'];
+    const WIDTHS = ['0', '0.167em', '0.167em', '0.222em', '0.278em'];
+
+    const ROWS = ':is(math, mrow, mstyle, msqrt, mtd)';
+    const BASED = ':is(msub, msup, msubsup, munder, mover, munderover):not(:has(> mo[accent])), mrow:has(> mo:only-child)';
+    const FENCE = 'mo[form][stretchy="true"]';
+    const FENCED = `mrow:has(> ${FENCE}:first-child):not(:has(> mfrac[linethickness="0"]))`;
+    // Before what stands in such a cell TeX puts an empty group.
+    const ALIGNED = 'mtable[columnalign="left"] > mtr > mtd:nth-child(even)';
 
     // The mathematical character of a letter, or the letter itself where Unicode has none.
     function character(letter, variant) {
@@ -40,24 +68,17 @@ const latex2mathml = (() => {
         return ELSEWHERE[variant]?.[letter] ?? String.fromCodePoint(start + letters.indexOf(letter));
     }
 
-    function close(sign) {
-        sign.setAttribute('lspace', '0');
-        sign.setAttribute('rspace', '0');
-    }
-
     function mendLetters(token) {
         const variant = token.getAttribute('mathvariant');
         const text = [...token.textContent].map(letter => character(letter, variant)).join('');
         if (text === token.textContent) return;
         token.textContent = text;
         token.removeAttribute('mathvariant');
-        // The only such operator is ∂, which stands as close to its neighbours as a letter.
-        if (token.localName === 'mo') close(token);
     }
 
     function mendSign(sign) {
         if (UPRIGHT.includes(sign.textContent)) sign.setAttribute('stretchy', 'false');
-        if (sign.textContent === '-') sign.textContent = '−';
+        if (sign.textContent in CENTRED) sign.textContent = CENTRED[sign.textContent];
     }
 
     // An accent is said of the sign; browsers ask the element around it. A line is drawn as long as what it covers.
@@ -67,30 +88,88 @@ const latex2mathml = (() => {
         if (sign.textContent === '_') around.classList.add('latex2mathml-line');
     }
 
-    // A function, with its scripts and limits, keeps a thin space from what is no operator.
-    function mendFunction(name) {
-        if (!/^\p{L}{2}/u.test(name.textContent)) return;
-        let whole = name;
-        while (whole.matches(SCRIPTED)) whole = whole.parentElement;
-        const isApart = beside => !beside || beside.matches('mo, mspace, :has(> mo:first-child)');
-        const before = whole.previousElementSibling;
-        if (!isApart(before) && !before.style.marginInlineEnd) whole.style.marginInlineStart = THIN;
-        if (!isApart(whole.nextElementSibling)) whole.style.marginInlineEnd = THIN;
+    // What gives an element its class: its base, where it has scripts or limits, and the sign in it, where it has a size.
+    function baseOf(element) {
+        while (element.matches(BASED)) element = element.firstElementChild;
+        return element;
+    }
+
+    const textOf = base => base.matches('mi, mo') ? base.textContent.trim() : '';
+
+    // The class of a base wherever it stands; none where this script does not know it.
+    function classOf(base) {
+        const text = textOf(base);
+        if (base.matches(FENCE)) return base.matches('[form="prefix"]') ? OPENING : CLOSING;
+        if (base.matches('mo[stretchy="true"]') && UPRIGHT.includes(text)) return MIDDLE;
+        if (base.matches(FENCED)) return INNER;
+        const classes = {mi: NAMES, mo: SIGNS}[base.localName] ?? [];
+        return classes.find(([, signs]) => signs.test(text))?.[0];
+    }
+
+    // The classes of a row's members where they stand: a binary sign that is not between two operands is ordinary, and so
+    // is a sign that may be a relation; bars that come in pairs are those of norms.
+    function classesOf(bases, before) {
+        const hasNorms = bases.filter(base => textOf(base) === '∥').length % 2 === 0;
+        const classes = bases.map(base => (hasNorms && textOf(base) === '∥' ? ORDINARY : classOf(base) ?? ORDINARY));
+        for (const [i, own] of classes.entries()) {
+            if (own !== BINARY && own !== MARK) continue;
+            const isBetween = ENDS.includes(i ? classes[i - 1] : before) && BEGINS.includes(classes[i + 1]);
+            if (!isBetween) classes[i] = ORDINARY;
+            else if (own === MARK) classes[i] = RELATION;
+        }
+        return classes;
+    }
+
+    function spaceBetween(left, right, isScript) {
+        const space = SPACES[left === MIDDLE ? OPENING : left]?.[right === MIDDLE ? CLOSING : right] ?? 0;
+        return isScript && space !== '2' ? WIDTHS[0] : WIDTHS[space];
+    }
+
+    function setSpaces(sign, before, behind) {
+        if (!sign.hasAttribute('lspace')) sign.setAttribute('lspace', before);
+        if (!sign.hasAttribute('rspace')) sign.setAttribute('rspace', behind);
+    }
+
+    function addSpace(member, width) {
+        if (member.previousElementSibling?.matches('.latex2mathml-space')) return;
+        const space = document.createElementNS(member.namespaceURI, 'mspace');
+        space.setAttribute('class', 'latex2mathml-space');
+        space.setAttribute('width', width);
+        member.before(space);
+    }
+
+    // A sign has the spaces between it and its neighbours; where neither neighbour is a sign, an element has it.
+    function mendRow(row, isScript) {
+        const members = [...row.children].filter(child => !child.matches('mspace') && !INVISIBLE.test(textOf(child)));
+        const bases = members.map(baseOf);
+        const isSign = base => base?.localName === 'mo' && classOf(base) !== undefined;
+        const before = row.matches(ALIGNED) ? ORDINARY : undefined;
+        const classes = classesOf(bases, before);
+        for (const [i, base] of bases.entries()) {
+            const space = spaceBetween(i ? classes[i - 1] : before, classes[i], isScript);
+            const isSpaced = isSign(bases[i - 1]);
+            if (isSign(base)) setSpaces(base, isSpaced ? WIDTHS[0] : space, spaceBetween(classes[i], classes[i + 1], isScript));
+            else if (!isSpaced && space !== WIDTHS[0]) addSpace(members[i], space);
+        }
+    }
+
+    function mendRows(rows) {
+        // All styles are read before anything is changed, so that they are computed once.
+        const isScript = rows.map(row => getComputedStyle(row).mathDepth > 0);
+        rows.forEach((row, i) => mendRow(row, isScript[i]));
     }
 
     // What is under an element; the whole page where none is named.
     function mend(root = document) {
-        const each = (selector, mendOne) => root.querySelectorAll(selector).forEach(mendOne);
-        each(':is(mi, mn, mo)[mathvariant]', mendLetters);
-        each('mo:not([stretchy], [minsize])', mendSign);
-        // ∥ is no fence to a browser, but a sign between two others.
-        each('mo[form][stretchy="true"]', close);
-        each(':is(mover, munder) > mo[accent="true"]:last-child', mendAccent);
-        each('mi', mendFunction);
-        each('mspace[width^="-"]', space => { space.style.marginInlineStart = space.getAttribute('width'); });
-        each('mtext', text => {
-            if (text.textContent.startsWith('[PARSE ERROR: ')) text.classList.add('latex2mathml-error');
-        });
+        const all = selector => [...root.querySelectorAll(selector)];
+        all(':is(mi, mn, mo)[mathvariant]').forEach(mendLetters);
+        all('mo:not([stretchy], [minsize])').forEach(mendSign);
+        all(':is(mover, munder) > mo[accent="true"]:last-child').forEach(mendAccent);
+        mendRows([...new Set(all(ROWS + ' > *').map(member => member.parentElement))]);
+        all('mo').filter(sign => classOf(sign) !== undefined).forEach(sign => setSpaces(sign, WIDTHS[0], WIDTHS[0]));
+        all('mspace[width^="-"]').forEach(space => { space.style.marginInlineStart = space.getAttribute('width'); });
+        all('mtext').filter(text => text.textContent.startsWith('[PARSE ERROR: '))
+            .forEach(text => text.classList.add('latex2mathml-error'));
     }
 
     if (document.readyState === 'loading') document.addEventListener('DOMContentLoaded', () => mend());

@@ -1,0 +1,217 @@
+"""What a page holds, and what a browser draws of it, once the files of page/ have put it right."""
+import contextlib
+import html
+import http.server
+import json
+import os
+import queue
+import re
+import shutil
+import subprocess
+import threading
+
+from tests import support
+
+PAGES = support.ROOT / "tests/page"
+
+# How wide the window of a page is, where it is not 1,000 pixels.
+WIDTHS = {"narrow.html": 320}
+
+# The longest that a browser may take to start and to judge a page.
+LONGEST = 120
+
+TALL = r"\frac{\frac{a}{b}}{\frac{c}{d}}"
+
+FIREFOX_SETTINGS = """
+user_pref("app.update.enabled", false);
+user_pref("browser.aboutwelcome.enabled", false);
+user_pref("browser.shell.checkDefaultBrowser", false);
+user_pref("browser.startup.homepage_override.mstone", "ignore");
+user_pref("datareporting.policy.dataSubmissionEnabled", false);
+user_pref("toolkit.telemetry.reportingpolicy.firstRun", false);
+"""
+
+
+class Server(http.server.ThreadingHTTPServer):
+    """Gives the pages of a folder to a browser, and keeps what they send back."""
+
+    def __init__(self, folder):
+        self.sent = queue.Queue()
+        super().__init__(("127.0.0.1", 0), lambda *given: Answer(*given, directory=folder))
+
+    def address_of(self, page):
+        return f"http://127.0.0.1:{self.server_address[1]}/{page}"
+
+
+class Answer(http.server.SimpleHTTPRequestHandler):
+    def do_POST(self):
+        body = self.rfile.read(int(self.headers["Content-Length"]))
+        self.send_response(204)
+        self.end_headers()
+        self.server.sent.put((self.path.strip("/"), json.loads(body)))
+
+    def log_message(self, *_):
+        pass
+
+
+def chromium(profile, address):
+    sandbox = ["--no-sandbox"] if os.geteuid() == 0 else []
+    return ["chromium", "--headless", *sandbox, "--disable-gpu", f"--user-data-dir={profile}", address]
+
+
+def firefox(profile, address):
+    (profile / "user.js").write_text(FIREFOX_SETTINGS)
+    return ["firefox-esr", "--headless", "--no-remote", "--profile", os.fspath(profile), address]
+
+
+@contextlib.contextmanager
+def started(words, home):
+    """A browser for the time of a `with`."""
+    environment = {**os.environ, "HOME": os.fspath(home)}
+    with open(home / "said", "wb") as said:
+        browser = subprocess.Popen(words, stdin=subprocess.DEVNULL, stdout=said, stderr=said, env=environment)
+    try:
+        yield
+    finally:
+        browser.terminate()
+        try:
+            browser.wait(timeout=20)
+        except subprocess.TimeoutExpired:
+            browser.kill()
+            browser.wait()
+
+
+def judged(words_of, site, pages):
+    """What a browser, which `words_of` starts, judges of the pages of a folder: a list for each page."""
+    frames = "".join(f'<iframe src="{page}" width="{WIDTHS.get(page, 1000)}" height="2000"></iframe>' for page in pages)
+    (site / "index.html").write_text(f"<!DOCTYPE html>{frames}")
+    with support.scratch() as home, Server(site) as server:
+        threading.Thread(target=server.serve_forever, daemon=True).start()
+        with started(words_of(home, server.address_of("index.html")), home):
+            verdicts = {}
+            while len(verdicts) < len(pages):
+                try:
+                    page, verdict = server.sent.get(timeout=LONGEST)
+                except queue.Empty:
+                    said = (home / "said").read_text(errors="replace")[-1000:]
+                    missing = ", ".join(sorted(set(pages) - set(verdicts)))
+                    raise AssertionError(f"in {LONGEST} s nothing was judged of {missing}; the browser said: {said}") from None
+                verdicts[page] = verdict
+        server.shutdown()
+    return verdicts
+
+
+# How a sign of each class stands between two others, with all spaces written out.
+SPACED = {
+    "ordinary": r"a {} \: - \: b",
+    "operator": r"a \, {} \, - b",
+    "binary": r"a \: {} \: - b",
+    "relation": r"a \; {} \; - b",
+    "opening": r"a {} - b",
+    "closing": r"a {} \: - \: b",
+    "punctuation": r"a {} \, - b",
+    "inner": r"a \, {} \: - \: b",
+}
+
+
+def spaces():
+    """The cases of spaces.txt: a name, a formula, and the formula with its spaces."""
+    lines = [(number, line) for number, line in enumerate(data("spaces.txt"), 1) if line and not line.startswith("# ")]
+    return [(f"spaces.txt:{number}", formula, spaced) for (number, formula), (_, spaced) in zip(lines[::2], lines[1::2])]
+
+
+def classes():
+    """The cases of classes.txt, each sign between two letters: as for `spaces`."""
+    cases, kind = [], None
+    for line in data("classes.txt"):
+        words = line.split()
+        if not words or line.startswith("# "):
+            continue
+        if not line.startswith(" "):
+            kind = words.pop(0)
+        cases += [(f"{kind} {sign}", f"$a {sign} - b$", f"${SPACED[kind].format(sign)}$") for sign in words]
+    return cases
+
+
+def data(name):
+    return (PAGES / name).read_text().splitlines()
+
+
+def language():
+    """The part of docs/LANGUAGE.md that lists the commands."""
+    text = (support.ROOT / "docs/LANGUAGE.md").read_text()
+    return text[text.index("\n## The commands"):]
+
+
+def commands(text):
+    """The commands that stand in a part of docs/LANGUAGE.md, each once."""
+    return sorted({name for name in re.findall(r"`(\\[^`]*)`", text) if len(name) > 1})
+
+
+def signs():
+    """What is read as a sign: the operators and parentheses among the commands, sums and integrals, and single characters."""
+    listed = language()
+    operators = listed[listed.index("\n### Operators"):listed.index("\n### Parentheses")]
+    parts = [operators, *re.findall(r"\n- `(?:Paren|BigOp|Integral)\(.*?(?=\n- )", listed, re.DOTALL)]
+    return [*"=;,.+-*/!<>()[]|:", ":=", *commands("".join(parts))]
+
+
+def build_site(site):
+    """A folder as a site builder leaves it: pages whose formulas the program has converted, and the files of page/."""
+    shutil.copytree(PAGES, site, dirs_exist_ok=True)
+    shutil.copytree(support.ROOT / "page", site / "page")
+    insert(site / "spaces.html", [f'<div title="{html.escape(name)}">\n<p>{formula}</p>\n<p>{spaced}</p>\n</div>'
+                                  for name, formula, spaced in [*spaces(), *classes()]])
+    insert(site / "signs.html", [f'<p title="{html.escape(sign)}">${sign} x$ ${sign} {TALL}$</p>' for sign in signs()])
+    done = support.run([support.program(), "html", site])
+    assert done.returncode == 0, done.stderr.decode()
+    return sorted(path.name for path in PAGES.glob("*.html"))
+
+
+def insert(page, cases):
+    page.write_text(page.read_text().replace("CASES", "\n".join(cases)))
+
+
+class Gallery(support.Case):
+    """docs/gallery.html is what the program makes of its source, and shows every command."""
+
+    def test_gallery_is_of_today(self):
+        source = (support.ROOT / "docs/gallery.source.html").read_bytes()
+        done = support.run([support.program(), "document"], stdin=source)
+        self.expect(done)
+        self.assertTrue(done.stdout == (support.ROOT / "docs/gallery.html").read_bytes(), "tools/draw-gallery makes it anew")
+
+    def test_language_lists_the_commands(self):
+        self.assertGreater(len(commands(language())), 400)
+
+    def test_gallery_shows_each_command(self):
+        source = (support.ROOT / "docs/gallery.source.html").read_text()
+        shown = set()
+        for formula in re.findall("<code>(.*)</code>", source):
+            shown.update(re.findall(r"\\(?:[A-Za-z]+|.)", html.unescape(formula)))
+        self.assertEqual([name for name in commands(language()) if name not in shown], [])
+
+
+class Browser(support.Case):
+    """Opens the pages of tests/page in a browser. Each judgement that they make is a case."""
+
+    def judge(self, words_of):
+        site = self.enterContext(support.scratch())
+        pages = build_site(site)
+        for page, judgements in judged(words_of, site, pages).items():
+            self.assertTrue(judgements, f"{page} made no judgement")
+            for each in judgements:
+                with self.subTest(f"{page}: {each['name']}"):
+                    self.assertTrue(each["passed"], f"found:  {each['found']}\nwanted: {each['due']}")
+
+
+@support.requires("chromium")
+class Chromium(Browser):
+    def test_pages(self):
+        self.judge(chromium)
+
+
+@support.requires("firefox-esr")
+class Firefox(Browser):
+    def test_pages(self):
+        self.judge(firefox)
