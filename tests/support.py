@@ -1,0 +1,117 @@
+"""What every module of the tests stands on: where things are, running a program, and what a case needs to be tried."""
+import atexit
+import contextlib
+import functools
+import importlib.util
+import os
+import pathlib
+import shutil
+import subprocess
+import tempfile
+import unittest
+
+ROOT = pathlib.Path(__file__).resolve().parent.parent
+
+# Names the folder that `./test` made for all of its processes.
+C_LIBRARY = "LATEX2MATHML_C_LIBRARY"
+
+# As much of a stream as a failure shows.
+SHOWN = 2000
+
+
+@functools.cache
+def program():
+    """The path of the built program, which is built first where it is missing or older than its sources."""
+    return built("latex2mathml_app", "inline")
+
+
+@functools.cache
+def built(crate, *words):
+    """The path of the built program of a crate, which is run once with these words where it has to be built first."""
+    done = subprocess.run([ROOT / "tools/built", crate, *words], stdin=subprocess.DEVNULL, stdout=subprocess.PIPE, check=True)
+    return pathlib.Path(os.fsdecode(done.stdout).strip())
+
+
+@functools.cache
+def c_library():
+    """The folder with the library for C, its header and its examples, as `tools/make-c-library` makes it, once a run."""
+    made = os.environ.get(C_LIBRARY)
+    if made:
+        return pathlib.Path(made)
+    keeping = contextlib.ExitStack()
+    atexit.register(keeping.close)
+    folder = keeping.enter_context(scratch()) / "c"
+    subprocess.run([ROOT / "tools/make-c-library", folder], stdin=subprocess.DEVNULL, check=True)
+    return folder
+
+
+def run(words, *, stdin=b"", timeout=60, **more):
+    """Runs a command to its end and returns its `CompletedProcess`, whose streams are bytes.
+
+    `words` is the whole command line. `stdin` is what it reads: bytes, or anything that `subprocess` takes. What else is
+    given goes to `subprocess.run`. A command that takes longer than `timeout` seconds is ended, and the case fails.
+    """
+    given = {"input": stdin} if isinstance(stdin, bytes) else {"stdin": stdin}
+    for stream in ("stdout", "stderr"):
+        more.setdefault(stream, subprocess.PIPE)
+    return subprocess.run([os.fspath(word) for word in words], timeout=timeout, **given, **more)
+
+
+@contextlib.contextmanager
+def scratch():
+    """A folder for the time of a `with`, as a `pathlib.Path`; removed afterwards, whatever rights are left in it.
+
+    In a case, `self.enterContext(scratch())` gives one that lasts as long as the case.
+    """
+    folder = pathlib.Path(tempfile.mkdtemp(prefix="latex2mathml-"))
+    try:
+        yield folder
+    finally:
+        for path, inner, _ in os.walk(folder):
+            for name in inner:
+                if not os.path.islink(os.path.join(path, name)):
+                    os.chmod(os.path.join(path, name), 0o700)
+        shutil.rmtree(folder, ignore_errors=True)
+
+
+def missing(*tools):
+    """Those of these tools and Python modules that the machine does not have. A module is `python:NAME`."""
+    return [tool for tool in tools if not is_there(tool)]
+
+
+def is_there(tool):
+    kind, _, module = tool.rpartition(":")
+    if kind == "python":
+        return importlib.util.find_spec(module.partition(".")[0]) is not None
+    return shutil.which(tool) is not None
+
+
+def requires(*tools):
+    """Skips a case or a class of them where one of these tools or Python modules (`python:NAME`) is missing.
+
+    Where LATEX2MATHML_SKIP_NOTHING is 1, `./test` counts every case that is skipped as one that failed.
+    """
+    lacking = missing(*tools)
+    return unittest.skipIf(lacking, f"{', '.join(lacking)} not found")
+
+
+class Case(unittest.TestCase):
+    """A case of programs that are run."""
+
+    def expect(self, done, status=0, stdout=None, stderr=b""):
+        """Checks the status and the streams of a finished command; a stream that is None may hold anything."""
+        if (done.returncode == status and stdout in (None, done.stdout) and stderr in (None, done.stderr)):
+            return
+        lines = [f"ran: {' '.join(map(show, done.args))}"]
+        for name, wanted, came in (("status", status, done.returncode), ("stdout", stdout, done.stdout), ("stderr", stderr, done.stderr)):
+            if wanted is not None and wanted != came:
+                lines += [f"{name} wanted: {show(wanted)}", f"{name} came:   {show(came)}"]
+        self.fail("\n".join(lines))
+
+
+def show(value):
+    """A word, a status or a stream as a failure shows it, cut in the middle where it is long."""
+    text = str(value) if isinstance(value, (str, pathlib.Path)) else repr(value)
+    if len(text) <= SHOWN:
+        return text
+    return f"{text[:SHOWN // 2]} [{len(text) - SHOWN} characters left out] {text[-SHOWN // 2:]}"
