@@ -4,7 +4,11 @@ const { FORMULA, findFormulas } = require('./dollars.js');
 const { formula, Refused } = require('./index.js');
 const { namesOf, replaceNames } = require('./names.js');
 
-const MARK = /<mtext>\[PARSE ERROR: (.*?)\]<\/mtext>/s;
+const REFERENCES = { '&': '&amp;', '<': '&lt;', '>': '&gt;', '"': '&quot;', '$': '&#x24;' };
+const CHARACTERS = Object.fromEntries(Object.entries(REFERENCES).map(([character, reference]) => [reference, character]));
+
+const escape = text => text.replace(/[&<>"$]/g, character => REFERENCES[character]);
+const unescape = text => text.replace(/&[^;]*;/g, reference => CHARACTERS[reference] ?? reference);
 
 const isFormula = token => token.type === FORMULA;
 
@@ -22,7 +26,7 @@ function* formulas(tokens) {
     }
 }
 
-// The text that tells what an image shows has the formulas as they were written.
+// The text that tells what an image shows has formulas as they were written, since it holds no markup.
 function restoreImageTexts(tokens) {
     for (const image of tokens.flatMap(token => token.children ?? []).filter(token => token.type === 'image')) {
         for (const child of image.children.filter(isFormula)) {
@@ -32,57 +36,51 @@ function restoreImageTexts(tokens) {
     }
 }
 
-// Where a formula stands, as far as it is known: Eleventy and VitePress say which file they hand in.
+// Where a formula stands, as far as that is known: VitePress and Eleventy tell which file it is.
 function place(env, line) {
     const file = env.path ?? env.page?.inputPath ?? 'Markdown';
     return Number.isNaN(line) ? file : `${file}:${line}`;
 }
 
-function links(folder) {
-    return `<link rel="stylesheet" href="${folder}/latex2mathml.css">\n` +
-        `<script src="${folder}/latex2mathml.js" defer></script>\n`;
+// The markup that stands in a formula's place, and what is wrong with it.
+function convert(latex, isBlock, names) {
+    try {
+        const markup = formula(replaceNames(latex, names), isBlock);
+        const mark = /<mtext>\[PARSE ERROR: (.*?)\]<\/mtext>/s.exec(markup);
+        return { markup, fault: mark && `marked as an error: ${unescape(mark[1])}` };
+    } catch (error) {
+        if (!(error instanceof Refused)) throw error;
+        const reason = error.message;
+        return { markup: `<code class="latex2mathml-refused" title="${escape(reason)}">${escape(latex)}</code>`, fault: reason };
+    }
 }
 
-/**
- * The plugin: `md.use(latex2mathml, options)`.
- *
- * A formula that is refused stands in the page as it was written, and `warn` is told. Where `strict` is set, that is thrown.
- */
+const links = folder => `<link rel="stylesheet" href="${escape(folder)}/latex2mathml.css">
+<script src="${escape(folder)}/latex2mathml.js" defer></script>
+`;
+
+/** The plugin, for `md.use(latex2mathml, options)`. */
 module.exports = function latex2mathml(md, { names, strict = false, page = 'page', warn = console.warn } = {}) {
     const replaced = namesOf(names);
-    const escape = md.utils.escapeHtml;
-
-    // The markup of a formula, and what is wrong with it.
-    function convert({ content, markup: fence }) {
-        try {
-            const markup = formula(replaceNames(content, replaced), fence === '$$');
-            return { markup, fault: MARK.exec(markup)?.[1] };
-        } catch (error) {
-            if (!(error instanceof Refused)) throw error;
-            const markup = `<code class="latex2mathml-refused" title="${escape(error.message)}">${escape(content)}</code>`;
-            return { markup, fault: error.message };
-        }
-    }
 
     function convertPage(state) {
         restoreImageTexts(state.tokens);
         const found = [...formulas(state.tokens)];
         for (const [token, line] of found) {
-            const { markup, fault } = convert(token);
+            const { markup, fault } = convert(token.content, token.markup === '$$', replaced);
             token.meta = { markup };
             if (!fault) continue;
-            const message = `latex2mathml: ${place(state.env, line)}: ${token.content}: ${fault}`;
+            const message = `${place(state.env, line)}: ${token.content}: ${fault}`;
             if (strict) throw new Error(message);
             warn(message);
         }
-        if (found.length > 0 && page !== false && !state.inlineMode) {
-            const token = new state.Token('html_block', '', 0);
-            token.content = links(page);
-            state.tokens.unshift(token);
-        }
+        if (found.length === 0 || page === false || state.inlineMode) return;
+        const token = new state.Token('html_block', '', 0);
+        token.content = links(page);
+        state.tokens.unshift(token);
     }
 
     findFormulas(md);
-    md.core.ruler.push('latex2mathml', convertPage);
+    md.core.ruler.push(FORMULA, convertPage);
     md.renderer.rules[FORMULA] = (tokens, i) => tokens[i].meta.markup + (tokens[i].block ? '\n' : '');
 };
