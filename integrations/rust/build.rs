@@ -13,7 +13,10 @@ fn main() {
     println!("cargo:rerun-if-changed={}", library.display());
     if !library.is_file() {
         eprintln!("There is no {}.", library.display());
-        eprintln!("Make the library by `tools/make-c-library FOLDER`, and set {} to the folder's whole path.", FOLDER);
+        eprintln!(
+            "Make the library by `tools/make-c-library FOLDER`, and set {} to the folder's whole path.",
+            FOLDER
+        );
         exit(1);
     }
     println!("cargo:rustc-link-search=native={}", folder.display());

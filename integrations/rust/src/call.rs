@@ -76,3 +76,55 @@ fn convert(length: usize, call: impl Fn(*mut c_char, usize, *mut usize) -> u32) 
 fn likely_room(length: usize) -> usize {
     length.saturating_mul(64).saturating_add(256)
 }
+
+#[cfg(test)]
+mod tests {
+    use super::*;
+    use std::cell::RefCell;
+
+    /// A call that comes to a text, and tells the rooms that it was given.
+    fn told(text: &str, code: u32) -> (Result<String, LatexError>, Vec<usize>) {
+        let rooms = RefCell::new(Vec::new());
+        let answer = convert(1, |room, length, needed| {
+            rooms.borrow_mut().push(length);
+            // SAFETY: `needed` is that of `convert`, and the text is put into a room that has room for it.
+            unsafe {
+                *needed = text.len();
+                if length < text.len() {
+                    return TOO_SMALL;
+                }
+                room.copy_from_nonoverlapping(text.as_ptr().cast(), text.len());
+            }
+            code
+        });
+        (answer, rooms.into_inner())
+    }
+
+    #[test]
+    fn a_room_that_is_too_small() {
+        let text = "é".repeat(1000);
+        let (answer, rooms) = told(&text, DONE);
+        assert_eq!(answer, Ok(text));
+        assert_eq!(rooms.len(), 2);
+        assert!(rooms[0] < 2000 && rooms[1] >= 2000, "{:?}", rooms);
+    }
+
+    #[test]
+    fn each_code() {
+        assert_eq!(told("why", REFUSED).0, Err(LatexError::Refused("why".to_owned())));
+        assert_eq!(told("why", NOT_UTF8).0, Err(LatexError::Refused("why".to_owned())));
+        assert_eq!(told("", DONE).0, Ok(String::new()));
+        assert_eq!(told("", 4).0, Err(LatexError::OutOfMemory));
+    }
+
+    #[test]
+    fn a_room_that_cannot_be_had() {
+        let answer = convert(usize::MAX, |_, length, needed| {
+            // SAFETY: `needed` is that of `convert`.
+            unsafe { *needed = 0 };
+            assert_eq!(length, 0);
+            DONE
+        });
+        assert_eq!(answer, Ok(String::new()));
+    }
+}

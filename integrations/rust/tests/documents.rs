@@ -12,7 +12,14 @@ fn block(latex: &str) -> String {
 
 #[test]
 fn prose_stays() {
-    for prose in ["", "No formula.", "a < b &amp; \"c\"\r\n\ttab", "naïve 数式", "one \\ two", "a\0b"] {
+    for prose in [
+        "",
+        "No formula.",
+        "a < b &amp; \"c\"\r\n\ttab",
+        "naïve 数式",
+        "one \\ two",
+        "a\0b",
+    ] {
         assert_eq!(replace(prose).unwrap(), prose);
     }
 }
@@ -45,9 +52,17 @@ fn refusals() {
         ("$a", dollars),
         ("{ $$$", dollars),
         (r"$a\$", dollars),
-        ("$a$ ${$ $}$", r#"The token "RBrace" is expected, but the token "EOF" is found.""#),
+        (
+            "$a$ ${$ $}$",
+            r#"The token "RBrace" is expected, but the token "EOF" is found.""#,
+        ),
         (r"$\begin{a}x\end{a}$ ${$", r#"An unknown environment "a" is found"#),
     ] {
-        assert_eq!(replace(document), Err(LatexError::Refused(reason.to_owned())), "{}", document);
+        assert_eq!(
+            replace(document),
+            Err(LatexError::Refused(reason.to_owned())),
+            "{}",
+            document
+        );
     }
 }

@@ -6,8 +6,13 @@ use latex2mathml::{latex_to_mathml, DisplayStyle, LatexError};
 fn content(latex: &str) -> String {
     let parts = [DisplayStyle::Inline, DisplayStyle::Block].map(|display| {
         let markup = latex_to_mathml(latex, display).unwrap_or_else(|reason| panic!("{}: {}", latex, reason));
-        let start = format!(r#"<math xmlns="http://www.w3.org/1998/Math/MathML" display="{}">"#, display);
-        let inner = markup.strip_prefix(&start).and_then(|rest| rest.strip_suffix("</math>"));
+        let start = format!(
+            r#"<math xmlns="http://www.w3.org/1998/Math/MathML" display="{}">"#,
+            display
+        );
+        let inner = markup
+            .strip_prefix(&start)
+            .and_then(|rest| rest.strip_suffix("</math>"));
         inner.unwrap_or_else(|| panic!("{}: {}", latex, markup)).to_owned()
     });
     assert_eq!(parts[0], parts[1], "{}", latex);
@@ -36,8 +41,14 @@ fn leaves() {
         (r"\cos t", "<mi>cos</mi><mi>t</mi>"),
         (r"\operatorname{rk}", "<mi>rk</mi>"),
         (r"\text{if}", "<mtext>if</mtext>"),
-        (r"a\,b\quad c", r#"<mi>a</mi><mspace width="0.167em"/><mi>b</mi><mspace width="1em"/><mi>c</mi>"#),
-        (r"\nosuch", r#"<mtext>[PARSE ERROR: Undefined("Command(\"nosuch\")")]</mtext>"#),
+        (
+            r"a\,b\quad c",
+            r#"<mi>a</mi><mspace width="0.167em"/><mi>b</mi><mspace width="1em"/><mi>c</mi>"#,
+        ),
+        (
+            r"\nosuch",
+            r#"<mtext>[PARSE ERROR: Undefined("Command(\"nosuch\")")]</mtext>"#,
+        ),
     ]);
 }
 
@@ -47,7 +58,10 @@ fn roots_and_fractions() {
         (r"\sqrt k", "<msqrt><mi>k</mi></msqrt>"),
         (r"\sqrt34", "<msqrt><mn>3</mn></msqrt><mn>4</mn>"),
         (r"\sqrt[n]{5}", "<mroot><mn>5</mn><mi>n</mi></mroot>"),
-        (r"\sqrt{a-b}", "<msqrt><mrow><mi>a</mi><mo>-</mo><mi>b</mi></mrow></msqrt>"),
+        (
+            r"\sqrt{a-b}",
+            "<msqrt><mrow><mi>a</mi><mo>-</mo><mi>b</mi></mrow></msqrt>",
+        ),
         (r"\frac ab", "<mfrac><mi>a</mi><mi>b</mi></mfrac>"),
         (r"\frac34", "<mfrac><mn>3</mn><mn>4</mn></mfrac>"),
         (r"\frac{10}{7}", "<mfrac><mn>10</mn><mn>7</mn></mfrac>"),
@@ -75,7 +89,10 @@ fn scripts_and_limits() {
         (r"\prod_p", "<munder><mo>∏</mo><mi>p</mi></munder>"),
         (r"\sum^n", "<mover><mo>∑</mo><mi>n</mi></mover>"),
         (r"\overset{!}{=}", "<mover><mo>=</mo><mo>!</mo></mover>"),
-        (r"\hat x_1", "<msub><mover><mi>x</mi><mo accent=\"true\">^</mo></mover><mn>1</mn></msub>"),
+        (
+            r"\hat x_1",
+            "<msub><mover><mi>x</mi><mo accent=\"true\">^</mo></mover><mn>1</mn></msub>",
+        ),
     ]);
 }
 
@@ -84,7 +101,10 @@ fn styles_and_fences() {
     check(&[
         (r"\mathbb{Q}", r#"<mi mathvariant="double-struck">Q</mi>"#),
         (r"\bm{v}", r#"<mi mathvariant="bold-italic">v</mi>"#),
-        (r"\mathbf{v}^2", r#"<msup><mi mathvariant="bold">v</mi><mn>2</mn></msup>"#),
+        (
+            r"\mathbf{v}^2",
+            r#"<msup><mi mathvariant="bold">v</mi><mn>2</mn></msup>"#,
+        ),
         (
             r"\left[ t \right)",
             r#"<mrow><mo stretchy="true" form="prefix">[</mo><mi>t</mi><mo stretchy="true" form="postfix">)</mo></mrow>"#,
@@ -126,7 +146,12 @@ fn characters_of_every_kind() {
     for c in ['\0', '\u{1}', '\u{7f}', '€', '\u{ffff}', '𝑥', '\u{10ffff}'] {
         let latex = format!("a{}b", c);
         let markup = content(&latex);
-        assert!(markup.starts_with("<mi>a</mi>") && markup.ends_with("<mi>b</mi>"), "{:?}: {}", latex, markup);
+        assert!(
+            markup.starts_with("<mi>a</mi>") && markup.ends_with("<mi>b</mi>"),
+            "{:?}: {}",
+            latex,
+            markup
+        );
         assert!(markup.contains(c), "{:?}: {}", latex, markup);
     }
 }
@@ -134,9 +159,18 @@ fn characters_of_every_kind() {
 #[test]
 fn refusals() {
     for (latex, reason) in [
-        ("{x", r#"The token "RBrace" is expected, but the token "EOF" is found.""#),
-        (r"\left x \right)", r#"There must be a parenthesis after "Left", but not found. Insted, "Letter('x', Italic)" is found."#),
-        (r"\begin{cases} x \end{cases}", r#"An unknown environment "cases" is found"#),
+        (
+            "{x",
+            r#"The token "RBrace" is expected, but the token "EOF" is found.""#,
+        ),
+        (
+            r"\left x \right)",
+            r#"There must be a parenthesis after "Left", but not found. Insted, "Letter('x', Italic)" is found."#,
+        ),
+        (
+            r"\begin{cases} x \end{cases}",
+            r#"An unknown environment "cases" is found"#,
+        ),
     ] {
         for display in [DisplayStyle::Inline, DisplayStyle::Block] {
             let refusal = latex_to_mathml(latex, display).unwrap_err();
