@@ -41,15 +41,30 @@ def definitions(document):
 
 
 def renew(document):
-    """Puts the line of today into each link to a definition."""
-    def renewed(found):
+    """Puts the line of today into each link to a definition, and the signature of today into each block that quotes one."""
+    def renewed_line(found):
         link = Definition(document, found["word"], (document.parent / found["path"]).resolve(), int(found["line"]))
         return f"[`{found['word']}`]({found['path']}#L{link.line_now()})"
 
+    def renewed_quote(found):
+        names = re.findall(r"\bfn (\w+)", found["text"])
+        signatures = [signature(ROOT / found["path"], name) for name in names]
+        return f"<!-- quoted from {found['path']} -->\n```rust\n{chr(10).join(signatures)}```"
+
     text = document.read_text()
-    new = DEFINITION.sub(renewed, text)
+    new = QUOTE.sub(renewed_quote, DEFINITION.sub(renewed_line, text))
     if new != text:
         document.write_text(new)
+
+
+def signature(source, name):
+    """The signature of a function as it stands in its source, with its clauses and without its body."""
+    lines = source.read_text().split("\n")
+    begin = next(at for at, line in enumerate(lines) if re.match(rf"\s*(?:pub )?fn {name}\b", line))
+    indent = len(lines[begin]) - len(lines[begin].lstrip())
+    end = next(at for at in range(begin, len(lines)) if lines[at] in (" " * indent + "{", " " * indent + "{}") or lines[at].endswith(";"))
+    kept = lines[begin:end] if not lines[end].endswith(";") else lines[begin:end + 1]
+    return "".join(f"{line[indent:]}\n" for line in kept if not line.strip().startswith("//"))
 
 
 @dataclass(frozen=True)
@@ -59,12 +74,9 @@ class Quote:
     text: str
 
     def stands(self):
-        """Whether the source has these lines, whatever their indentation."""
-        return plain(self.text) in plain(self.source.read_text())
-
-
-def plain(text):
-    return " ".join(text.split())
+        """Whether the source has these signatures, one behind the other, whatever their indentation."""
+        names = re.findall(r"\bfn (\w+)", self.text)
+        return bool(names) and self.text == "\n".join(signature(self.source, name) for name in names)
 
 
 def quoted(document):

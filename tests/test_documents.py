@@ -1,7 +1,7 @@
 """What the documents claim is so: links lead somewhere, commands print what is shown, quoted source is the source's, and
 sentences stay short.
 
-`python3 -m tests.test_documents` renews the line numbers of links to definitions.
+`python3 -m tests.test_documents` renews the lines of definitions and the signatures that documents quote.
 """
 import re
 import sys
@@ -38,6 +38,8 @@ def anchors(text):
 
 
 class Links(Case):
+    longMessage = False
+
     def test_each_leads_somewhere(self):
         broken = []
         for document in documents():
@@ -59,6 +61,8 @@ class Links(Case):
 
 
 class Quotes(Case):
+    longMessage = False
+
     def test_signatures_are_those_of_the_source(self):
         wrong = []
         for document in documents():
@@ -75,6 +79,8 @@ class Quotes(Case):
 
 
 class Sentences(Case):
+    longMessage = False
+
     def test_none_is_long(self):
         long = []
         for document in documents():
