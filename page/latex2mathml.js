@@ -138,6 +138,12 @@ const latex2mathml = (() => {
         member.before(space);
     }
 
+    // Firefox sets a thin space between an upright and a slanted letter that stand side by side.
+    function isSetApart(left, right) {
+        const isUpright = letter => letter.matches('[mathvariant="normal"]') || [...letter.textContent].length > 1;
+        return left?.localName === 'mi' && right.localName === 'mi' && isUpright(left) !== isUpright(right);
+    }
+
     // A sign has the spaces between it and its neighbours; where neither neighbour is a sign, an element has it.
     function mendRow(row, isScript) {
         const members = [...row.children].filter(child => !child.matches('mspace') && !INVISIBLE.test(textOf(child)));
@@ -149,7 +155,7 @@ const latex2mathml = (() => {
             const space = spaceBetween(i ? classes[i - 1] : before, classes[i], isScript);
             const isSpaced = isSign(bases[i - 1]);
             if (isSign(base)) setSpaces(base, isSpaced ? WIDTHS[0] : space, spaceBetween(classes[i], classes[i + 1], isScript));
-            else if (!isSpaced && space !== WIDTHS[0]) addSpace(members[i], space);
+            else if (!isSpaced && (space !== WIDTHS[0] || isSetApart(bases[i - 1], base))) addSpace(members[i], space);
         }
     }
 

@@ -109,7 +109,7 @@ SPACED = {
     "relation": r"a \; {} \; - b",
     "opening": r"a {} - b",
     "closing": r"a {} \: - \: b",
-    "punctuation": r"a {} \, - b",
+    "punctuation": r"a {{}} {} \, - b",
     "inner": r"a \, {} \: - \: b",
 }
 
