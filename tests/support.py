@@ -1,6 +1,7 @@
 """What every module of the tests stands on: where things are, running a program, and what a case needs to be tried."""
 import atexit
 import contextlib
+import fcntl
 import functools
 import importlib.util
 import os
@@ -12,8 +13,14 @@ import unittest
 
 ROOT = pathlib.Path(__file__).resolve().parent.parent
 
-# Names the folder that `./test` made for all of its processes.
-C_LIBRARY = "LATEX2MATHML_C_LIBRARY"
+# Names a folder that all processes of a run share.
+RUN = "LATEX2MATHML_RUN"
+
+# Where it is 1, `tools/built` builds nothing: behind the proofs of `./test` only what they built may be taken.
+BUILD_NOTHING = "LATEX2MATHML_BUILD_NOTHING"
+
+# The number of a stream for those who watch, on which a building says how far it is.
+SCREEN = "LATEX2MATHML_SCREEN"
 
 # As much of a stream as a failure shows.
 SHOWN = 2000
@@ -22,27 +29,54 @@ SHOWN = 2000
 @functools.cache
 def program():
     """The path of the built program, which is built first where it is missing or older than its sources."""
-    return built("latex2mathml_app", "inline")
+    return built("latex2mathml_app")
 
 
 @functools.cache
-def built(crate, *words):
-    """The path of the built program of a crate, which is run once with these words where it has to be built first."""
-    done = subprocess.run([ROOT / "tools/built", crate, *words], stdin=subprocess.DEVNULL, stdout=subprocess.PIPE, check=True)
+def built(crate):
+    """The path of the built program of a crate, or of its static library."""
+    with once(crate):
+        screen = int(os.environ.get(SCREEN, "2"))
+        done = subprocess.run([ROOT / "tools/built", crate], stdin=subprocess.DEVNULL, stdout=subprocess.PIPE, stderr=screen)
+    if done.returncode:
+        raise RuntimeError(f"{crate} is not built, or is older than its sources: tools/built {crate} builds it")
     return pathlib.Path(os.fsdecode(done.stdout).strip())
 
 
 @functools.cache
 def c_library():
     """The folder with the library for C, its header and its examples, as `tools/make-c-library` makes it, once a run."""
-    made = os.environ.get(C_LIBRARY)
-    if made:
-        return pathlib.Path(made)
+    built("latex2mathml_c")
+    folder = run_folder() / "c"
+    with once("c"):
+        if not folder.exists():
+            subprocess.run([ROOT / "tools/make-c-library", folder], stdin=subprocess.DEVNULL, check=True)
+    return folder
+
+
+@functools.cache
+def run_folder():
+    """The folder that all processes of a run share: that of `./test`, or else one of this process."""
+    if RUN in os.environ:
+        return pathlib.Path(os.environ[RUN])
     keeping = contextlib.ExitStack()
     atexit.register(keeping.close)
-    folder = keeping.enter_context(scratch()) / "c"
-    subprocess.run([ROOT / "tools/make-c-library", folder], stdin=subprocess.DEVNULL, check=True)
-    return folder
+    return keeping.enter_context(scratch())
+
+
+@contextlib.contextmanager
+def once(name):
+    """Keeps the other processes of a run from doing the same meanwhile."""
+    with open(run_folder() / f"{name}.lock", "w", encoding="utf-8") as lock:
+        fcntl.flock(lock, fcntl.LOCK_EX)
+        yield
+
+
+@functools.cache
+def kit():
+    """The folder of the Rattle toolchain."""
+    done = subprocess.run(["rt", "doc"], stdin=subprocess.DEVNULL, stdout=subprocess.PIPE, check=True, timeout=60)
+    return pathlib.Path(os.fsdecode(done.stdout).strip()).parent
 
 
 def run(words, *, stdin=b"", timeout=60, **more):

@@ -1,5 +1,6 @@
-/* Cases of the library for C, by the words that name them: answers, memory, deep, random, threads. The last line is
- * 'N passed, M failed'. To be linked with --wrap for malloc, realloc and free, so that requests can be refused. */
+/* Cases of the library for C, by the word that names them: answers, memory, deep, random, threads, or rules, which reads
+ * formulas from standard input, a line each. Each case has a line, 'passed: NAME' or 'FAILED: NAME', and behind the last
+ * stands 'all were judged'. To be linked with --wrap for malloc, realloc and free, so that requests can be refused. */
 #include "latex2mathml.h"
 
 #include <pthread.h>
@@ -10,15 +11,11 @@
 
 enum { LEVELS = 1000000, STACK = 128 << 10, RANDOM_INPUTS = 10000, THREADS = 4, CALLS = 50000 };
 
-static int passed, failed;
+static bool has_failed;
 
 static void judge(bool met, const char *name) {
-    if (met) {
-        passed++;
-    } else {
-        failed++;
-        printf("FAILED: %s\n", name);
-    }
+    has_failed |= !met;
+    printf("%s: %s\n", met ? "passed" : "FAILED", name);
 }
 
 /* Requests for memory: how many this thread made, and from which to which they are refused. */
@@ -172,16 +169,26 @@ static bool is_out_of_memory(struct answer answer) {
     return answer.code == LATEX2MATHML_OUT_OF_MEMORY && answer.needed == 0 && is_untouched(answer.room - 64, room_end());
 }
 
+/* A call, and the answer that it gives with ample memory. */
+struct known_call {
+    enum conversion conversion;
+    const char *input;
+    size_t length;
+    uint32_t code;
+    const char *text;
+    size_t needed;
+};
+
 /* Whether the call gives want of memory, or the answer of ample memory, for each refused request, and keeps no block. */
-static bool survives(int i, bool and_all_behind, long *were_refused) {
-    size_t room = strlen(known[i].text);
+static bool survives(struct known_call known, bool and_all_behind, long *were_refused) {
     for (long n = 1;; n++) {
         long held = blocks;
         refuse(n, and_all_behind ? 1L << 40 : n);
-        struct answer answer = known_answer(i, room);
+        struct answer answer = answer_of(known.conversion, known.input, known.length, known.needed);
         bool was_refused = requests >= n;
         refuse(0, -1);
-        if (blocks != held || !(is_known(i, answer) || (was_refused && is_out_of_memory(answer))))
+        bool is_right = answer.code == known.code && holds(answer, known.text, known.needed);
+        if (blocks != held || !(is_right || (was_refused && is_out_of_memory(answer))))
             return false;
         if (!was_refused)
             return true;
@@ -189,11 +196,32 @@ static bool survives(int i, bool and_all_behind, long *were_refused) {
     }
 }
 
+static void judge_with_refusals(struct known_call known, const char *name, long *were_refused) {
+    judge(survives(known, false, were_refused), name);
+    judge(survives(known, true, were_refused), name);
+}
+
 static void memory(void) {
     long were_refused = 0;
     for (int i = 0; i < KNOWN; i++) {
-        judge(survives(i, false, &were_refused), known[i].name);
-        judge(survives(i, true, &were_refused), known[i].name);
+        struct known_call call = {known[i].conversion, known[i].input, known[i].length, known[i].code, known[i].text, strlen(known[i].text)};
+        judge_with_refusals(call, known[i].name, &were_refused);
+    }
+    judge(were_refused > 50, "requests were refused");
+}
+
+/* Each formula of standard input, with each request for memory refused in turn. */
+static void rules(void) {
+    static char line[4096], text[SPAN];
+    long were_refused = 0;
+    while (fgets(line, sizeof line, stdin)) {
+        size_t length = strcspn(line, "\n");
+        line[length] = 0;
+        size_t needed = answer_of(INLINE, line, length, 0).needed;
+        struct answer answer = answer_of(INLINE, line, length, needed);
+        memcpy(text, answer.room, needed);
+        struct known_call call = {INLINE, line, length, answer.code, text, needed};
+        judge_with_refusals(call, line, &were_refused);
     }
     judge(were_refused > 50, "requests were refused");
 }
@@ -351,7 +379,7 @@ static void random_inputs(void) {
         if (right)
             codes[code]++;
         else if (++wrong < 4)
-            printf("FAILED: %.*s\n", (int)length, before);
+            printf("wrong: %.*s\n", (int)length, before);
     }
     printf("%ld converted, %ld refused, %ld no text\n", codes[0], codes[1], codes[2]);
     judge(wrong == 0, "random inputs");
@@ -386,12 +414,12 @@ int main(int count, char **words) {
     static const struct {
         const char *name;
         void (*run)(void);
-    } all[] = {{"answers", answers}, {"memory", memory}, {"deep", deep}, {"random", random_inputs}, {"threads", threads}};
+    } all[] = {{"answers", answers}, {"memory", memory}, {"deep", deep}, {"random", random_inputs}, {"threads", threads}, {"rules", rules}};
     refuse(0, -1);
     for (int i = 1; i < count; i++)
         for (size_t k = 0; k < sizeof all / sizeof *all; k++)
             if (!strcmp(words[i], all[k].name))
                 all[k].run();
-    printf("%d passed, %d failed\n", passed, failed);
-    return failed > 0;
+    printf("all were judged\n");
+    return has_failed;
 }

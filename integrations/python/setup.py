@@ -1,0 +1,35 @@
+"""Makes a wheel for the machines that the shared library runs on. What it is and where it stands, pyproject.toml says."""
+import pathlib
+import re
+import subprocess
+
+from setuptools import Distribution, setup
+from wheel.bdist_wheel import bdist_wheel
+
+LIBRARY = pathlib.Path("src/latex2mathml_proved/liblatex2mathml.so")
+
+
+def glibc_wanted():
+    """The version of the GNU C library that the shared library asks for, as (2, 14)."""
+    symbols = subprocess.run(["objdump", "-T", LIBRARY], check=True, capture_output=True, text=True).stdout
+    return max(tuple(map(int, version)) for version in re.findall(r"GLIBC_(\d+)\.(\d+)", symbols))
+
+
+class PlatformDistribution(Distribution):
+    """One that holds more than Python, though it has nothing to compile."""
+
+    def has_ext_modules(self):
+        return True
+
+
+class PlatformWheel(bdist_wheel):
+    """A wheel for any Python 3, and for Linux on x86-64 with a C library that is new enough."""
+
+    def get_tag(self):
+        if not LIBRARY.exists():
+            raise SystemExit("the shared library is missing: tools/make-wheel of the repository makes the wheel")
+        major, minor = glibc_wanted()
+        return "py3", "none", f"manylinux_{major}_{minor}_x86_64"
+
+
+setup(distclass=PlatformDistribution, cmdclass={"bdist_wheel": PlatformWheel})

@@ -1,0 +1,219 @@
+r"""An extension of Python-Markdown, and so of MkDocs: `$..$` is a formula in a line, `$$..$$` one in a block of its own.
+
+    markdown.markdown(text, extensions=["latex2mathml"])
+
+`\$` is a dollar sign. Nothing is a formula in code, and single dollar signs are none where white space stands inside them or a
+digit directly behind, as between two prices.
+"""
+import logging
+import re
+import xml.etree.ElementTree as etree
+from typing import Any, List, NamedTuple, Optional, Tuple
+
+from markdown import Markdown
+from markdown.blockprocessors import BlockProcessor
+from markdown.extensions import Extension
+from markdown.inlinepatterns import InlineProcessor
+from markdown.postprocessors import Postprocessor
+from markdown.preprocessors import Preprocessor
+from markdown.treeprocessors import Treeprocessor
+from markdown.util import ETX, STX, AtomicString
+
+from latex2mathml_proved.rendering import FaultyFormula, Renderer, links
+
+logger = logging.getLogger(__name__)
+
+NAME = "latex2mathml"
+
+# What formulas hold: a backslash takes the next character with it. STX marks what Python-Markdown has put aside, as code.
+_CHARACTER = rf"(?:\\[^{STX}]|[^\\${STX}])"
+_INLINE = (
+    r"\\[\\$]"
+    rf"|\$\$(?P<block>{_CHARACTER}+?)\$\$"
+    rf"|\$(?P<inline>(?!\s){_CHARACTER}+?(?<!\s))\$(?![0-9])"
+)
+_BLOCK = re.compile(rf"^[ ]{{0,3}}\$\$(?P<block>{_CHARACTER}+?)\$\$[ ]*$", re.MULTILINE)
+
+# The lines of a list are parsed again, item by item.
+_LIST = re.compile(r"[ ]{0,3}(?:[*+-]|[0-9]+\.)[ ]")
+
+# What stands for a formula until the tree is whole. No text of an author holds STX.
+_PLACE = re.compile(rf"{STX}{NAME}:([0-9]+){ETX}")
+_WRITTEN_PLACE = re.compile(rf"(?:<{NAME}>)?{_PLACE.pattern}(?:</{NAME}>)?")
+
+# Behind code in backticks, and before escapes, links and emphasis.
+_INLINE_PRIORITY = 185
+# Behind indented code, and before headings and lists.
+_BLOCK_PRIORITY = 75
+# Directly behind the inline patterns.
+_TREE_PRIORITY = 19
+# Before all that changes lines, and behind all else.
+_FIRST, _LAST = 1000, -1000
+
+
+class Formula(NamedTuple):
+    """A formula as it was found."""
+
+    source: str
+    latex: str
+    block: bool
+    tag: str
+
+
+class Page:
+    """The page at hand: its text, and its formulas in the order in which they were found."""
+
+    def __init__(self) -> None:
+        self.text = ""
+        self.formulas: List[Formula] = []
+
+    def place(self, source: str, latex: str, block: bool, tag: str) -> etree.Element:
+        """The element that stands for a formula. `source` is the formula with its dollar signs, and `tag` that of its element."""
+        element = etree.Element(NAME)
+        element.text = AtomicString(f"{STX}{NAME}:{len(self.formulas)}{ETX}")
+        self.formulas.append(Formula(source, latex, block, tag))
+        return element
+
+    def found_at(self, place: "re.Match[str]") -> Formula:
+        return self.formulas[int(place[1])]
+
+    def restore(self, text: str) -> str:
+        """The text with each formula as it was written, for where no element can stand."""
+        return _WRITTEN_PLACE.sub(lambda place: self.found_at(place).source, text)
+
+
+class PageText(Preprocessor):
+    """Keeps the text of the page, to tell the lines of formulas."""
+
+    def __init__(self, md: Markdown, page: Page):
+        super().__init__(md)
+        self._page = page
+
+    def run(self, lines: List[str]) -> List[str]:
+        self._page.text = "\n".join(lines)
+        return lines
+
+
+class BlockFormulas(BlockProcessor):
+    """Formulas in double dollar signs that have lines to themselves, whatever signs of Markdown their lines begin with."""
+
+    def __init__(self, md: Markdown, page: Page):
+        super().__init__(md.parser)
+        self._page = page
+
+    def test(self, parent: etree.Element, block: str) -> bool:
+        return _BLOCK.search(block) is not None and not _LIST.match(block)
+
+    def run(self, parent: etree.Element, blocks: List[str]) -> None:
+        block = blocks.pop(0)
+        found = _BLOCK.search(block)
+        assert found is not None, "test has found one"
+        before, behind = block[:found.start()].rstrip("\n"), block[found.end():].lstrip("\n")
+        if before:
+            self.parser.parseBlocks(parent, [before])
+        parent.append(self._page.place(found[0].strip(), found["block"].strip(), block=True, tag="div"))
+        if behind:
+            blocks.insert(0, behind)
+
+
+class InlineFormulas(InlineProcessor):
+    """Formulas amid other text, and dollar signs that are none."""
+
+    def __init__(self, md: Markdown, page: Page):
+        super().__init__(_INLINE, md)
+        self._page = page
+
+    def handleMatch(self, m: Any, data: str) -> Tuple[Any, Optional[int], Optional[int]]:
+        if m[0] == r"\$":
+            return "$", m.start(), m.end()
+        if m[0] == r"\\":
+            return None, None, None
+        block = m["block"] is not None
+        return self._page.place(m[0], m["block"] if block else m["inline"], block, tag="span"), m.start(), m.end()
+
+
+class Conversion(Treeprocessor):
+    """Converts the formulas, in the order in which they stand in the page."""
+
+    def __init__(self, md: Markdown, page: Page, renderer: Renderer, strict: bool):
+        super().__init__(md)
+        self._page = page
+        self._renderer = renderer
+        self._strict = strict
+
+    def run(self, root: etree.Element) -> None:
+        read = 0
+        for element in root.iter():
+            for name, value in element.items():
+                element.set(name, self._page.restore(value))
+            place = _PLACE.fullmatch(element.text or "")
+            if element.tag == NAME and place:
+                read = self._convert(element, self._page.found_at(place), read)
+        stash = self.md.htmlStash.rawHtmlBlocks
+        stash[:] = [self._page.restore(raw) if isinstance(raw, str) else raw for raw in stash]
+
+    def _convert(self, element: etree.Element, formula: Formula, read: int) -> int:
+        """Puts the markup into the element. `read` is where in the page's text the last formula ended, and so is the answer."""
+        start = self._page.text.find(formula.source, read)
+        rendering = self._renderer.render(formula.latex, formula.block)
+        if rendering.fault:
+            self._report(start, rendering.fault)
+        element.tag = formula.tag
+        element.set("class", "math")
+        element.text = AtomicString(self.md.htmlStash.store(rendering.markup))
+        return read if start < 0 else start + len(formula.source)
+
+    def _report(self, start: int, fault: str) -> None:
+        # a formula whose lines begin with the signs of a list or a quotation is not found
+        place = "" if start < 0 else f"line {self._page.text.count(chr(10), 0, start) + 1}: "
+        if self._strict:
+            raise FaultyFormula(place + fault)
+        logger.warning("%s: %s%s", NAME, place, fault)
+
+
+class PageLinks(Postprocessor):
+    """Links the style sheet and the script, on pages that have formulas."""
+
+    def __init__(self, md: Markdown, page: Page, folder: str):
+        super().__init__(md)
+        self._page = page
+        self._folder = folder
+
+    def run(self, text: str) -> str:
+        return links(self._folder) + text if self._page.formulas else text
+
+
+class Latex2MathML(Extension):
+    """The extension. Its options are `names`, `strict` and `page`; a name that is none raises `ValueError`."""
+
+    def __init__(self, **options: Any):
+        self.config = {
+            "names": [True, "True: the usual names are replaced; a mapping: those too, before the usual ones; False: none"],
+            "strict": [False, "whether a formula that is refused, or has a marked error, is an error"],
+            "page": ["page", "where the page finds the folder of the style sheet and the script; False: no link"],
+        }
+        self._page = Page()
+        super().__init__(**options)
+
+    def setConfig(self, key: str, value: Any) -> None:
+        """Takes an option as it is, since `names` and `page` are of more types than one."""
+        self.config[key][0] = value
+
+    def extendMarkdown(self, md: Markdown) -> None:
+        md.registerExtension(self)
+        page, folder = self._page, self.getConfig("page")
+        conversion = Conversion(md, page, Renderer(self.getConfig("names")), self.getConfig("strict"))
+        md.preprocessors.register(PageText(md, page), NAME, _FIRST)
+        md.parser.blockprocessors.register(BlockFormulas(md, page), NAME, _BLOCK_PRIORITY)
+        md.inlinePatterns.register(InlineFormulas(md, page), NAME, _INLINE_PRIORITY)
+        md.treeprocessors.register(conversion, NAME, _TREE_PRIORITY)
+        if folder:
+            md.postprocessors.register(PageLinks(md, page, folder), NAME, _LAST)
+
+    def reset(self) -> None:
+        self._page.formulas.clear()
+
+
+def makeExtension(**options: Any) -> Latex2MathML:
+    """Returns the extension, for a caller that names this module."""
+    return Latex2MathML(**options)

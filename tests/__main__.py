@@ -1,0 +1,83 @@
+"""Proves and tests everything, or runs some of the cases:
+
+    ./test                                              all
+    ./test proofs                                       the proofs, the wrong bodies and the tests in Rattle alone
+    ./test tests.test_program [tests.test_program.Words.test_inline ..]    modules, classes or cases, over what is built
+
+The last line is 'N passed, M failed', and the status is 1 where a case failed.
+"""
+import os
+import signal
+import sys
+
+from tests.modules import Runs, every_name, module_of, name_of
+from tests.results import Counts
+from tests.steps import Command, Library, Proofs, SCRIPTS, set_aside
+from tests.support import BUILD_NOTHING, ROOT, RUN, scratch
+from tools.progress import Screen, Stopwatch, clock
+
+
+def prove(screen):
+    """Proves everything, and builds the library for C of what was proved."""
+    proofs = Proofs()
+    steps = [proofs, Library(proofs)]
+    with set_aside():
+        for step in steps:
+            step.do(screen)
+    return steps
+
+
+def try_modules(names, screen, renews=True):
+    runs = Runs(screen, renews)
+    modules = [module_of(name) for name in names]
+    runs.run(modules)
+    return modules, runs.failures
+
+
+def everything(screen):
+    steps = prove(screen)
+    # what is tried from here on is what was proved and built
+    os.environ[BUILD_NOTHING] = "1"
+    scripts = [Command(script, [ROOT / script]) for script in SCRIPTS if (ROOT / script).exists()]
+    for step in scripts:
+        step.do(screen)
+    modules, failures = try_modules(every_name(), screen)
+    return [*steps, *scripts, *modules], failures
+
+
+def main(words):
+    screen, watch = Screen(), Stopwatch()
+    for number in (signal.SIGTERM, signal.SIGHUP):
+        signal.signal(number, lambda number, frame: sys.exit(128 + number))
+    with scratch() as folder:
+        os.environ[RUN] = str(folder)
+        if words == ["proofs"]:
+            steps, failures = prove(screen), []
+        elif words:
+            # what has to be built for them says itself how far it is
+            steps, failures = try_modules([name_of(word) for word in words], screen, renews=False)
+        else:
+            steps, failures = everything(screen)
+    total = Counts()
+    for step in steps:
+        total.add(step.counts)
+    screen.say(table(steps, watch))
+    for name in failures:
+        screen.say(f"FAILED: {name}")
+    screen.say(f"{total.passed} passed, {total.failed} failed")
+    return 1 if total.failed else 0
+
+
+def table(steps, watch):
+    """The times of each step, of all processors together too."""
+    rows = [("", "time", "processors", ""), *((it.name, clock(it.seconds), clock(it.spent), str(it.counts)) for it in steps)]
+    rows.append(("all", str(watch), clock(sum(it.spent for it in steps)), ""))
+    width = max(len(row[0]) for row in rows)
+    return "\n".join(f"{row[0]:{width}}  {row[1]:>9}  {row[2]:>10}  {row[3]}".rstrip() for row in rows)
+
+
+if __name__ == "__main__":
+    try:
+        sys.exit(main(sys.argv[1:]))
+    except KeyboardInterrupt:
+        sys.exit(130)

@@ -1,0 +1,184 @@
+"""What `./test` does, step by step: the proofs, then what they built is made into a library for C, and then the cases."""
+import contextlib
+import os
+import pathlib
+import re
+import resource
+import shutil
+import time
+
+from tests.results import Counts
+from tests.support import ROOT, kit
+from tools.progress import Stopwatch, end_of, follow
+
+OUT = ROOT / "out"
+LAST_LINE = re.compile(r"(\d+) passed, (\d+) failed")
+
+# Scripts that are no modules yet. Each has a last line 'N passed, M failed'.
+SCRIPTS = ["tools/check-depth", "tools/run-without-memory", "tools/run-with-faults", "tools/check-page"]
+
+
+class Step:
+    """A step of `./test`, with its times once it has ended."""
+
+    seconds = 0.0
+    spent = 0.0
+
+    def __init__(self, name):
+        self.name = name
+        self.counts = Counts()
+
+    def do(self, screen):
+        watch, before = Stopwatch(), spent_by_children()
+        screen.say(f"{self.name}")
+        self.run(screen, watch)
+        screen.clear()
+        self.seconds, self.spent = watch.seconds(), spent_by_children() - before
+        screen.say(f"    {self.counts}, {watch}")
+
+    def run(self, screen, watch):
+        raise NotImplementedError
+
+
+class Command(Step):
+    """A command whose last line is 'N passed, M failed'. One that has no such line, or fails though its line has no failure,
+    has failed once."""
+
+    def __init__(self, name, words):
+        super().__init__(name)
+        self.words = words
+        self.log = OUT / f"{pathlib.Path(words[0]).name}{'-'.join(['', *words[1:]])}.log"
+
+    def run(self, screen, watch):
+        screen.say(f"    all that it prints is kept in {self.log}")
+        said = []
+
+        def on_line(line):
+            said.append(line)
+            self.read(line, screen)
+
+        status = follow(self.words, self.log, on_line=on_line, on_second=lambda: self.renew(screen, watch), cwd=ROOT)
+        last = LAST_LINE.fullmatch(said[-1]) if said else None
+        if last:
+            self.counts = Counts(int(last[1]), int(last[2]))
+        if not last or (status and not self.counts.failed):
+            self.counts.failed += 1
+        if self.counts.failed:
+            screen.say(end_of(self.log))
+
+    def read(self, line, screen):
+        if line.startswith(("FAILED", "SKIPPED")):
+            screen.say(f"    {line}")
+
+    def renew(self, screen, watch):
+        screen.renew(f"    {watch}")
+
+
+class Proofs(Command):
+    """Everything from nothing: the proofs, the wrong bodies, the tests in Rattle, and a run of each program."""
+
+    def __init__(self):
+        super().__init__("proofs, wrong bodies and tests in Rattle", ["rt", "ci"])
+        self.crates = len(list((ROOT / "crates").iterdir()))
+        self.proved = set()
+
+    def run(self, screen, watch):
+        begun = time.time()
+        super().run(screen, watch)
+        # a source that is edited meanwhile is newer than what was proved and built
+        for made in (ROOT / "crates").glob("*/out/*"):
+            if made.is_file():
+                os.utime(made, (begun, begun))
+
+    def read(self, line, screen):
+        told = re.fullmatch(r"rt: (\w+)(: its tests are)? (proved|NOT PROVED).*", line)
+        if told and told[3] == "proved" and not told[2]:
+            self.proved.add(told[1])
+        if told or "trying its must-fail edits" in line:
+            screen.say(f"    {line.removeprefix('rt: ')}")
+
+    def renew(self, screen, watch):
+        screen.renew(f"    {len(self.proved)} of {self.crates} crates  {watch}")
+
+
+class Library(Step):
+    """The static library for C, built from the libraries as `rt ci` proved and built them: it keeps them as rlibs, and of a
+    static library, which it proves too, it keeps nothing."""
+
+    crate = "latex2mathml_c"
+
+    def __init__(self, proofs):
+        super().__init__("the library for C")
+        self.proofs = proofs
+        self.log = OUT / "library-for-c.log"
+
+    def run(self, screen, watch):
+        below = crates_below(self.crate)
+        if not {self.crate, *below} <= self.proofs.proved:
+            screen.say("    it is not built, since it was not proved")
+            self.counts.failed += 1
+            return
+        archive = ROOT / "crates" / self.crate / "out" / f"lib{self.crate}.a"
+        begun = time.time()
+        status = follow(rattle_words(self.crate, below, archive), self.log, on_second=lambda: screen.renew(f"    {watch}"),
+                        cwd=ROOT / "crates" / self.crate)
+        if status:
+            screen.say(end_of(self.log))
+            self.counts.failed += 1
+            return
+        os.utime(archive, (begun, begun))
+        self.counts.passed += 1
+
+
+def rattle_words(crate, below, archive):
+    """The words of the prover that prove and build a static library over the rlibs of the crates below it."""
+    tools = kit()
+    words = [tools / "bin/rattle", "build", "--crate-name", crate, "src/lib.rt", "--crate-type", "staticlib"]
+    words += ["--extern", f"std={tools}/rlibs/std.rlib", "-L", f"dependency={tools}/rlibs"]
+    for name in below:
+        rlib = ROOT / "crates" / name / "out/rlib"
+        words += ["--extern", f"{name}={rlib}/{name}.rlib"] if name in named_by(crate) else []
+        words += ["-L", f"dependency={rlib}"]
+    words += ["--antt-project", tools / "rattle/logic/antt-project.json", "--logic-built", tools / "logic_built"]
+    words += ["--jobs", str(min(len(os.sched_getaffinity(0)), 2)), "--links", f"{crate}="]
+    return [*words, "--toolchain", tools / "toolchain", "--backend", "llvm", "-o", archive]
+
+
+def named_by(crate):
+    """The crates that a crate's line of crates.txt names."""
+    for line in (ROOT / "crates.txt").read_text(encoding="utf-8").splitlines():
+        head, _, below = line.partition("#")[0].partition(":")
+        if head.split()[:1] == [crate]:
+            return below.split()
+    raise ValueError(f"crates.txt has no line of {crate}")
+
+
+def crates_below(crate):
+    found = []
+    for name in named_by(crate):
+        found += [it for it in [*crates_below(name), name] if it not in found]
+    return found
+
+
+@contextlib.contextmanager
+def set_aside():
+    """Keeps the rlibs that earlier checks built away for as long as `rt ci` and what follows it run: so its own stay, which it
+    would give up for those."""
+    aside = OUT / "aside"
+    shutil.rmtree(aside, ignore_errors=True)
+    aside.mkdir(parents=True)
+    kept = list((ROOT / "crates").glob("*/out/rlib"))
+    for rlib in kept:
+        rlib.rename(aside / rlib.parent.parent.name)
+    try:
+        yield
+    finally:
+        for rlib in kept:
+            shutil.rmtree(rlib, ignore_errors=True)
+            rlib.parent.mkdir(exist_ok=True)
+            (aside / rlib.parent.parent.name).rename(rlib)
+
+
+def spent_by_children():
+    used = resource.getrusage(resource.RUSAGE_CHILDREN)
+    return used.ru_utime + used.ru_stime

@@ -1,0 +1,182 @@
+"""The library for C: what its folder has, its calls from C and C++, with memory refused, deep and in threads, and its examples."""
+import os
+import re
+import shlex
+import shutil
+
+from tests.support import Case, ROOT, c_library, requires, run, scratch
+
+CC = shlex.split(os.environ.get("CC", "cc"))
+CXX = shlex.split(os.environ.get("CXX", "c++"))
+WRAP = ["-Wl,--wrap=malloc,--wrap=realloc,--wrap=free", "-pthread"]
+
+
+def math(display):
+    return f'<math xmlns="http://www.w3.org/1998/Math/MathML" display="{display}"><mi>x</mi><mo>&lt;</mo><mi>y</mi></math>'
+
+
+INLINE, BLOCK = math("inline"), math("block")
+REASON = b'The token "RBrace" is expected, but the token "EOF" is found."'
+CALLS = {"latex2mathml_formula", "latex2mathml_document"}
+
+
+def every_rule():
+    """The formulas that have each rule of the grammar once."""
+    lines = (ROOT / "tools/every-rule.txt").read_text(encoding="utf-8").split("\n")
+    return lines[0:-1:2]
+
+
+@requires(CC[0], "nm", "ldd")
+class Folder(Case):
+    def test_a_folder_that_exists_is_left_alone(self):
+        done = run([ROOT / "tools/make-c-library", c_library()])
+        self.expect(done, 1, b"", None)
+
+    def test_names(self):
+        """Nothing but the two calls can be linked to."""
+        for name, words in [("liblatex2mathml.a", ["nm", "-g"]), ("liblatex2mathml.so", ["nm", "-D"])]:
+            with self.subTest(name):
+                done = run([*words, "--defined-only", "--format=posix", c_library() / name])
+                self.assertEqual(done.returncode, 0, done)
+                self.assertEqual(set(re.findall(r"^(\w+) [A-Z] ", done.stdout.decode(), re.MULTILINE)), CALLS)
+
+    def test_what_the_shared_library_needs(self):
+        done = run(["ldd", c_library() / "liblatex2mathml.so"])
+        self.expect(done, 0)
+        needed = [line.split()[0] for line in done.stdout.decode().splitlines()]
+        others = [name for name in needed if not re.search(r"linux-vdso|linux-gate|ld-linux|libc\.so", name)]
+        self.assertEqual(others, [])
+
+    def test_the_header_is_c99(self):
+        self.expect(run([*CC, "-std=c99", "-pedantic", "-Wall", "-Wextra", "-Werror", "-fsyntax-only", "-x", "c", c_library() / "latex2mathml.h"]))
+
+    @requires(CXX[0])
+    def test_cpp(self):
+        """A file of C++ is compiled, linked and run."""
+        folder = self.enterContext(scratch())
+        program = folder / "header"
+        self.expect(run([*CXX, "-std=c++11", "-pedantic", "-Wall", "-Wextra", "-Werror", "-I", c_library(), ROOT / "tests/header.cc",
+                         c_library() / "liblatex2mathml.a", "-o", program]))
+        self.expect(run([program]), stdout=f"{BLOCK}\na {INLINE}\n".encode())
+
+
+class Built(Case):
+    """Cases in C, `c_cases.c`, which are built once with these words for the compiler."""
+
+    options = []
+
+    @classmethod
+    def setUpClass(cls):
+        cls.program = cls.enterClassContext(scratch()) / "cases"
+        words = [*CC, "-std=gnu11", "-Wall", "-Wextra", *cls.options, "-I", c_library(), ROOT / "tests/c_cases.c",
+                 c_library() / "liblatex2mathml.a", *WRAP, "-o", cls.program]
+        done = run(words)
+        if done.returncode:
+            raise RuntimeError(done.stderr.decode(errors="replace"))
+
+    def judge(self, word, stdin=b""):
+        done = run([self.program, word], stdin=stdin, timeout=300)
+        lines = done.stdout.decode(errors="replace").splitlines()
+        for line in lines:
+            verdict, _, name = line.partition(": ")
+            if verdict in ("passed", "FAILED"):
+                with self.subTest(name):
+                    self.assertEqual(verdict, "passed", [it for it in lines if it.startswith("wrong")])
+        if not lines or lines[-1] != "all were judged" or done.stderr:
+            self.fail(f"{word} did not end: status {done.returncode}\n{done.stderr.decode(errors='replace')}")
+
+
+@requires(CC[0])
+class Calls(Built):
+    options = ["-O2"]
+
+    def test_answers(self):
+        self.judge("answers")
+
+    def test_memory(self):
+        self.judge("memory")
+
+    def test_every_rule_with_memory_refused(self):
+        self.judge("rules", "".join(f"{formula}\n" for formula in every_rule()).encode())
+
+    def test_threads(self):
+        self.judge("threads")
+
+
+@requires(CC[0])
+class Deep(Built):
+    options = ["-O2"]
+
+    def test_deep(self):
+        """On a stack of 128 KiB."""
+        self.judge("deep")
+
+
+@requires(CC[0])
+class Sanitized(Built):
+    """Under the address sanitizer."""
+
+    options = ["-O1", "-g", "-fsanitize=address"]
+
+    def test_answers(self):
+        self.judge("answers")
+
+    def test_memory(self):
+        self.judge("memory")
+
+    def test_random_inputs(self):
+        self.judge("random")
+
+
+@requires(CC[0])
+class Examples(Case):
+    @classmethod
+    def setUpClass(cls):
+        # a copy, since they are built beside their sources, and find the library in the folder above
+        cls.folder = cls.enterClassContext(scratch()) / "c"
+        shutil.copytree(c_library(), cls.folder)
+        cls.built = run([cls.folder / "examples/build"])
+
+    def check_example(self, *words):
+        """A program that prints the markup of its last word, or its reason and another status."""
+        self.expect(run([*words, "x<y"]), stdout=f"{INLINE}\n".encode())
+        refused = run([*words, "{x"])
+        self.assertNotEqual(refused.returncode, 0, refused)
+        self.assertEqual(refused.stdout, b"")
+        self.assertIn(REASON, refused.stderr)
+
+    def test_they_are_built(self):
+        self.expect(self.built)
+
+    def test_c(self):
+        self.check_example(self.folder / "examples/formula")
+
+    def python(self, expression):
+        words = ["python3", "-c", f"import latex2mathml; print({expression})"]
+        return run(words, cwd=self.folder / "examples")
+
+    @requires("python3")
+    def test_python(self):
+        with self.subTest("as a program"):
+            self.check_example("python3", self.folder / "examples/latex2mathml.py")
+        for expression, answer in [("latex2mathml.document('a $x<y$')", f"a {INLINE}"), ("latex2mathml.formula('x<y')", INLINE),
+                                   ("latex2mathml.formula('x<y', True)", BLOCK), ("latex2mathml.formula(b'x<y', block=False)", INLINE)]:
+            with self.subTest(expression):
+                self.expect(self.python(expression), stdout=f"{answer}\n".encode())
+
+    def node(self, expression, *words):
+        addon = self.folder / "examples/latex2mathml.node"
+        if not addon.exists():
+            self.skipTest("the header of Node, node_api.h, is not installed")
+        return run(["node", "-e", f"console.log(require('{addon}').formula({expression}))", *words])
+
+    @requires("node")
+    def test_node(self):
+        for expression, answer in [("'x<y', false", INLINE), ("'x<y', true", BLOCK), ("'x<y'", INLINE)]:
+            with self.subTest(expression):
+                self.expect(self.node(expression), stdout=f"{answer}\n".encode())
+        with self.subTest("refused"):
+            refused = self.node("'{x', false")
+            self.assertNotEqual(refused.returncode, 0, refused)
+            self.assertEqual(refused.stdout, b"")
+            self.assertIn(REASON, refused.stderr)

@@ -1,0 +1,72 @@
+"""The folder for people without Rattle, tried as they would, with nothing of the checkout."""
+import re
+
+from tests.support import Case, ROOT, program, requires, run, scratch
+
+CRATE = "crates/latex2mathml_c"
+
+
+def math(display):
+    return f'<math xmlns="http://www.w3.org/1998/Math/MathML" display="{display}"><mi>x</mi><mo>&lt;</mo><mi>y</mi></math>'
+
+
+INLINE, BLOCK = math("inline"), math("block")
+
+
+@requires("cc", "objdump", "ldd")
+class Dist(Case):
+    @classmethod
+    def setUpClass(cls):
+        cls.dist = cls.enterClassContext(scratch()) / "dist"
+        cls.made = run([ROOT / "tools/make-dist", cls.dist], timeout=300)
+
+    def run_there(self, *words, **more):
+        """Runs a program of the folder, without an environment."""
+        return run([self.dist / words[0], *words[1:]], cwd=self.dist, env={}, **more)
+
+    def test_it_is_made(self):
+        self.expect(self.made, stderr=None)
+
+    def test_a_folder_that_exists_is_left_alone(self):
+        self.expect(run([ROOT / "tools/make-dist", self.dist]), 1, b"", None)
+
+    def test_files(self):
+        for file, source in [
+            ("LICENSE", "LICENSE"), ("page/latex2mathml.css", "page/latex2mathml.css"), ("page/latex2mathml.js", "page/latex2mathml.js"),
+            ("c/latex2mathml.h", f"{CRATE}/include/latex2mathml.h"),
+            *((f"c/examples/{name}", f"{CRATE}/examples/{name}") for name in ("formula.c", "latex2mathml.py", "addon.c")),
+        ]:
+            with self.subTest(file):
+                self.assertEqual((self.dist / file).read_bytes(), (ROOT / source).read_bytes())
+
+    def test_the_readme_says_what_is_needed(self):
+        """The C library, and its newest version that the program asks for, by number: 2.34 is newer than 2.4."""
+        text = (self.dist / "README.md").read_text(encoding="utf-8")
+        self.assertIn("libc.so", text)
+        symbols = run(["objdump", "-T", program()]).stdout.decode()
+        versions = {tuple(map(int, found.split("."))) for found in re.findall(r"GLIBC_(\d+(?:\.\d+)*)", symbols)}
+        newest = ".".join(map(str, max(versions)))
+        self.assertIn(f"the C library of GNU, version {newest} or later;", text)
+
+    def test_formulas(self):
+        for word, markup in [("inline", INLINE), ("block", BLOCK)]:
+            with self.subTest(word):
+                self.expect(self.run_there("latex2mathml", word, stdin=b"x<y"), stdout=f"{markup}\n".encode())
+        with self.subTest("refused"):
+            refused = self.run_there("latex2mathml", "inline", stdin=b"{x")
+            self.expect(refused, 1, b"", None)
+            self.assertEqual(refused.stderr.count(b"\n"), 1)
+
+    def test_a_folder_of_pages(self):
+        site = self.enterContext(scratch())
+        (site / "a.html").write_text("a $x<y$ $$x<y$$")
+        self.expect(self.run_there("latex2mathml", "html", site))
+        self.assertEqual((site / "a.html").read_text(), f"a {INLINE} {BLOCK}")
+
+    def test_the_library_from_c(self):
+        self.expect(run([self.dist / "c/examples/build"]))
+        self.expect(self.run_there("c/examples/formula", "x<y"), stdout=f"{INLINE}\n".encode())
+
+    @requires("python3")
+    def test_the_library_from_python(self):
+        self.expect(run(["python3", "c/examples/latex2mathml.py", "x<y"], cwd=self.dist), stdout=f"{INLINE}\n".encode())

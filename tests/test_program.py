@@ -1,0 +1,340 @@
+"""The program, through the launcher: its words, its streams, its status, and the files that it converts."""
+import os
+import resource
+import shutil
+import subprocess
+
+from tests.support import Case, ROOT, program, run, scratch
+
+LAUNCHER = ROOT / "latex2mathml"
+USAGE = b"usage: latex2mathml inline | block | document | html PATH\n"
+NOBODY = 65534
+
+
+def math(inner, display="inline"):
+    return f'<math xmlns="http://www.w3.org/1998/Math/MathML" display="{display}">{inner}</math>'.encode()
+
+
+LESS = "<mi>x</mi><mo>&lt;</mo><mi>y</mi>"
+INLINE = math(LESS)
+BLOCK = math(LESS, "block")
+X = math("<mi>x</mi>")
+
+
+def error(text):
+    return f"LaTeX2MathML Error: {text}\n".encode()
+
+
+NO_END = error('The token "RBrace" is expected, but the token "EOF" is found."')
+NO_TEXT = error("The input is not UTF-8 text.")
+NO_INPUT = error("The input could not be read.")
+NO_OUTPUT = error("The output stopped after 0 bytes.")
+UNPAIRED = "The number of dollar sings found is invalid."
+
+
+def closing(*streams):
+    """Has a process start with these streams closed."""
+    def close():
+        for stream in streams:
+            os.close(stream)
+    return {"preexec_fn": close}
+
+
+class Formulas(Case):
+    def test_answered(self):
+        for name, given, word, markup in [
+            ("a line", b"x<y", "inline", INLINE),
+            ("a block", b"x<y", "block", BLOCK),
+            ("a line feed behind the formula", b"x<y\n", "inline", INLINE),
+            ("nothing", b"", "inline", math("")),
+        ]:
+            with self.subTest(name):
+                self.expect(run([LAUNCHER, word], stdin=given), stdout=markup + b"\n")
+
+    def test_refused(self):
+        for name, given, word, line in [
+            ("a brace that does not close", b"{x", "inline", NO_END),
+            ("an input that is no text", b"x\xff", "inline", NO_TEXT),
+            ("a character that is cut off", b"x\xc3", "block", NO_TEXT),
+        ]:
+            with self.subTest(name):
+                self.expect(run([LAUNCHER, word], stdin=given), 1, b"", line)
+
+    def test_a_million_braces(self):
+        """They are read with a stack of 8 MiB, and one that does not close is found."""
+        def limit():
+            resource.setrlimit(resource.RLIMIT_STACK, (8 << 20, 8 << 20))
+        opened, closed = b"{" * 1_000_000, b"}" * 1_000_000
+        for name, given, wanted in [("closed", opened + b"x" + closed, (0, X + b"\n", b"")),
+                                    ("one does not close", opened + b"x" + closed[1:], (1, b"", NO_END))]:
+            with self.subTest(name):
+                self.expect(run([LAUNCHER, "inline"], stdin=given, preexec_fn=limit), *wanted)
+
+
+class Documents(Case):
+    def test_answered(self):
+        for name, given, answer in [
+            ("a formula in prose", b"a $x<y$, b", b"a " + INLINE + b", b"),
+            ("a formula in a block", b"$$x<y$$", BLOCK),
+            ("a line feed at the end", b"$x<y$\n", INLINE + b"\n"),
+            ("no formula", b"no sign", b"no sign"),
+            ("nothing", b"", b""),
+            ("a dollar sign behind a backslash", b"\\$5, $x<y$", b"&#x24;5, " + INLINE),
+            ("prose outside ASCII", "é $x<y$ é\r\n\0".encode(), "é ".encode() + INLINE + " é\r\n\0".encode()),
+        ]:
+            with self.subTest(name):
+                self.expect(run([LAUNCHER, "document"], stdin=given), stdout=answer)
+
+    def test_refused(self):
+        for name, given, line in [
+            ("dollar signs that do not pair", b"$$$", error(UNPAIRED)),
+            ("a refused formula behind another", b"a $x$ ${x$", NO_END),
+            ("no text", b"a $x$ \xff", NO_TEXT),
+        ]:
+            with self.subTest(name):
+                self.expect(run([LAUNCHER, "document"], stdin=given), 1, b"", line)
+
+
+class Words(Case):
+    def test_wrong(self):
+        for name, words in [
+            ("none", []),
+            ("an empty one", [""]),
+            ("a wrong one", ["markup"]),
+            ("two", ["inline", "block"]),
+            ("a document and a path", ["document", "index.html"]),
+            ("a right one and an empty one", ["inline", ""]),
+            ("one that begins as a right one", ["inlines"]),
+            ("the beginning of a right one", ["bloc"]),
+            ("documents", ["documents"]),
+            ("capitals", ["INLINE"]),
+            ("white space behind a right one", ["inline "]),
+            ("one that is no text", [b"\xff"]),
+            ("a right one and one that is no text", ["inline", b"a\xc3"]),
+            ("a path and another", ["html", ".", "extra"]),
+            ("no path", ["html"]),
+        ]:
+            with self.subTest(name):
+                self.expect(run([LAUNCHER, *words], stdin=b"x<y"), 2, b"", USAGE)
+
+    def test_wrong_ones_leave_the_input_alone(self):
+        """One line comes though nothing is ever written to the input."""
+        reading, writing = os.pipe()
+        with open(reading, "rb") as never, open(writing, "wb"):
+            self.expect(run([LAUNCHER, "markup"], stdin=never, timeout=20), 2, b"", USAGE)
+
+
+class Streams(Case):
+    def setUp(self):
+        self.folder = self.enterContext(scratch())
+        (self.folder / "in").write_bytes(b"x<y")
+
+    def test_closed_input(self):
+        for word in ("inline", "document"):
+            with self.subTest(word):
+                self.expect(run([LAUNCHER, word], stdin=subprocess.DEVNULL, **closing(0)), 1, b"", NO_INPUT)
+
+    def test_a_directory_as_the_input(self):
+        folder = os.open(self.folder, os.O_RDONLY)
+        self.addCleanup(os.close, folder)
+        self.expect(run([LAUNCHER, "inline"], stdin=folder), 1, b"", NO_INPUT)
+
+    def test_closed_output(self):
+        for word in ("inline", "document"):
+            with self.subTest(word):
+                done = run([LAUNCHER, word], stdin=b"x<y", stdout=subprocess.DEVNULL, **closing(1))
+                self.expect(done, 1, None, NO_OUTPUT)
+
+    def test_a_full_device(self):
+        with open("/dev/full", "wb") as full:
+            self.expect(run([LAUNCHER, "inline"], stdin=b"x<y", stdout=full), 1, None, NO_OUTPUT)
+
+    def test_closed_errors(self):
+        quiet = {"stderr": subprocess.DEVNULL}
+        with self.subTest("wrong words"):
+            self.expect(run([LAUNCHER], stdin=b"x<y", **quiet, **closing(2)), 2, b"", None)
+        with self.subTest("and a closed input"):
+            self.expect(run([LAUNCHER, "inline"], stdin=subprocess.DEVNULL, **quiet, **closing(0, 2)), 1, b"", None)
+
+    def test_what_is_read_of_the_input(self):
+        """Wrong words leave the input to who comes next, and right words read all of it."""
+        for words, status, left in [(["markup"], 2, b"x<y"), (["inline"], 0, b"")]:
+            with self.subTest(words), open(self.folder / "in", "rb", buffering=0) as given:
+                self.assertEqual(run([LAUNCHER, *words], stdin=given).returncode, status)
+                self.assertEqual(given.read(), left)
+
+
+class Site(Case):
+    """A folder `site`, which each case fills and converts."""
+
+    command = LAUNCHER
+
+    def setUp(self):
+        self.folder = self.enterContext(scratch())
+        self.site = self.folder / "site"
+        self.site.mkdir()
+
+    def put(self, texts):
+        for name, text in texts.items():
+            path = os.path.join(os.fsencode(self.site), os.fsencode(name))
+            os.makedirs(os.path.dirname(path), exist_ok=True)
+            with open(path, "wb") as file:
+                file.write(text)
+
+    def expect_files(self, texts):
+        for name, text in texts.items():
+            with open(os.path.join(os.fsencode(self.site), os.fsencode(name)), "rb") as file:
+                self.assertEqual(file.read(), text, name)
+
+    def convert(self, path, faults=(), **more):
+        """Converts what lies under a path; the faults are pairs of a path and its line."""
+        lines = b"".join(error(f"{at}: {text}") for at, text in faults)
+        done = run([self.command, "html", path], stdin=subprocess.DEVNULL, **more)
+        self.expect(done, 1 if faults else 0, b"", lines)
+
+
+class Files(Site):
+    BEFORE = {
+        ".html": b"$x$", "a.html": b"$x$", "b.html": b"$$$", "c.htm": b"$x$", "c.HTML": b"$x$", "d/e.html": b"no sign",
+        "d/g.html": b"{$x$", "d.html/a.html": b"$a$$", "e.html": b"", "f.html": b"\xff",
+    }
+    AFTER = {**BEFORE, "a.html": X, "d/g.html": b"{" + X}
+
+    def faults_of_before(self, path):
+        return [(f"{path}/b.html", UNPAIRED), (f"{path}/d.html/a.html", UNPAIRED), (f"{path}/f.html", "The input is not UTF-8 text.")]
+
+    def test_a_folder(self):
+        self.put(self.BEFORE)
+        (self.site / "none").mkdir()
+        self.convert(self.site, self.faults_of_before(self.site))
+        self.expect_files(self.AFTER)
+
+    def test_a_folder_once_more(self):
+        """No file is written where nothing in it changes."""
+        self.put(self.AFTER)
+        for file in self.site.rglob("*.*"):
+            os.utime(file, (0, 0))
+        self.convert(self.site, self.faults_of_before(self.site))
+        self.expect_files(self.AFTER)
+        written = [file for file in self.site.rglob("*") if file.is_file() and file.stat().st_mtime]
+        self.assertEqual(written, [])
+
+    def test_a_path_that_ends_in_slashes(self):
+        for slashes, named in [("/", ""), ("//", "/")]:
+            with self.subTest(slashes):
+                self.put(self.BEFORE)
+                self.convert(f"{self.site}{slashes}", self.faults_of_before(f"{self.site}{named}"))
+                self.expect_files(self.AFTER)
+
+    def test_nothing_to_convert(self):
+        (self.site / "none").mkdir()
+        for name, path in [("an empty folder", self.site / "none"), ("a path where nothing stands", self.site / "nothing.html"),
+                           ("an empty path", ""), ("a device", "/dev/null")]:
+            with self.subTest(name):
+                self.convert(path)
+
+    def test_a_file(self):
+        self.put({"a.html": b"$$$", "b.html": b"$x$", "x": b"$x$"})
+        with self.subTest("converted"):
+            self.convert(self.site / "b.html")
+            self.expect_files({"a.html": b"$$$", "b.html": X})
+        with self.subTest("refused"):
+            self.convert(self.site / "a.html", [(self.site / "a.html", UNPAIRED)])
+            self.expect_files({"a.html": b"$$$"})
+        with self.subTest("no document by its name"):
+            self.convert(self.site / "x")
+            self.expect_files({"x": b"$x$"})
+
+    def test_order(self):
+        """That of the names' bytes, a subfolder whole in its place, whatever stands behind it."""
+        order = ["Z.html", "a.html", "b/a/z.html", "b/b.html", "b-.html", "b.html", "ba.html", "z.html", "é/a.html"]
+        self.put(dict.fromkeys(reversed(order), b"$"))
+        self.convert(self.site, [(self.site / name, UNPAIRED) for name in order])
+
+    def test_links(self):
+        """They are followed: to a file, which stays a link, to a folder, to nothing, and to itself."""
+        self.put({"aside/a.html": b"$x$", "alone": b"$x$"})
+        walked = self.site / "walked"
+        walked.mkdir()
+        for name, target in [("d", self.site / "aside"), ("b.html", self.site / "alone"), ("c.html", "nothing"), ("e.html", "e.html")]:
+            (walked / name).symlink_to(target)
+        self.convert(walked)
+        self.expect_files({"walked/d/a.html": X, "walked/b.html": X, "alone": X})
+        self.assertTrue((walked / "b.html").is_symlink())
+
+    def test_a_folder_in_itself(self):
+        """The system follows no more than so many links in one path, and what stands behind them is left alone."""
+        (self.site / "d").symlink_to(".")
+        self.put({"a.html": b"$x$"})
+        self.convert(self.site)
+        self.expect_files({"a.html": X})
+
+    def test_a_folder_below_itself(self):
+        (self.site / "a").mkdir()
+        (self.site / "a/b").symlink_to("..")
+        self.put({"a.html": b"$x$"})
+        self.convert(self.site, [(f"{self.site}{'/a/b' * 32}", "The directory lies deeper than 64 levels.")])
+        self.expect_files({"a.html": X})
+
+    def test_66_levels(self):
+        names = ["d/" * level + "a.html" for level in range(66)]
+        self.put(dict.fromkeys(names, b"$x$"))
+        self.convert(self.site, [(f"{self.site}{'/d' * 64}", "The directory lies deeper than 64 levels.")])
+        self.expect_files({name: X if name in names[:64] else b"$x$" for name in names})
+
+    def test_names_that_are_no_text(self):
+        """One fault each, before the other entries, and nothing behind them is converted."""
+        try:
+            self.put({b"b/\xff/a.html": b"$x$", b"b/\xff.html": b"$x$"})
+        except OSError as why:
+            self.skipTest(f"the file system takes no such names: {why}")
+        self.put({"b/a.html": b"$$$", "a.html": b"$$$", "c.html": b"$x$"})
+        no_name = (self.site / "b", "An entry of the directory could not be read.")
+        self.convert(self.site, [(self.site / "a.html", UNPAIRED), no_name, no_name, (self.site / "b/a.html", UNPAIRED)])
+        self.expect_files({b"b/\xff/a.html": b"$x$", b"b/\xff.html": b"$x$", "c.html": X})
+
+    def test_closed_streams(self):
+        """They change no status."""
+        self.put({"a.html": b"$$$", "b.html": b"$x$"})
+        quiet = {"stdout": subprocess.DEVNULL, "stderr": subprocess.DEVNULL}
+        done = run([LAUNCHER, "html", self.site], stdin=subprocess.DEVNULL, **quiet, **closing(0, 1, 2))
+        self.expect(done, 1, None, None)
+        self.expect_files({"a.html": b"$$$", "b.html": X})
+
+    def test_nothing_is_read_from_the_input(self):
+        self.put({"a.html": b"$$$", "b.html": b"$x$"})
+        with open(self.site / "a.html", "rb", buffering=0) as given:
+            done = run([LAUNCHER, "html", self.site], stdin=given)
+            self.assertEqual(given.read(), b"$$$")
+        self.expect(done, 1, b"", error(f"{self.site}/a.html: {UNPAIRED}"))
+        self.expect_files({"b.html": X})
+
+
+class Rights(Site):
+    """What may not be opened. Where this user may open everything, as root may, another one tries it."""
+
+    def setUp(self):
+        super().setUp()
+        self.command = shutil.copy(program(), self.folder / "latex2mathml")
+        self.put({"a.html": b"$x$", "b.html": b"$x$", "c.html": b"no sign", "d/a.html": b"$x$", "walled/a.html": b"$x$", "z.html": b"$x$"})
+        self.as_other = {}
+        if os.geteuid() == 0:
+            self.as_other = {"user": NOBODY, "group": NOBODY, "extra_groups": []}
+            self.folder.chmod(0o711)
+            for path in (self.site, *self.site.rglob("*")):
+                os.chown(path, NOBODY, NOBODY)
+
+    def test_files_and_folders(self):
+        for name, mode in [("a.html", 0), ("b.html", 0o444), ("c.html", 0o444), ("d", 0), ("walled", 0o444)]:
+            (self.site / name).chmod(mode)
+        no_file = (self.site / "b.html", "The file could not be created anew.")
+        with self.subTest("closed"):
+            faults = [(self.site / "a.html", "The input could not be read."), no_file,
+                      (self.site / "d", "The directory could not be listed.")]
+            self.convert(self.site, faults, **self.as_other)
+            self.expect_files({"b.html": b"$x$", "c.html": b"no sign", "z.html": X})
+        with self.subTest("opened again"):
+            for name, mode in [("a.html", 0o644), ("d", 0o755), ("walled", 0o755)]:
+                (self.site / name).chmod(mode)
+            self.convert(self.site, [no_file], **self.as_other)
+            self.expect_files({"a.html": X, "b.html": b"$x$", "d/a.html": X, "walled/a.html": X})

@@ -1,0 +1,94 @@
+"""How far something long is: a line that a terminal renews in place, and what a command prints, kept in a file."""
+import pathlib
+import shutil
+import subprocess
+import sys
+import threading
+import time
+
+# As many lines of a command's output as are shown where it fails.
+SHOWN = 40
+
+
+def clock(seconds):
+    """`1:40`, or `1:02:03` from an hour on."""
+    minutes, seconds = divmod(int(seconds), 60)
+    hours, minutes = divmod(minutes, 60)
+    return f"{hours}:{minutes:02}:{seconds:02}" if hours else f"{minutes}:{seconds:02}"
+
+
+class Screen:
+    """Lines that stay, and below them, on a terminal, one line that is renewed in place."""
+
+    def __init__(self, stream=sys.stdout):
+        self.stream = stream
+        self.is_terminal = stream.isatty()
+        self.renewed = ""
+        self.lock = threading.RLock()
+
+    def renew(self, text):
+        """Puts the text in the place of the last line, on a terminal. Elsewhere nothing is printed."""
+        with self.lock:
+            if not self.is_terminal:
+                return
+            width = shutil.get_terminal_size().columns
+            self.renewed = text[: width - 1]
+            self.stream.write(f"\r\x1b[K{self.renewed}")
+            self.stream.flush()
+
+    def say(self, text):
+        """Prints lines that stay."""
+        with self.lock:
+            if self.is_terminal:
+                self.stream.write("\r\x1b[K")
+            self.stream.write(f"{text}\n{self.renewed}")
+            self.stream.flush()
+
+    def clear(self):
+        self.renew("")
+
+
+def follow(words, log, *, on_line=lambda line: None, on_second=lambda: None, **how):
+    """Runs a command to its end and returns its status. All that it prints goes to the file `log`; each line of it is handed
+    to `on_line`, and `on_second` is called each second meanwhile."""
+    log = pathlib.Path(log)
+    log.parent.mkdir(parents=True, exist_ok=True)
+    ended = threading.Event()
+
+    def tick():
+        while not ended.wait(1):
+            on_second()
+
+    how = {"stdin": subprocess.DEVNULL, "stdout": subprocess.PIPE, "stderr": subprocess.STDOUT, **how}
+    ticking = threading.Thread(target=tick, daemon=True)
+    with open(log, "w", encoding="utf-8") as kept, subprocess.Popen(words, text=True, errors="replace", **how) as running:
+        ticking.start()
+        try:
+            for line in running.stdout:
+                kept.write(line)
+                kept.flush()
+                on_line(line.rstrip("\n"))
+        except BaseException:
+            running.terminate()
+            raise
+        finally:
+            ended.set()
+            ticking.join()
+    return running.returncode
+
+
+def end_of(log):
+    """The last lines of a file, and where it is."""
+    lines = pathlib.Path(log).read_text(encoding="utf-8", errors="replace").splitlines()
+    return "\n".join([*lines[-SHOWN:], f"(all {len(lines)} lines are in {log})"])
+
+
+class Stopwatch:
+    def __init__(self):
+        self.started = time.monotonic()
+
+    def __str__(self):
+        return clock(self.seconds())
+
+    def seconds(self):
+        return time.monotonic() - self.started
