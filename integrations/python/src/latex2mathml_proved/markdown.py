@@ -34,6 +34,9 @@ _INLINE = (
 )
 _BLOCK = re.compile(rf"^[ ]{{0,3}}\$\$(?P<block>{_CHARACTER}+?)\$\$[ ]*$", re.MULTILINE)
 
+# Between two lines of a formula, with what the lines of a list or a quotation begin with.
+_LINE_START = r"[ \t]*\n[ \t>]*"
+
 # The lines of a list are parsed again, item by item.
 _LIST = re.compile(r"[ ]{0,3}(?:[*+-]|[0-9]+\.)[ ]")
 
@@ -74,12 +77,18 @@ class Page:
         self.formulas.append(Formula(source, latex, block, tag))
         return element
 
-    def found_at(self, place: "re.Match[str]") -> Formula:
-        return self.formulas[int(place[1])]
-
     def restore(self, text: str) -> str:
         """The text with each formula as it was written, for where no element can stand."""
-        return _WRITTEN_PLACE.sub(lambda place: self.found_at(place).source, text)
+        return _WRITTEN_PLACE.sub(lambda place: self.formulas[int(place[1])].source, text)
+
+    def line_of(self, number: int) -> Optional[int]:
+        """The line of a formula, or None where the same text also stands elsewhere, as in code."""
+        source = self.formulas[number].source
+        # the signs of lists and quotations at the beginning of a line were taken away
+        written = re.compile(_LINE_START.join(re.escape(line.strip()) for line in source.split("\n")))
+        found = [it.start() for it in written.finditer(self.text)]
+        same = [other for other, it in enumerate(self.formulas) if it.source == source]
+        return self.text.count("\n", 0, found[same.index(number)]) + 1 if len(found) == len(same) else None
 
 
 class PageText(Preprocessor):
@@ -142,33 +151,30 @@ class Conversion(Treeprocessor):
         self._strict = strict
 
     def run(self, root: etree.Element) -> None:
-        read = 0
         for element in root.iter():
             for name, value in element.items():
                 element.set(name, self._page.restore(value))
             place = _PLACE.fullmatch(element.text or "")
             if element.tag == NAME and place:
-                read = self._convert(element, self._page.found_at(place), read)
+                self._convert(element, int(place[1]))
         stash = self.md.htmlStash.rawHtmlBlocks
         stash[:] = [self._page.restore(raw) if isinstance(raw, str) else raw for raw in stash]
 
-    def _convert(self, element: etree.Element, formula: Formula, read: int) -> int:
-        """Puts the markup into the element. `read` is where in the page's text the last formula ended, and so is the answer."""
-        start = self._page.text.find(formula.source, read)
+    def _convert(self, element: etree.Element, number: int) -> None:
+        """Puts the markup of a formula into its element."""
+        formula = self._page.formulas[number]
         rendering = self._renderer.render(formula.latex, formula.block)
         if rendering.fault:
-            self._report(start, rendering.fault)
+            self._report(self._page.line_of(number), rendering.fault)
         element.tag = formula.tag
         element.set("class", "math")
         element.text = AtomicString(self.md.htmlStash.store(rendering.markup))
-        return read if start < 0 else start + len(formula.source)
 
-    def _report(self, start: int, fault: str) -> None:
-        # a formula whose lines begin with the signs of a list or a quotation is not found
-        place = "" if start < 0 else f"line {self._page.text.count(chr(10), 0, start) + 1}: "
+    def _report(self, line: Optional[int], fault: str) -> None:
+        message = f"line {line}: {fault}" if line else fault
         if self._strict:
-            raise FaultyFormula(place + fault)
-        logger.warning("%s: %s%s", NAME, place, fault)
+            raise FaultyFormula(message)
+        logger.warning("%s: %s", NAME, message)
 
 
 class PageLinks(Postprocessor):

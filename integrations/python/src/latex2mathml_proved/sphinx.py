@@ -3,8 +3,9 @@
     extensions = ["latex2mathml_proved.sphinx"]
     html_math_renderer = "latex2mathml"
 """
+import os
 import re
-from typing import Any, Dict, Optional, Tuple
+from typing import Any, Dict
 
 from docutils import nodes
 from sphinx.application import Sphinx
@@ -17,6 +18,9 @@ from sphinx.util.math import get_node_equation_number
 from latex2mathml_proved.rendering import PAGE, SCRIPT, STYLE_SHEET, FaultyFormula, Renderer
 
 NAME = "latex2mathml"
+
+# The source that Sphinx gives a part of a page which it draws elsewhere.
+PARTIAL = "<partial node>"
 
 logger = logging.getLogger(__name__)
 
@@ -65,10 +69,12 @@ class Visitors:
         return rendering.markup
 
     def _report(self, node: nodes.Element, fault: str) -> None:
-        place = place_of(node)
+        # a title is drawn once more for each table of contents, and its own page has the warning
+        if node.document["source"] == PARTIAL:
+            return
         if self._strict:
-            raise StrictError(f"{place[0]}:{place[1] or ''}: {fault}")
-        logger.warning("%s", fault, location=place, type=NAME)
+            raise StrictError(f"{place_of(node)}: {fault}")
+        logger.warning("%s", fault, location=place_of(node), type=NAME)
 
 
 class StrictError(SphinxError, FaultyFormula):
@@ -77,15 +83,16 @@ class StrictError(SphinxError, FaultyFormula):
     category = "latex2mathml"
 
 
-def place_of(node: nodes.Element) -> Tuple[Optional[str], Optional[int]]:
+def place_of(node: nodes.Element) -> str:
     """The file and the line of a formula. One in a line of text has the line of its paragraph, and its place in that."""
     above = node
     while above.line is None and above.parent is not None:
         above = above.parent
-    line = above.line
-    if line is not None and above is not node:
-        line += above.rawsource.partition(node.rawsource)[0].count("\n")
-    return above.source or node.document["source"], line
+    file = os.path.abspath(above.source or node.document["source"])
+    if above.line is None:
+        return file
+    lines_before = 0 if above is node else above.rawsource.partition(node.rawsource)[0].count("\n")
+    return f"{file}:{above.line + lines_before}"
 
 
 def aligned(latex: str) -> str:

@@ -1,9 +1,8 @@
 /* latex2mathml for Node: formula(latex, block) is the `math` element, and document(text) the document with the `math`
  * element of each formula in the formula's place. Where there is none, an error is thrown: its message is the reason, and
  * its `code` is LATEX2MATHML_REFUSED.
- *     cc -shared -fPIC -I FOLDER -I /usr/include/node addon.c FOLDER/liblatex2mathml.a -o latex2mathml.node
- *     node -p "require('./latex2mathml.node').formula('x<y', false)"
- * FOLDER is that of the library for C. */
+ *     cc -shared -fPIC -I .. -I /usr/include/node addon.c ../liblatex2mathml.a -o latex2mathml.node
+ *     node -p "require('./latex2mathml.node').formula('x<y', false)" */
 #include "latex2mathml.h"
 
 #include <node_api.h>

@@ -1,0 +1,83 @@
+"""Virtual environments of Python with the package of integrations/python, as users have them."""
+import functools
+import json
+import os
+import pathlib
+import shutil
+import subprocess
+import sys
+import unittest
+
+from tests.support import ROOT, c_library, once, run, run_folder
+
+NAMES = ROOT / "integrations/names.json"
+NAME_CASES = json.loads((ROOT / "integrations/names-cases.json").read_text(encoding="utf-8"))
+
+
+@functools.cache
+def interpreter(*modules):
+    """A Python that has these modules: the one that runs the tests, or the system's; None where neither has them."""
+    finds = f"import importlib.util, sys; sys.exit(not all(map(importlib.util.find_spec, {modules!r})))"
+    for python in (sys.executable, "/usr/bin/python3"):
+        if shutil.which(python) and subprocess.run([python, "-c", finds], timeout=60).returncode == 0:
+            return python
+    return None
+
+
+def requires_python(*modules):
+    """Skips a case or a class of them where no Python has these modules, with what wheels and environments are made of."""
+    lacking = [it for it in ("ensurepip", *modules) if not interpreter(it)]
+    lacking += ["pip, setuptools and wheel"] if not interpreter("pip", "setuptools", "wheel") else []
+    lacking += ["objdump"] if not shutil.which("objdump") else []
+    return unittest.skipIf(lacking, f"Python's {', '.join(lacking)} not found")
+
+
+@functools.cache
+def wheel():
+    """The path of the wheel, made once a run."""
+    library, folder = c_library(), run_folder() / "wheel"
+    with once("wheel"):
+        if not folder.exists():
+            making = run_folder() / "wheel-in-the-making"
+            subprocess.run([ROOT / "tools/make-wheel", library, making], stdin=subprocess.DEVNULL, stdout=subprocess.DEVNULL,
+                           check=True, timeout=300)
+            making.rename(folder)
+    [made] = folder.glob("*.whl")
+    return made
+
+
+@functools.cache
+def environment(*modules):
+    """The Python of a fresh virtual environment in which the wheel was installed, with what the system has, if modules of it are
+    named, and with nothing else otherwise."""
+    name = f"environment-{'-'.join(modules)}"
+    folder = run_folder() / name
+    package = wheel()
+    with once(name):
+        if not (folder / "whole").exists():
+            see_system = ["--system-site-packages"] if modules else []
+            python = interpreter("ensurepip", *modules)
+            subprocess.run([python, "-m", "venv", *see_system, folder], stdin=subprocess.DEVNULL, check=True, timeout=300)
+            subprocess.run([folder / "bin/pip", "--quiet", "--disable-pip-version-check", "install", "--no-index", package],
+                           stdin=subprocess.DEVNULL, check=True, timeout=300)
+            (folder / "whole").touch()
+    return folder / "bin/python"
+
+
+def run_python(python, *words, **more):
+    """Runs a Python as a user's shell does, with nothing of the checkout on its path."""
+    kept = {name: value for name, value in os.environ.items() if not name.startswith("PYTHON")}
+    return run([python, *words], env={**kept, "PYTHONWARNINGS": "ignore::DeprecationWarning"}, **{"cwd": run_folder(), **more})
+
+
+def ask(python, script, question):
+    """What a script answers as JSON on standard output, to a question that it reads as JSON."""
+    done = run_python(python, "-c", script, stdin=json.dumps(question).encode())
+    if done.returncode:
+        raise AssertionError(f"the script ended with status {done.returncode}:\n{done.stderr.decode()}")
+    return json.loads(done.stdout)
+
+
+def example(name, to):
+    """A copy of an example of the package."""
+    return pathlib.Path(shutil.copytree(ROOT / "integrations/python/examples" / name, to))

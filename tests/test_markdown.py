@@ -1,0 +1,217 @@
+"""The extension of Python-Markdown: what it finds, what it leaves alone, and what it makes of it."""
+import re
+import unittest
+
+from tests.environments import ask, environment, example, requires_python, run_python
+from tests.support import ROOT, Case, scratch
+
+OPEN = 'The token "RBrace" is expected, but the token "EOF" is found."'
+
+# Converts each text with its options, and answers the page and what was logged, or the error.
+CONVERT = """
+import json, logging, sys
+import markdown
+
+def answer(text, options, others):
+    said = []
+    handler = logging.Handler()
+    handler.emit = lambda record: said.append(record.getMessage())
+    logging.getLogger().handlers = [handler]
+    try:
+        page = markdown.markdown(text, extensions=["latex2mathml", *others], extension_configs={"latex2mathml": options})
+    except ValueError as error:
+        return [None, [str(error)]]
+    return [page, said]
+
+print(json.dumps([answer(*it) for it in json.load(sys.stdin)]))
+"""
+
+AGAIN = """
+import json, sys
+import markdown
+
+md = markdown.Markdown(extensions=["latex2mathml"])
+print(json.dumps([md.reset().convert(text) for text in json.load(sys.stdin)]))
+"""
+
+
+def converted(*texts, options=None, others=()):
+    """The pages that texts become, without links, and what was logged of each."""
+    return ask(environment("markdown"), CONVERT, [[text, {"page": False, **(options or {})}, others] for text in texts])
+
+
+def shown(page):
+    """A page with each formula as its letters, in a notation of ours: [x] in a line, [[x]] as a block."""
+    page = re.sub(r'<(span|div) class="math">(.*?)</\1>', r"\2", page, flags=re.DOTALL)
+    page = re.sub(r'<math [^>]*display="inline">(.*?)</math>', lambda math: f"[{letters(math[1])}]", page)
+    return re.sub(r'<math [^>]*display="block">(.*?)</math>', lambda math: f"[[{letters(math[1])}]]", page)
+
+
+def letters(markup):
+    return re.sub(r"<[^>]*>", "", markup)
+
+
+@requires_python("markdown")
+class Formulas(unittest.TestCase):
+    def check(self, cases, **more):
+        for (text, wanted), (page, _) in zip(cases.items(), converted(*cases, **more), strict=True):
+            with self.subTest(text):
+                self.assertEqual(shown(page), wanted)
+
+    def test_markup(self):
+        [[page, _]] = converted("a $x<y$ b\n\n$$x<y$$")
+        math = '<math xmlns="http://www.w3.org/1998/Math/MathML" display="{}"><mi>x</mi><mo>&lt;</mo><mi>y</mi></math>'
+        self.assertEqual(page, f'<p>a <span class="math">{math.format("inline")}</span> b</p>\n<div class="math">{math.format("block")}</div>')
+
+    def test_in_a_line(self):
+        self.check({
+            "a $x$ b": "<p>a [x] b</p>",
+            "$x$": "<p>[x]</p>",
+            "$x$, $y$.": "<p>[x], [y].</p>",
+            "$x$$y$": "<p>[x][y]</p>",
+            "a $x\ny$ b": "<p>a [xy] b</p>",
+            "a $$x$$ b": "<p>a [[x]] b</p>",
+            "$a_b$ and $c_d$": "<p>[ab] and [cd]</p>",
+            "$a*b$ and $c*d$": "<p>[a*b] and [c*d]</p>",
+            "$a<b$ and $c>d$": "<p>[a&lt;b] and [c&gt;d]</p>",
+            "$[a](b)$": "<p>[[a](b)]</p>",
+            r"$\{a\}$ $\|a\|$": "<p>[{a}] [∥a∥]</p>",
+            r"$a \& b$": "<p>[a&amp;b]</p>",
+            "*$x$* **$y$** [$z$](u)": '<p><em>[x]</em> <strong>[y]</strong> <a href="u">[z]</a></p>',
+            "# A $x$\n\nb": "<h1>A [x]</h1>\n<p>b</p>",
+            "- $x$\n- $y$": "<ul>\n<li>[x]</li>\n<li>[y]</li>\n</ul>",
+            "> $x$": "<blockquote>\n<p>[x]</p>\n</blockquote>",
+        })
+
+    def test_dollar_signs(self):
+        self.check({
+            r"\$5 and \$6": "<p>$5 and $6</p>",
+            "$5 and $6": "<p>$5 and $6</p>",
+            "from $ 5 to 6 $ each": "<p>from $ 5 to 6 $ each</p>",
+            "$x $ and $ y$": "<p>$x $ and $ y$</p>",
+            "$x$5": "<p>$x$5</p>",
+            r"\$x$ $y$": "<p>$x$ [y]</p>",
+            r"$\$x$": "<p>[&#x24;x]</p>",
+            r"\\$x$": "<p>\\[x]</p>",
+            r"\\\$x": "<p>\\$x</p>",
+            "$x": "<p>$x</p>",
+            "$$x": "<p>$$x</p>",
+            "$$": "<p>$$</p>",
+            "$$$$": "<p>$$$$</p>",
+            "$x\n\ny$": "<p>$x</p>\n<p>y$</p>",
+        })
+
+    def test_code(self):
+        code = "<pre><code>$x$ \\$\n\n$$\ny\n$$\n</code></pre>"
+        self.check({
+            "`$x$` `\\$` ``$$y$$``": "<p><code>$x$</code> <code>\\$</code> <code>$$y$$</code></p>",
+            "$a `b$` c$": "<p>$a <code>b$</code> c$</p>",
+            "    $x$ \\$\n\n    $$\n    y\n    $$": code,
+            "```\n$x$ \\$\n\n$$\ny\n$$\n```": code,
+            "~~~\n$x$ \\$\n\n$$\ny\n$$\n~~~": code,
+            "a $x\n```\ny$\n```\nb": "<p>a $x</p>\n<pre><code>y$\n</code></pre>\n<p>b</p>",
+        }, others=["fenced_code"])
+
+    def test_blocks(self):
+        self.check({
+            "$$\nx\n$$": "[[x]]",
+            "a\n$$\nx\n$$\nb": "<p>a</p>\n[[x]]\n<p>b</p>",
+            "$$x$$\n$$y$$": "[[x]]\n[[y]]",
+            "$$\na\n- b\n+ c\n# d\n1. e\n> f\n$$": "[[a-b+c#d1.e&gt;f]]",
+            "$$\na\n=\nb\n---\nc\n$$": "[[a=b---c]]",
+            "$$\n    a\n$$": "[[a]]",
+            "- a\n\n    $$\n    x\n    $$\n\n- b": "<ul>\n<li>\n<p>a</p>\n[[x]]\n</li>\n<li>\n<p>b</p>\n</li>\n</ul>",
+            "- a\n- b $$x$$\n- c": "<ul>\n<li>a</li>\n<li>b [[x]]</li>\n<li>c</li>\n</ul>",
+            "> $$\n> x\n> $$\n>\n> y": "<blockquote>\n[[x]]\n<p>y</p>\n</blockquote>",
+            "$$\na\n\nb\n$$": "<p>$$\na</p>\n<p>b\n$$</p>",
+        })
+
+    def test_where_no_element_can_stand(self):
+        """What has formulas' signs in an attribute stands there as it was written."""
+        self.check({
+            '![$x$](i.png "a $y$")': '<p><img alt="$x$" src="i.png" title="a $y$" /></p>',
+            '[a](u?$x$ "b $y$")': '<p><a href="u?$x$" title="b $y$">a</a></p>',
+            'a <b title="$x$">c</b>': '<p>a <b title="$x$">c</b></p>',
+            '<i title="$x$">$y$</i>': '<p><i title="$x$">[y]</i></p>',
+            '<p title="$x$">$y$</p>': '<p title="$x$">$y$</p>',
+        })
+
+    def test_other_extensions(self):
+        self.check({
+            "| a | b |\n|---|---|\n| $x$ | $\\vert y \\vert$ |":
+                "<table>\n<thead>\n<tr>\n<th>a</th>\n<th>b</th>\n</tr>\n</thead>\n<tbody>\n<tr>\n<td>[x]</td>\n<td>[|y|]</td>\n</tr>\n</tbody>\n</table>",
+            "# A $x$": '<h1 id="a-x">A [x]</h1>',
+        }, others=["extra", "toc"])
+
+
+@requires_python("markdown")
+class Options(unittest.TestCase):
+    def test_names(self):
+        text = r"$\R \le \tfrac12$"
+        for option, marked in [(True, ["R"]), (False, ["R", "le", "tfrac"]), ({r"\R": r"\mathbb{R}"}, []), ({r"\le": "<"}, ["R"])]:
+            with self.subTest(str(option)):
+                [[page, _]] = converted(text, options={"names": option})
+                self.assertEqual(re.findall(r'Command\(\\"(\w+)', page), marked)
+
+    def test_a_name_that_is_none(self):
+        [[page, said]] = converted("a", options={"names": {"R": "x"}})
+        self.assertEqual(page, None)
+        self.assertIn("'R' is no whole name", said[0])
+
+    def test_refused(self):
+        """The formula stands as it was written, and the rest is converted; the warning names the line."""
+        text = "a\n\nb $x$\n$x$ ${x<\"$ c\n\n- $y$\n\n    $$\n    {y\n    $$\n"
+        [[page, said]] = converted(text)
+        reason = OPEN.replace('"', "&quot;")
+        self.assertIn(f'<span class="math"><code class="latex2mathml-refused" title="{reason}">{{x&lt;&quot;</code></span> c', page)
+        self.assertIn(f'<div class="math"><code class="latex2mathml-refused" title="{reason}">{{y</code></div>', page)
+        self.assertEqual(page.count("<math "), 3)
+        self.assertEqual(said, [f'latex2mathml: line 4: {{x<": {OPEN}', f"latex2mathml: line 8: {{y: {OPEN}"])
+
+    def test_lines(self):
+        """Of formulas in lists, quotations, titles and notes. One that stands in code too has none."""
+        text = "`${a$`\n\n# ${a$ ${b$\n\n> b\n> $$\n> {c\n> $$\n\n1. d\n\n    ${e\n    f$ [^1]\n\n${b$ ${g$\n\n[^1]: ${h$\n"
+        [[_, said]] = converted(text, others=["extra"])
+        found = [re.match(r"latex2mathml: (?:line (\d+): )?\{(\w)", line).groups() for line in said]
+        self.assertEqual(found, [(None, "a"), ("3", "b"), ("6", "c"), ("12", "e"), ("15", "b"), ("15", "g"), ("17", "h")])
+
+    def test_marked(self):
+        [[page, said]] = converted("a\n$\\foo$")
+        self.assertIn('<mtext>[PARSE ERROR: Undefined("Command(\\"foo\\")")]</mtext>', page)
+        self.assertEqual(said, ['latex2mathml: line 2: \\foo: marked as an error: Undefined("Command(\\"foo\\")")'])
+
+    def test_strict(self):
+        answers = converted("$x$", "a\n${x$", "$\\foo$", options={"strict": True})
+        self.assertEqual([page is None for page, _ in answers], [False, True, True])
+        self.assertEqual([said for _, said in answers[1:]], [
+            [f"line 2: {{x: {OPEN}"], ['line 1: \\foo: marked as an error: Undefined("Command(\\"foo\\")")']])
+
+    def test_links(self):
+        """They stand at the beginning of a page that has formulas."""
+        links = '<link rel="stylesheet" href="{0}/latex2mathml.css">\n<script src="{0}/latex2mathml.js" defer></script>\n'
+        for option, folder in [({}, "page"), ({"page": "/a&b"}, "/a&amp;b")]:
+            with self.subTest(folder):
+                [page, _], [plain, _] = ask(environment("markdown"), CONVERT, [["$x$", option, []], ["x \\$", option, []]])
+                self.assertEqual(page.partition("<p>")[0], links.format(folder))
+                self.assertEqual(plain, "<p>x $</p>")
+
+    def test_one_converter_for_many_pages(self):
+        with_formula, without = ask(environment("markdown"), AGAIN, ["$x$", "x"])
+        self.assertIn("latex2mathml.css", with_formula)
+        self.assertEqual(without, "<p>x</p>")
+
+
+@requires_python("markdown")
+class Example(Case):
+    def test_example(self):
+        """The example of the package is converted without a warning, and what it links is there."""
+        folder = example("markdown", self.enterContext(scratch()) / "example")
+        self.expect(run_python(environment("markdown"), folder / "build.py"), 0, b"", b"")
+        page = (folder / "page.html").read_text(encoding="utf-8")
+        self.assertEqual((page.count("<math "), page.count("<code>"), page.count("\\")), (7, 1, 0))
+        for name in ("latex2mathml.css", "latex2mathml.js"):
+            self.assertEqual((folder / "page" / name).read_bytes(), (ROOT / "page" / name).read_bytes())
+
+
+if __name__ == "__main__":
+    unittest.main()

@@ -1,0 +1,169 @@
+"""The Python package: its wheel in a fresh virtual environment, its calls, and the names that integrations replace."""
+import re
+import unittest
+import zipfile
+
+from tests.environments import NAME_CASES, NAMES, ask, environment, requires_python, run_python, wheel
+from tests.support import Case, c_library, run
+
+MATH = '<math xmlns="http://www.w3.org/1998/Math/MathML" display="{}">{}</math>'
+LESS = "<mi>x</mi><mo>&lt;</mo><mi>y</mi>"
+LESS_INLINE, LESS_BLOCK = MATH.format("inline", LESS), MATH.format("block", LESS)
+OPEN = 'The token "RBrace" is expected, but the token "EOF" is found."'
+
+# Calls each function with each list of arguments, and answers what it returned, or the error's name and text.
+CALLS = """
+import json, sys
+import latex2mathml_proved
+
+def answer(function, *words, **named):
+    try:
+        return getattr(latex2mathml_proved, function)(*words, **named)
+    except Exception as error:
+        return [type(error).__qualname__, isinstance(error, ValueError), str(error)]
+
+print(json.dumps([answer(*words, **named) for *words, named in json.load(sys.stdin)]))
+"""
+
+# Converts in many threads at once.
+THREADS = """
+import concurrent.futures, json, sys
+import latex2mathml_proved
+
+texts = [f"{{x_{n}" + "}" * (n % 2) for n in range(400)]
+
+def answer(text):
+    try:
+        return latex2mathml_proved.formula(text)
+    except latex2mathml_proved.Refused as refused:
+        return str(refused)
+
+with concurrent.futures.ThreadPoolExecutor(8) as pool:
+    print(json.dumps(list(pool.map(answer, texts)) == [answer(text) for text in texts]))
+"""
+
+REPLACE = """
+import json, sys
+from latex2mathml_proved.names import Names
+
+print(json.dumps([Names(option).replace(formula) for option, formula in json.load(sys.stdin)]))
+"""
+
+RENDER = """
+import json, sys
+from latex2mathml_proved.rendering import Renderer
+
+print(json.dumps([Renderer(option).render(formula) for option, formula in json.load(sys.stdin)]))
+"""
+
+
+@requires_python()
+class Wheel(Case):
+    def test_platform(self):
+        """It asks for the newest version of the C library that the shared library does, and for no more."""
+        symbols = run(["objdump", "-T", c_library() / "liblatex2mathml.so"]).stdout.decode()
+        major, minor = max((int(a), int(b)) for a, b in re.findall(r"GLIBC_(\d+)\.(\d+)", symbols))
+        self.assertEqual(wheel().name.partition("-py3-")[2], f"none-manylinux_{major}_{minor}_x86_64.whl")
+
+    def test_files(self):
+        with zipfile.ZipFile(wheel()) as packed:
+            names = {name.partition("/")[2] for name in packed.namelist() if name.startswith("latex2mathml_proved/")}
+            [about] = [name for name in packed.namelist() if name.endswith("/METADATA")]
+            metadata = packed.read(about).decode()
+        self.assertLessEqual({"py.typed", "liblatex2mathml.so", "names.json", "page/latex2mathml.css", "page/latex2mathml.js"}, names)
+        self.assertNotIn("Requires-Dist", metadata)
+
+    def test_page_files(self):
+        """`python3 -m latex2mathml_proved FOLDER` puts them into a folder, also one that has them."""
+        for _ in range(2):
+            self.expect(run_python(environment(), "-m", "latex2mathml_proved", "site"), stdout=b"")
+        names = sorted(path.name for path in (wheel().parent.parent / "site").iterdir())
+        self.assertEqual(names, ["latex2mathml.css", "latex2mathml.js"])
+
+
+@requires_python()
+class Calls(Case):
+    def answers(self, *calls):
+        return ask(environment(), CALLS, calls)
+
+    def test_markup(self):
+        self.assertEqual(
+            self.answers(["formula", "x<y", {}], ["formula", "x<y", True, {}], ["formula", "x<y", {"block": True}],
+                         ["formula", "x<y", {"block": False}], ["document", "é $x<y$, $$x<y$$ \\$", {}]),
+            [LESS_INLINE, LESS_BLOCK, LESS_BLOCK, LESS_INLINE, f"é {LESS_INLINE}, {LESS_BLOCK} &#x24;"])
+
+    def test_refusals(self):
+        dollars = "The number of dollar sings found is invalid."
+        self.assertEqual(
+            self.answers(["formula", "{x", {}], ["document", "a $x", {}], ["document", "a ${x$", {}]),
+            [["Refused", True, OPEN], ["Refused", True, dollars], ["Refused", True, OPEN]])
+
+    def test_texts_of_any_kind(self):
+        letters = MATH.format("inline", "<mi>x</mi>" * 100_000)
+        undefined = MATH.format("inline", '<mtext>[PARSE ERROR: Undefined("Illegal(\'\0\')")]</mtext><mi>x</mi>')
+        empty, long, zero, astral, lone = self.answers(
+            ["formula", "", {}], ["formula", "x" * 100_000, {}], ["formula", "\0x", {}], ["formula", "𝟙", {}], ["formula", "\ud800", {}])
+        self.assertEqual([empty, long, astral], [MATH.format("inline", ""), letters, MATH.format("inline", '<mi mathvariant="normal">𝟙</mi>')])
+        self.assertEqual(zero, undefined)
+        self.assertEqual(lone[:2], ["UnicodeEncodeError", True])
+
+    def test_an_answer_larger_than_the_first_room(self):
+        calls = [["formula", "x<y", {}], ["formula", "{x", {}], ["document", "$x<y$", {}]]
+        little_room = "import latex2mathml_proved._library as it\nit.ROOM, it.ROOM_PER_BYTE = 1, 0\n"
+        self.assertEqual(ask(environment(), little_room + CALLS, calls), [LESS_INLINE, ["Refused", True, OPEN], LESS_INLINE])
+
+    def test_threads(self):
+        self.assertIs(ask(environment(), THREADS, None), True)
+
+
+@requires_python()
+class Names(unittest.TestCase):
+    def test_cases(self):
+        answers = ask(environment(), REPLACE, [[case.get("names", True), case["formula"]] for case in NAME_CASES])
+        for case, answer in zip(NAME_CASES, answers, strict=True):
+            with self.subTest(case["why"]):
+                self.assertEqual(answer, case["replaced"])
+
+    def test_names_that_are_none(self):
+        for option in ({"R": "x"}, {"\\R2": "x"}, {"\\": "x"}, {"": "x"}, {"\\le ": "x"}, {"\\ab\\c": "x"},
+                       {"\\x": "\\"}, {"\\x": "a\\\\\\"}, {"\\x": None}):
+            with self.subTest(str(option)), self.assertRaisesRegex(AssertionError, "ValueError: names: "):
+                ask(environment(), REPLACE, [[option, "x"]])
+
+    def test_usual_names(self):
+        """Each is lacking in the library, and what stands for it is read, where it takes what it takes."""
+        names = usual_names()
+        places = ["{}", "{} x", "{}(", "{}{{x}}{{y}}", "x^{}"]
+        asked = [[option, place.format(name)] for name in names for option in (False, True) for place in places]
+        faults = iter([fault for _, fault in ask(environment(), RENDER, asked)])
+        for name in names:
+            without, replaced = ([next(faults) for _ in places] for _ in range(2))
+            with self.subTest(name):
+                self.assertTrue(all(f'Command("{name[1:]}")' in (fault or "").replace("\\", "") for fault in without), without)
+                self.assertIn(None, replaced)
+
+    def test_file_is_plain(self):
+        """One name a line, and no escape but that of the backslash: a few lines of any language read it."""
+        lines = NAMES.read_text(encoding="utf-8").splitlines()
+        self.assertEqual([lines[0], lines[-1]], ["{", "}"])
+        for line in filter(None, lines[1:-1]):
+            self.assertRegex(line, r'^"\\\\([A-Za-z]+|[^A-Za-z"\\])": "([^"\\]|\\\\)*",?$')
+
+
+@requires_python()
+class Renderings(unittest.TestCase):
+    def test_faults(self):
+        """A refused formula stands as it was written; a marked one is drawn; a warning says what is wrong with either."""
+        asked = [[True, "{\\le<\"&"], [True, "a \\foo b \\bar"], [True, "\\<"], [True, "a \\le b"], [True, "{\\$"]]
+        refused, marked, escaped, sound, dollar = ask(environment(), RENDER, asked)
+        reason = OPEN.replace('"', "&quot;")
+        self.assertEqual(refused, [f'<code class="latex2mathml-refused" title="{reason}">{{\\le&lt;&quot;&amp;</code>', f'{{\\le<"&: {OPEN}'])
+        self.assertEqual(dollar[0], f'<code class="latex2mathml-refused" title="{reason}">{{\\&#x24;</code>')
+        self.assertTrue(marked[0].startswith("<math "))
+        self.assertEqual(marked[1], 'a \\foo b \\bar: marked as an error: Undefined("Command(\\"foo\\")")')
+        self.assertEqual(escaped[1], '\\<: marked as an error: Undefined("Command(\\"<\\")")')
+        self.assertEqual(sound, [MATH.format("inline", "<mi>a</mi><mo>≤</mo><mi>b</mi>"), None])
+
+
+def usual_names():
+    return re.findall(r'^"\\(\\(?:[A-Za-z]+|.))":', NAMES.read_text(encoding="utf-8"), re.MULTILINE)
