@@ -17,11 +17,14 @@
 #include <stddef.h>
 #include <stdint.h>
 
+/* The version of the library, as CHANGELOG.md lists it. */
+#define LATEX2MATHML_VERSION "0.3.0"
+
 #ifdef __cplusplus
 extern "C" {
 #endif
 
-/* What a call answers. */
+/* What a call returns. */
 enum latex2mathml_code {
     /* The room holds the markup. */
     LATEX2MATHML_DONE = 0,
