@@ -15,7 +15,7 @@ OUT = ROOT / "out"
 LAST_LINE = re.compile(r"(\d+) passed, (\d+) failed")
 
 # Scripts that are no modules yet. Each has a last line 'N passed, M failed'.
-SCRIPTS = ["tools/check-depth", "tools/run-without-memory", "tools/run-with-faults", "tools/check-page"]
+SCRIPTS = ["tools/check-depth", "tools/run-without-memory", "tools/run-with-faults"]
 
 
 class Step:
@@ -83,12 +83,15 @@ class Proofs(Command):
         self.proved = set()
 
     def run(self, screen, watch):
-        begun = time.time()
+        self.begun = time.time()
         super().run(screen, watch)
-        # a source that is edited meanwhile is newer than what was proved and built
         for made in (ROOT / "crates").glob("*/out/*"):
             if made.is_file():
-                os.utime(made, (begun, begun))
+                self.date(made)
+
+    def date(self, made):
+        """Makes a file as old as the beginning of the proofs: a source that was edited since then is newer than it."""
+        os.utime(made, (self.begun, self.begun))
 
     def read(self, line, screen):
         told = re.fullmatch(r"rt: (\w+)(: its tests are)? (proved|NOT PROVED).*", line)
@@ -119,14 +122,13 @@ class Library(Step):
             self.counts.failed += 1
             return
         archive = ROOT / "crates" / self.crate / "out" / f"lib{self.crate}.a"
-        begun = time.time()
         status = follow(rattle_words(self.crate, below, archive), self.log, on_second=lambda: screen.renew(f"    {watch}"),
                         cwd=ROOT / "crates" / self.crate)
         if status:
             screen.say(end_of(self.log))
             self.counts.failed += 1
             return
-        os.utime(archive, (begun, begun))
+        self.proofs.date(archive)
         self.counts.passed += 1
 
 
