@@ -90,7 +90,7 @@ const latex2mathml = (() => {
 
     // What gives an element its class: its base, where it has scripts or limits, and the sign in it, where it has a size.
     function baseOf(element) {
-        while (element.matches(BASED)) element = element.firstElementChild;
+        while (element.matches(BASED) && element.firstElementChild) element = element.firstElementChild;
         return element;
     }
 
