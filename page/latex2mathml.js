@@ -90,7 +90,7 @@ const latex2mathml = (() => {
 
     // What gives an element its class: its base, where it has scripts or limits, and the sign in it, where it has a size.
     function baseOf(element) {
-        while (element.matches(BASED)) element = element.firstElementChild;
+        while (element.matches(BASED) && element.firstElementChild) element = element.firstElementChild;
         return element;
     }
 
@@ -130,12 +130,12 @@ const latex2mathml = (() => {
         if (!sign.hasAttribute('rspace')) sign.setAttribute('rspace', behind);
     }
 
-    function addSpace(member, width) {
-        if (member.previousElementSibling?.matches('.latex2mathml-space')) return;
-        const space = document.createElementNS(member.namespaceURI, 'mspace');
+    function addSpace(behind, width) {
+        if (behind.matches('.latex2mathml-space')) return;
+        const space = document.createElementNS(behind.namespaceURI, 'mspace');
         space.setAttribute('class', 'latex2mathml-space');
         space.setAttribute('width', width);
-        member.before(space);
+        behind.before(space);
     }
 
     // Firefox sets a thin space between an upright and a slanted letter that stand side by side.
@@ -155,7 +155,9 @@ const latex2mathml = (() => {
             const space = spaceBetween(i ? classes[i - 1] : before, classes[i], isScript);
             const isSpaced = isSign(bases[i - 1]);
             if (isSign(base)) setSpaces(base, isSpaced ? WIDTHS[0] : space, spaceBetween(classes[i], classes[i + 1], isScript));
-            else if (!isSpaced && (space !== WIDTHS[0] || isSetApart(bases[i - 1], base))) addSpace(members[i], space);
+            else if (!isSpaced && (space !== WIDTHS[0] || isSetApart(bases[i - 1], base))) {
+                addSpace(i ? members[i - 1].nextElementSibling : row.firstElementChild, space);
+            }
         }
     }
 

@@ -192,6 +192,19 @@ class Gallery(support.Case):
         self.assertEqual([name for name in commands(language()) if name not in shown], [])
 
 
+class Links(support.Case):
+    """The pages of cases link the files of page/ as people are told to."""
+
+    def test_cases_link_as_the_readme_says(self):
+        readme = (support.ROOT / "page/README.md").read_text()
+        told = re.findall(r"^    (<(?:link|script) .*)$", readme, re.MULTILINE)
+        self.assertEqual(len(told), 2)
+        for page in ("cases.html", "spaces.html", "signs.html"):
+            lines = data(page)
+            for line in told:
+                self.assertIn(line, lines, page)
+
+
 class Browser(support.Case):
     """Opens the pages of tests/page in a browser. Each judgement that they make is a case."""
 
