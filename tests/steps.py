@@ -8,7 +8,7 @@ import shutil
 import time
 
 from tests.results import Counts
-from tests.support import ROOT, kit
+from tests.support import ROOT, kit, scratch
 from tools.progress import Stopwatch, end_of, follow
 
 OUT = ROOT / "out"
@@ -165,20 +165,24 @@ def crates_below(crate):
 @contextlib.contextmanager
 def set_aside():
     """Keeps the rlibs that earlier checks built away for as long as `rt ci` and what follows it run: so its own stay, which it
-    would give up for those."""
-    aside = OUT / "aside"
-    shutil.rmtree(aside, ignore_errors=True)
-    aside.mkdir(parents=True)
-    kept = list((ROOT / "crates").glob("*/out/rlib"))
-    for rlib in kept:
-        rlib.rename(aside / rlib.parent.parent.name)
-    try:
-        yield
-    finally:
-        for rlib in kept:
-            shutil.rmtree(rlib, ignore_errors=True)
-            rlib.parent.mkdir(exist_ok=True)
-            (aside / rlib.parent.parent.name).rename(rlib)
+    would give up for those. They go into `.git`, as `rt ci` reads everything else."""
+    kept = {}
+    with scratch() as other:
+        git = ROOT / ".git"
+        aside = (git if git.is_dir() else other) / "rlibs-aside"
+        shutil.rmtree(aside, ignore_errors=True)
+        for rlib in (ROOT / "crates").glob("*/out/rlib"):
+            kept[rlib] = aside / rlib.parts[-3]
+            aside.mkdir(exist_ok=True)
+            shutil.move(rlib, kept[rlib])
+        try:
+            yield
+        finally:
+            for rlib, place in kept.items():
+                shutil.rmtree(rlib, ignore_errors=True)
+                rlib.parent.mkdir(exist_ok=True)
+                shutil.move(place, rlib)
+            shutil.rmtree(aside, ignore_errors=True)
 
 
 def spent_by_children():

@@ -76,13 +76,17 @@ class Built(Case):
 
     def judge(self, word, stdin=b""):
         done = run([self.program, word], stdin=stdin, timeout=300)
-        lines = done.stdout.decode(errors="replace").splitlines()
+        lines, notes = done.stdout.decode(errors="replace").splitlines(), []
         for line in lines:
             verdict, _, name = line.partition(": ")
-            if verdict in ("passed", "FAILED"):
-                with self.subTest(name):
-                    self.assertEqual(verdict, "passed", [it for it in lines if it.startswith("wrong")])
-        if not lines or lines[-1] != "all were judged" or done.stderr:
+            if verdict not in ("passed", "FAILED"):
+                notes.append(line)
+                continue
+            with self.subTest(name):
+                if verdict == "FAILED":
+                    self.fail("\n".join([f"ran: {self.program} {word}", *notes]))
+            notes = []
+        if lines[-1:] != ["all were judged"] or done.stderr:
             self.fail(f"{word} did not end: status {done.returncode}\n{done.stderr.decode(errors='replace')}")
 
 
