@@ -6,10 +6,10 @@ import pathlib
 import shutil
 import unittest
 
-from tests.support import ROOT, Case, c_library, program, requires, run, scratch
+from tests.integration import UNCLOSED, answer_of
+from tests.support import ROOT, Case, c_library, requires, run, scratch
 
 PACKAGES = pathlib.Path("/usr/share/nodejs")  # Debian's
-BRACE = 'The token "RBrace" is expected, but the token "EOF" is found."'
 
 # Reads [function of the module, arguments] and prints the answer, or the error's class, name, code and message.
 CALLER = """
@@ -39,11 +39,6 @@ console.log(JSON.stringify(cases.map(([source, options, env]) => {
     }
 })));
 """
-
-
-def answer_of(latex, word="inline"):
-    """The program's own answer."""
-    return run([program(), word], stdin=latex.encode()).stdout.decode().removesuffix("\n")
 
 
 def node_gyp():
@@ -97,7 +92,7 @@ class Calls(Package):
     def test_refusals(self):
         answers = self.call(("formula", ["{x", True]), ("document", ["$a$ ${x$"]), ("document", ["$"]))
         dollars = "The number of dollar sings found is invalid."
-        self.assertEqual(answers, [[True, "Refused", reason] for reason in (BRACE, BRACE, dollars)])
+        self.assertEqual(answers, [[True, "Refused", reason] for reason in (UNCLOSED, UNCLOSED, dollars)])
 
     def test_what_is_no_text(self):
         for name, words in (("formula", []), ("formula", [3]), ("formula", [None]), ("formula", ["x", 1]), ("formula", [["x"]]),
@@ -244,9 +239,9 @@ class MarkdownIt(Package):
         code = '<code class="latex2mathml-refused" title="%s">%s</code>'
         [[page, warnings]] = self.render(('$x$ ${<b title="\\$">&$ and\n\n$$\n{y\n$$', {"page": False}, {}))
         self.assertEqual(page, f"<p>{answer_of('x')} "
-                               + code % (html.escape(BRACE), "{&lt;b title=&quot;\\&#x24;&quot;&gt;&amp;") + " and</p>\n"
-                               + code % (html.escape(BRACE), "{y") + "\n")
-        self.assertEqual(warnings, [f'Markdown:1: {{<b title="\\$">&: {BRACE}', f"Markdown:3: {{y: {BRACE}"])
+                               + code % (html.escape(UNCLOSED), "{&lt;b title=&quot;\\&#x24;&quot;&gt;&amp;") + " and</p>\n"
+                               + code % (html.escape(UNCLOSED), "{y") + "\n")
+        self.assertEqual(warnings, [f'Markdown:1: {{<b title="\\$">&: {UNCLOSED}', f"Markdown:3: {{y: {UNCLOSED}"])
 
     def test_lines(self):
         source = "# A ${h$\n\ntext `a\nb` ${x$\nmore $\\foo$\n\n- one\n- two\n  $$\n  {z\n  $$\n\n| a |\n|---|\n| ${t$ |\n"
@@ -254,8 +249,8 @@ class MarkdownIt(Package):
         for env, file in (({"path": "a.md"}, "a.md"), ({"page": {"inputPath": "./b.md"}}, "./b.md"), ({}, "Markdown")):
             with self.subTest(file):
                 [[_, warnings]] = self.render((source, {}, env))
-                self.assertEqual(warnings, [f"{file}:1: {{h: {BRACE}", f"{file}:4: {{x: {BRACE}", f"{file}:5: \\foo: {mark}",
-                                            f"{file}:9: {{z: {BRACE}", f"{file}: {{t: {BRACE}"])
+                self.assertEqual(warnings, [f"{file}:1: {{h: {UNCLOSED}", f"{file}:4: {{x: {UNCLOSED}", f"{file}:5: \\foo: {mark}",
+                                            f"{file}:9: {{z: {UNCLOSED}", f"{file}: {{t: {UNCLOSED}"])
 
     def test_a_mark_is_told_as_text(self):
         [[_, warnings]] = self.render(("$\\<$ $\\\"$", {}, {}))
@@ -263,7 +258,7 @@ class MarkdownIt(Package):
                                     'Markdown:1: \\": marked as an error: Undefined("Command(\\"\\\\\\"\\")")'])
 
     def test_strict(self):
-        for source, fault in (("${x$", f"{{x: {BRACE}"), ("$\\foo$", "\\foo: marked as an error: ")):
+        for source, fault in (("${x$", f"{{x: {UNCLOSED}"), ("$\\foo$", "\\foo: marked as an error: ")):
             with self.subTest(source):
                 [[page, [error]]] = self.render((source, {"strict": True}, {"path": "a.md"}))
                 self.assertEqual(page, "")
@@ -288,7 +283,7 @@ class MarkdownIt(Package):
     def test_the_example(self):
         environment = {**os.environ, "NODE_PATH": str(PACKAGES)}
         done = run(["node", self.package / "example.js"], env=environment)
-        self.expect(done, stdout=None, stderr=f"example.md:11: {{x: {BRACE}\n".encode())
+        self.expect(done, stdout=None, stderr=f"example.md:11: {{x: {UNCLOSED}\n".encode())
         self.assertEqual(done.stdout.count(b"</math>"), 8)
         self.assertNotIn(b"PARSE ERROR", done.stdout)
 
