@@ -83,3 +83,22 @@ class Dist(Case):
     @requires("python3")
     def test_the_library_from_python(self):
         self.expect(run(["python3", "c/examples/latex2mathml.py", "x<y"], cwd=self.dist), stdout=f"{INLINE}\n".encode())
+
+    @requires("pandoc")
+    def test_the_filter_for_pandoc(self):
+        command = ["pandoc", "--lua-filter", self.dist / "integrations/pandoc/latex2mathml.lua", "-M",
+                   f"latex2mathml-program={self.dist / 'latex2mathml'}"]
+        self.expect(run(command, stdin=b"$x\\lt y$"), stdout=f"<p>{INLINE}</p>\n".encode())
+
+    @requires("node")
+    def test_the_package_for_node(self):
+        package = self.dist / "integrations/node"
+        self.expect(run([package / "make-addon"]))
+        self.expect(run(["node", "-p", f"require('{package}').formula('x<y')"]), stdout=f"{INLINE}\n".encode())
+
+    @requires("cargo")
+    def test_the_crate_for_rust(self):
+        done = run(["cargo", "run", "--quiet", "--offline", "--example", "page"], stdin=b"$x<y$", cwd=self.dist / "integrations/rust",
+                   timeout=300)
+        self.expect(done, stdout=None)
+        self.assertIn(INLINE.encode(), done.stdout)

@@ -2,7 +2,7 @@
 import re
 import unittest
 
-from tests.environments import ask, environment, example, requires_python, run_python
+from tests.environments import ask, environment, requires_python, run_python
 from tests.support import ROOT, Case, scratch
 
 OPEN = 'The token "RBrace" is expected, but the token "EOF" is found."'
@@ -205,8 +205,9 @@ class Options(unittest.TestCase):
 class Example(Case):
     def test_example(self):
         """The example of the package is converted without a warning, and what it links is there."""
-        folder = example("markdown", self.enterContext(scratch()) / "example")
-        self.expect(run_python(environment("markdown"), folder / "build.py"), 0, b"", b"")
+        folder = self.enterContext(scratch()) / "out"
+        script = ROOT / "integrations/python/examples/markdown/build.py"
+        self.expect(run_python(environment("markdown"), script, folder), 0, b"", b"")
         page = (folder / "page.html").read_text(encoding="utf-8")
         self.assertEqual((page.count("<math "), page.count("<code>"), page.count("\\")), (7, 1, 0))
         for name in ("latex2mathml.css", "latex2mathml.js"):

@@ -1,0 +1,17 @@
+// Prints a page of example.md.
+const { readFileSync } = require('node:fs');
+const markdownIt = require('markdown-it');
+const latex2mathml = require('./markdown-it.js');
+
+const md = markdownIt().use(latex2mathml, { names: { '\\R': '\\mathbb{R}' } });
+const content = md.render(readFileSync(`${__dirname}/example.md`, 'utf8'), { path: 'example.md' });
+
+console.log(`<!DOCTYPE html>
+<html lang="en">
+<head>
+<meta charset="utf-8">
+<title>An example</title>
+</head>
+<body>
+${content}</body>
+</html>`);

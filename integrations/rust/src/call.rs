@@ -1,0 +1,130 @@
+//! The two calls of `latex2mathml.h`.
+//!
+//! Its conditions hold for every `&str`: its pointer is not null also where it is empty, its length is at most
+//! `isize::MAX`, and nobody changes it during the call. The room is this module's own.
+
+use crate::LatexError;
+use std::os::raw::c_char;
+
+const DONE: u32 = 0;
+const REFUSED: u32 = 1;
+const NOT_UTF8: u32 = 2;
+const TOO_SMALL: u32 = 3;
+
+extern "C" {
+    fn latex2mathml_formula(
+        latex: *const c_char,
+        latex_len: usize,
+        block: bool,
+        out: *mut c_char,
+        out_len: usize,
+        needed: *mut usize,
+    ) -> u32;
+
+    fn latex2mathml_document(
+        document: *const c_char,
+        document_len: usize,
+        out: *mut c_char,
+        out_len: usize,
+        needed: *mut usize,
+    ) -> u32;
+}
+
+pub fn formula(latex: &str, block: bool) -> Result<String, LatexError> {
+    // SAFETY: the module's comment says why the conditions of the header hold.
+    convert(latex.len(), |room, length, needed| unsafe {
+        latex2mathml_formula(latex.as_ptr().cast(), latex.len(), block, room, length, needed)
+    })
+}
+
+pub fn document(document: &str) -> Result<String, LatexError> {
+    // SAFETY: as above.
+    convert(document.len(), |room, length, needed| unsafe {
+        latex2mathml_document(document.as_ptr().cast(), document.len(), room, length, needed)
+    })
+}
+
+/// Makes the call with room for what it comes to. A second time, where the first room is too small, is the last: the call
+/// then has what it asked for.
+fn convert(length: usize, call: impl Fn(*mut c_char, usize, *mut usize) -> u32) -> Result<String, LatexError> {
+    let mut text: Vec<u8> = Vec::new();
+    // Where so much is not found, the call with no room tells how much it takes.
+    let _ = text.try_reserve_exact(likely_room(length));
+    loop {
+        let mut needed = 0;
+        let code = call(text.as_mut_ptr().cast(), text.capacity(), &mut needed);
+        if code == TOO_SMALL {
+            text.try_reserve_exact(needed).map_err(|_| LatexError::OutOfMemory)?;
+            continue;
+        }
+        // SAFETY: after these three codes the first `needed` bytes of the room hold a text in UTF-8, and after any other
+        // `needed` is 0.
+        let mut text = unsafe {
+            text.set_len(needed);
+            String::from_utf8_unchecked(text)
+        };
+        text.shrink_to_fit();
+        return match code {
+            DONE => Ok(text),
+            REFUSED | NOT_UTF8 => Err(LatexError::Refused(text)),
+            _ => Err(LatexError::OutOfMemory),
+        };
+    }
+}
+
+/// More than nearly every text of so many bytes comes to.
+fn likely_room(length: usize) -> usize {
+    length.saturating_mul(64).saturating_add(256)
+}
+
+#[cfg(test)]
+mod tests {
+    use super::*;
+    use std::cell::RefCell;
+
+    /// A call that comes to a text, and tells the rooms that it was given.
+    fn told(text: &str, code: u32) -> (Result<String, LatexError>, Vec<usize>) {
+        let rooms = RefCell::new(Vec::new());
+        let answer = convert(1, |room, length, needed| {
+            rooms.borrow_mut().push(length);
+            // SAFETY: `needed` is that of `convert`, and the text is put into a room that has room for it.
+            unsafe {
+                *needed = text.len();
+                if length < text.len() {
+                    return TOO_SMALL;
+                }
+                room.copy_from_nonoverlapping(text.as_ptr().cast(), text.len());
+            }
+            code
+        });
+        (answer, rooms.into_inner())
+    }
+
+    #[test]
+    fn a_room_that_is_too_small() {
+        let text = "é".repeat(1000);
+        let (answer, rooms) = told(&text, DONE);
+        assert_eq!(answer, Ok(text));
+        assert_eq!(rooms.len(), 2);
+        assert!(rooms[0] < 2000 && rooms[1] >= 2000, "{:?}", rooms);
+    }
+
+    #[test]
+    fn each_code() {
+        assert_eq!(told("why", REFUSED).0, Err(LatexError::Refused("why".to_owned())));
+        assert_eq!(told("why", NOT_UTF8).0, Err(LatexError::Refused("why".to_owned())));
+        assert_eq!(told("", DONE).0, Ok(String::new()));
+        assert_eq!(told("", 4).0, Err(LatexError::OutOfMemory));
+    }
+
+    #[test]
+    fn a_room_that_cannot_be_had() {
+        let answer = convert(usize::MAX, |_, length, needed| {
+            // SAFETY: `needed` is that of `convert`.
+            unsafe { *needed = 0 };
+            assert_eq!(length, 0);
+            DONE
+        });
+        assert_eq!(answer, Ok(String::new()));
+    }
+}

@@ -1,0 +1,297 @@
+"""The package for Node and its plugin for markdown-it, in Node."""
+import html
+import json
+import os
+import pathlib
+import shutil
+import unittest
+
+from tests.support import ROOT, Case, c_library, program, requires, run, scratch
+
+PACKAGES = pathlib.Path("/usr/share/nodejs")  # Debian's
+BRACE = 'The token "RBrace" is expected, but the token "EOF" is found."'
+
+# Reads [function of the module, arguments] and prints the answer, or the error's class, name, code and message.
+CALLER = """
+const package_ = require(process.argv[1]);
+const cases = JSON.parse(require('fs').readFileSync(0));
+console.log(JSON.stringify(cases.map(([name, words]) => {
+    try {
+        return package_[name](...words);
+    } catch (error) {
+        return [error instanceof package_.Refused, error.constructor.name, error.message];
+    }
+})));
+"""
+
+# Reads [Markdown, options, env] and prints the HTML and the warnings of each, or the error.
+RENDERER = """
+const markdownIt = require('markdown-it');
+const plugin = require(process.argv[1] + '/markdown-it.js');
+const cases = JSON.parse(require('fs').readFileSync(0));
+console.log(JSON.stringify(cases.map(([source, options, env]) => {
+    const warnings = [];
+    try {
+        const md = markdownIt({ html: true }).use(plugin, { warn: warning => warnings.push(warning), ...options });
+        return [md.render(source, env), warnings];
+    } catch (error) {
+        return ['', [`${error.name}: ${error.message}`]];
+    }
+})));
+"""
+
+
+def answer_of(latex, word="inline"):
+    """The program's own answer."""
+    return run([program(), word], stdin=latex.encode()).stdout.decode().removesuffix("\n")
+
+
+def node_gyp():
+    """The script of node-gyp, where there is one: npm has it, also where it is no command."""
+    places = ["/usr/lib/node_modules/npm/node_modules/node-gyp/bin/node-gyp.js", PACKAGES / "node-gyp/bin/node-gyp.js"]
+    return next((place for place in map(pathlib.Path, places) if place.exists()), None)
+
+
+class Package(Case):
+    """A copy of the package with its addon, built once a class."""
+
+    @classmethod
+    def setUpClass(cls):
+        cls.folder = cls.enterClassContext(scratch())
+        cls.package = cls.copy("integrations")
+        run([cls.package / "make-addon"], check=True)
+
+    @classmethod
+    def copy(cls, name):
+        """A copy of the package as a clone has it, with the library beside it."""
+        above = cls.folder / name
+        shutil.copytree(ROOT / "integrations/node", above / "node", ignore=shutil.ignore_patterns("build", "lib"))
+        shutil.copy(ROOT / "integrations/names.json", above)
+        shutil.copytree(c_library(), above / "node/lib")
+        return above / "node"
+
+    def node(self, script, *words, cases=None, timeout=60):
+        """What a script prints, read as JSON where it gets cases so."""
+        environment = {**os.environ, "NODE_PATH": str(PACKAGES)}
+        stdin = b"" if cases is None else json.dumps(cases).encode()
+        done = run(["node", "-e", script, "--", *words], stdin=stdin, env=environment, timeout=timeout)
+        self.expect(done)
+        return done.stdout.decode() if cases is None else json.loads(done.stdout)
+
+
+@requires("node", "cc")
+class Calls(Package):
+    def call(self, *cases):
+        return self.node(CALLER, self.package, cases=cases)
+
+    def test_formulas(self):
+        formulas = ["", "x<y", "\\frac{a}{b}", "é𝑥\0", "$", "\\", "x" * 100_000]
+        answers = self.call(*[("formula", [latex, block]) for latex in formulas for block in (False, True)])
+        self.assertEqual(answers, [answer_of(latex, word) for latex in formulas for word in ("inline", "block")])
+        self.assertEqual(self.call(("formula", ["x"])), [answer_of("x")])
+
+    def test_documents(self):
+        self.assertEqual(self.call(("document", [""]), ("document", ["é \\$5 $x$ $$y$$\0"])),
+                         ["", f"é &#x24;5 {answer_of('x')} {answer_of('y', 'block')}\0"])
+
+    def test_refusals(self):
+        answers = self.call(("formula", ["{x", True]), ("document", ["$a$ ${x$"]), ("document", ["$"]))
+        dollars = "The number of dollar sings found is invalid."
+        self.assertEqual(answers, [[True, "Refused", reason] for reason in (BRACE, BRACE, dollars)])
+
+    def test_what_is_no_text(self):
+        for name, words in (("formula", []), ("formula", [3]), ("formula", [None]), ("formula", ["x", 1]), ("formula", [["x"]]),
+                            ("document", []), ("document", [{}])):
+            with self.subTest(name, words=words):
+                [[is_refused, kind, message]] = self.call((name, words))
+                self.assertEqual((is_refused, kind), (False, "TypeError"))
+                self.assertIn(f"{name}(", message)
+
+    def test_half_a_character(self):
+        self.assertEqual(self.call(("formula", ["\ud835"])), [answer_of("\ufffd")])
+
+    def test_modules_and_workers(self):
+        answer = self.node("""
+            const { Worker } = require('worker_threads');
+            const script = 'const {formula} = require(process.argv[1]); require("worker_threads").parentPort.postMessage(formula("x"))';
+            Promise.all([1, 2, 3].map(() => new Promise((resolve, reject) => {
+                const worker = new Worker(script.replace('process.argv[1]', JSON.stringify(process.argv[1])), { eval: true });
+                worker.on('message', resolve).on('error', reject);
+            }))).then(answers => import(process.argv[1] + '/index.js').then(({ formula }) => {
+                console.log([...answers, formula('x')].join('\\n'));
+            }));
+        """, self.package)
+        self.assertEqual(answer.splitlines(), [answer_of("x")] * 4)
+
+    def test_names(self):
+        cases = json.loads((ROOT / "integrations/names-cases.json").read_text())
+        script = """
+            const { namesOf, replaceNames } = require(process.argv[1] + '/names.js');
+            const cases = JSON.parse(require('fs').readFileSync(0));
+            console.log(JSON.stringify(cases.map(({ formula, names }) => replaceNames(formula, namesOf(names)))));
+        """
+        replaced = self.node(script, self.package, cases=cases)
+        for case, answer in zip(cases, replaced, strict=True):
+            with self.subTest(case["why"]):
+                self.assertEqual(answer, case["replaced"])
+
+    def test_no_library(self):
+        bare = self.copy("bare")
+        shutil.rmtree(bare / "lib")
+        done = run([bare / "make-addon"])
+        self.expect(done, status=1, stderr=None)
+        self.assertIn(f"there is no {bare}/lib/liblatex2mathml.a", done.stderr.decode())
+        self.expect(run([bare / "make-addon"], env={**os.environ, "LATEX2MATHML_LIB": str(c_library())}))
+
+    @unittest.skipUnless(node_gyp(), "node-gyp not found")
+    def test_node_gyp(self):
+        built = self.copy("gyp")
+        headers = "/usr" if pathlib.Path("/usr/include/node").exists() else "/usr/local"
+        done = run(["node", node_gyp(), "rebuild", f"--nodedir={headers}"], cwd=built, timeout=300)
+        self.assertEqual(done.returncode, 0, done.stderr.decode())
+        self.assertEqual(self.node("console.log(require(process.argv[1]).formula('x'))", built), answer_of("x") + "\n")
+
+    @requires("npm")
+    def test_npm(self):
+        project = self.folder / "project"
+        project.mkdir()
+        (project / "package.json").write_text('{"name": "project", "version": "1.0.0"}')
+        shutil.rmtree(self.copy("npm") / "build", ignore_errors=True)
+        done = run(["npm", "install", "--offline", "--no-audit", "--no-fund", self.folder / "npm/node"], cwd=project, timeout=300)
+        self.assertEqual(done.returncode, 0, done.stderr.decode())
+        done = run(["node", "-p", "require('latex2mathml-proved').formula('x')"], cwd=project)
+        self.expect(done, stdout=answer_of("x").encode() + b"\n")
+
+
+@requires("node", "cc")
+@unittest.skipUnless((PACKAGES / "markdown-it").exists(), "markdown-it not found")
+class MarkdownIt(Package):
+    def render(self, *cases, timeout=60):
+        return self.node(RENDERER, self.package, cases=cases, timeout=timeout)
+
+    def content(self, source, **options):
+        """The page of a source that raises no warning, without the links."""
+        [[page, warnings]] = self.render((source, {"page": False, **options}, {}))
+        self.assertEqual(warnings, [])
+        return page
+
+    def check(self, source, page, **options):
+        """Compares a page, where `<i>x</i>` and `<b>x</b>` stand for the answers of x in a line and in a block."""
+        with self.subTest(source):
+            wanted = page
+            for tag, word in (("i", "inline"), ("b", "block")):
+                parts = wanted.replace(f"</{tag}>", f"<{tag}>").split(f"<{tag}>")
+                parts[1::2] = [answer_of(latex, word) for latex in parts[1::2]]
+                wanted = "".join(parts)
+            self.assertEqual(self.content(source, **options), wanted)
+
+    def test_formulas_in_lines(self):
+        for source, page in (
+            ("$x<y$ and $a_b$, *c* $d_e$", "<i>x<y</i> and <i>a_b</i>, <em>c</em> <i>d_e</i>"),
+            ("a $$x$$ b", "a <b>x</b> b"),
+            ("$a$$b$", "<i>a</i><i>b</i>"),
+            ("$a\nb$", "<i>a\nb</i>"),
+            ("$\\$$ $a\\$b$ $\\backslash\\\\ $ $\\,$", "<i>\\$</i> <i>a\\$b</i> $\\backslash\\ $ <i>\\,</i>"),
+            ("\\$5, \\$x$ and $6", "$5, $x$ and $6"),
+            ("$5 and $6", "$5 and $6"),
+            ("$ a$ $b $ $", "$ a$ $b $ $"),
+            ("$a$1", "$a$1"),
+            ("$$ and $ and $", "$$ and $ and $"),
+            ("**$a$** [$b$](u)", '<strong><i>a</i></strong> <a href="u"><i>b</i></a>'),
+            ("![a $x$](u)", '<img src="u" alt="a $x$">'),
+        ):
+            self.check(source, f"<p>{page}</p>\n")
+
+    def test_formulas_in_blocks(self):
+        for source, page in (
+            ("$$x$$", "<b>x</b>\n"),
+            ("$$\na\n- b\n+ c\n# d\n= e\n$$", "<b>\na\n- b\n+ c\n# d\n= e\n</b>\n"),
+            ("   $$ a\n  b $$  \ntext", "<b>a\nb</b>\n<p>text</p>\n"),
+            ("text\n$$\na\n$$\ntext", "<p>text</p>\n<b>a</b>\n<p>text</p>\n"),
+            ("> $$\n> a\n> $$", "<blockquote>\n<b>a</b>\n</blockquote>\n"),
+            ("- $$\n  a\n  $$\n- b", "<ul>\n<li>\n<b>a</b>\n</li>\n<li>b</li>\n</ul>\n"),
+            ("$$a$$ and $$b$$", "<p><b>a</b> and <b>b</b></p>\n"),
+            ("$$a\\$$ b$$", "<b>a\\$$ b</b>\n"),
+            ("$$\na\n\nb\n$$", "<p>$$\na</p>\n<p>b\n$$</p>\n"),
+            ("$$$$", "<p>$$$$</p>\n"),
+            ("| a |\n|---|\n| $x$ |", "<table>\n<thead>\n<tr>\n<th>a</th>\n</tr>\n</thead>\n<tbody>\n<tr>\n<td><i>x</i></td>\n"
+                                       "</tr>\n</tbody>\n</table>\n"),
+        ):
+            self.check(source, page)
+
+    def test_code_and_html(self):
+        for source, page in (
+            ("`$x$` $x `$` y$", "<p><code>$x$</code> $x <code>$</code> y$</p>\n"),
+            ("```\n$x$\n$$\n```", "<pre><code>$x$\n$$\n</code></pre>\n"),
+            ("$$\n~~~\n$$\n~~~", "<p>$$</p>\n<pre><code>$$\n</code></pre>\n"),
+            ("    $$x$$", "<pre><code>$$x$$</code></pre>\n"),
+            ("<div title='$x$'>$x$</div>", "<div title='$x$'>$x$</div>"),
+            ("a <b title='$x$'>$y$</b>", None),
+        ):
+            if page is None:
+                self.assertEqual(self.content(source), f"<p>a <b title='$x$'>{answer_of('y')}</b></p>\n")
+            else:
+                self.check(source, page)
+
+    def test_names(self):
+        self.check("$\\R \\le \\dots$", "<p><i>\\mathbb{R} \\leq \\ldots</i></p>\n", names={"\\R": "\\mathbb{R}"})
+        [[_, [warning]]] = self.render(("$\\le$", {"names": False}, {}))
+        self.assertIn('Command(\\"le\\")', warning)
+        [[_, [error]]] = self.render(("x", {"names": {"R": "x"}}, {}))
+        self.assertEqual(error, 'TypeError: latex2mathml: "R" is no name of a command')
+
+    def test_refused_formulas(self):
+        code = '<code class="latex2mathml-refused" title="%s">%s</code>'
+        [[page, warnings]] = self.render(('$x$ ${<b title="\\$">&$ and\n\n$$\n{y\n$$', {"page": False}, {}))
+        self.assertEqual(page, f"<p>{answer_of('x')} "
+                               + code % (html.escape(BRACE), "{&lt;b title=&quot;\\&#x24;&quot;&gt;&amp;") + " and</p>\n"
+                               + code % (html.escape(BRACE), "{y") + "\n")
+        self.assertEqual(warnings, [f'Markdown:1: {{<b title="\\$">&: {BRACE}', f"Markdown:3: {{y: {BRACE}"])
+
+    def test_lines(self):
+        source = "# A ${h$\n\ntext `a\nb` ${x$\nmore $\\foo$\n\n- one\n- two\n  $$\n  {z\n  $$\n\n| a |\n|---|\n| ${t$ |\n"
+        mark = 'marked as an error: Undefined("Command(\\"foo\\")")'
+        for env, file in (({"path": "a.md"}, "a.md"), ({"page": {"inputPath": "./b.md"}}, "./b.md"), ({}, "Markdown")):
+            with self.subTest(file):
+                [[_, warnings]] = self.render((source, {}, env))
+                self.assertEqual(warnings, [f"{file}:1: {{h: {BRACE}", f"{file}:4: {{x: {BRACE}", f"{file}:5: \\foo: {mark}",
+                                            f"{file}:9: {{z: {BRACE}", f"{file}: {{t: {BRACE}"])
+
+    def test_a_mark_is_told_as_text(self):
+        [[_, warnings]] = self.render(("$\\<$ $\\\"$", {}, {}))
+        self.assertEqual(warnings, ['Markdown:1: \\<: marked as an error: Undefined("Command(\\"<\\")")',
+                                    'Markdown:1: \\": marked as an error: Undefined("Command(\\"\\\\\\"\\")")'])
+
+    def test_strict(self):
+        for source, fault in (("${x$", f"{{x: {BRACE}"), ("$\\foo$", "\\foo: marked as an error: ")):
+            with self.subTest(source):
+                [[page, [error]]] = self.render((source, {"strict": True}, {"path": "a.md"}))
+                self.assertEqual(page, "")
+                self.assertIn(f"Error: a.md:1: {fault}", error)
+
+    def test_links(self):
+        links = '<link rel="stylesheet" href="%s/latex2mathml.css">\n<script src="%s/latex2mathml.js" defer></script>\n<p>'
+        for source, options, start in (("$x$", {}, links.replace("%s", "page")),
+                                       ("a $x$ $y$", {"page": "../a&b"}, links.replace("%s", "../a&amp;b")),
+                                       ("$x$", {"page": False}, "<p>"), ("x", {}, "<p>")):
+            with self.subTest(source, options=options):
+                [[page, _]] = self.render((source, options, {}))
+                self.assertTrue(page.startswith(start), page)
+                self.assertEqual(page.count("<link"), start.count("<link"))
+
+    def test_texts_that_are_slow_to_read(self):
+        for source in ("$a$ $$ $ [ ", "$a$\n", "$$\n", "$$\na\n", "$ ", "\\$", "`$", "- $$\n", "> $$ "):
+            with self.subTest(source):
+                self.render((source * 20_000, {"names": False, "warn": None}, {}), timeout=30)
+        self.render(("$$\n" + "a\n" * 50_000, {}, {}), ("$" + "a " * 50_000, {}, {}), timeout=30)
+
+    def test_the_example(self):
+        environment = {**os.environ, "NODE_PATH": str(PACKAGES)}
+        done = run(["node", self.package / "example.js"], env=environment)
+        self.expect(done, stdout=None, stderr=f"example.md:11: {{x: {BRACE}\n".encode())
+        self.assertEqual(done.stdout.count(b"</math>"), 8)
+        self.assertNotIn(b"PARSE ERROR", done.stdout)
+
+
+if __name__ == "__main__":
+    unittest.main()

@@ -1,0 +1,116 @@
+"""The crate for Rust, built by cargo."""
+import os
+import resource
+import shutil
+import unittest
+
+from tests.support import ROOT, Case, c_library, requires, run, scratch
+
+CRATE = ROOT / "integrations/rust"
+MEGABYTE = 1 << 20
+
+# What is written for the crate that has these calls, where only the dependency's line is another.
+MANIFEST = """[package]
+name = "site"
+version = "0.1.0"
+edition = "2018"
+
+[dependencies]
+latex2mathml = { path = "CRATE" }
+"""
+CALLER = r"""
+use latex2mathml::{latex_to_mathml, replace, DisplayStyle, LatexError};
+
+fn page(document: &str) -> Result<String, Box<dyn std::error::Error>> {
+    Ok(format!("<p>{}</p>", replace(document)?))
+}
+
+fn shown(latex: &str, display: DisplayStyle) -> Result<String, LatexError> {
+    latex_to_mathml(latex, display)
+}
+
+fn main() {
+    println!("{}", latex_to_mathml(r"E = m c^2", DisplayStyle::Block).unwrap());
+    println!("{}", page("Let $r$ be.").unwrap());
+    for fault in [shown("{x", DisplayStyle::Inline).unwrap_err().clone(), replace("$").unwrap_err()].iter() {
+        println!("{}", fault);
+        assert!(!format!("{:?}", fault).is_empty());
+    }
+}
+"""
+SENTENCE = "Let $x$ be. "
+
+
+def limited(megabytes):
+    """Leaves a process so much memory to ask for."""
+    return lambda: resource.setrlimit(resource.RLIMIT_AS, (megabytes * MEGABYTE, megabytes * MEGABYTE))
+
+
+@requires("cargo", "cc")
+class Crate(Case):
+    @classmethod
+    def setUpClass(cls):
+        cls.folder = cls.enterClassContext(scratch())
+        cls.crate = cls.folder / "latex2mathml"
+        shutil.copytree(CRATE, cls.crate, ignore=shutil.ignore_patterns("target", "lib", "Cargo.lock"))
+        shutil.copytree(c_library(), cls.crate / "lib")
+
+    def cargo(self, *words, folder=None, **environment):
+        environment = {"CARGO_TARGET_DIR": str(self.folder / "target"), **environment}
+        inherited = {name: value for name, value in os.environ.items() if name != "LATEX2MATHML_LIB"}
+        command = ["cargo", words[0], "--quiet", "--offline", *words[1:]]
+        return run(command, cwd=folder or self.crate, env={**inherited, **environment}, timeout=600)
+
+    def example(self):
+        self.expect(self.cargo("build", "--example", "page"))
+        return self.folder / "target/debug/examples/page"
+
+    def test_its_own_tests(self):
+        done = self.cargo("test", "--no-fail-fast")
+        self.assertEqual(done.returncode, 0, (done.stdout + done.stderr).decode())
+        self.assertEqual(done.stdout.count(b"test result: ok."), 5)  # of the modules, three files, and the comments
+
+    def test_a_caller_of_the_crate(self):
+        caller = self.folder / "site"
+        (caller / "src").mkdir(parents=True)
+        (caller / "src/main.rs").write_text(CALLER)
+        (caller / "Cargo.toml").write_text(MANIFEST.replace("CRATE", str(self.crate)))
+        done = self.cargo("run", folder=caller)
+        start = '<math xmlns="http://www.w3.org/1998/Math/MathML" display='
+        self.expect(done, stdout=(
+            f'{start}"block"><mi>E</mi><mo>=</mo><mi>m</mi><msup><mi>c</mi><mn>2</mn></msup></math>\n'
+            f'<p>Let {start}"inline"><mi>r</mi></math> be.</p>\n'
+            'The token "RBrace" is expected, but the token "EOF" is found."\n'
+            "The number of dollar sings found is invalid.\n").encode())
+
+    def test_where_the_library_is_found(self):
+        elsewhere = self.folder / "elsewhere"
+        shutil.copytree(CRATE, elsewhere, ignore=shutil.ignore_patterns("target", "lib", "Cargo.lock"))
+        target = {"CARGO_TARGET_DIR": str(self.folder / "target-elsewhere")}
+        done = self.cargo("build", folder=elsewhere, **target)
+        self.assertNotEqual(done.returncode, 0)
+        self.assertIn(f"There is no {elsewhere}/lib/liblatex2mathml.a.", done.stderr.decode())
+        self.expect(self.cargo("build", folder=elsewhere, LATEX2MATHML_LIB=str(self.crate / "lib"), **target))
+
+    def test_the_example(self):
+        page = self.example()
+        done = run([page], stdin=b"Let $x<y$ be.")
+        self.expect(done, stdout=None)
+        self.assertIn(b"<mi>x</mi><mo>&lt;</mo><mi>y</mi></math> be.", done.stdout)
+        done = run([page], stdin=b"${x$")
+        self.expect(done, status=1, stdout=b"", stderr=None)
+        self.assertIn(b"RBrace", done.stderr)
+
+    def test_little_memory(self):
+        page = self.example()
+        prose = "No formula. ".encode() * (8 * MEGABYTE // 12)
+        # the likely room would be half a gigabyte
+        done = run([page], stdin=prose, preexec_fn=limited(200))
+        self.expect(done, stdout=None)
+        self.assertIn(prose, done.stdout)
+        done = run([page], stdin=(SENTENCE * (4 * MEGABYTE // len(SENTENCE))).encode(), preexec_fn=limited(30))
+        self.expect(done, status=1, stdout=b"", stderr=b"Error: OutOfMemory\n")
+
+
+if __name__ == "__main__":
+    unittest.main()
