@@ -1,5 +1,5 @@
 #!/usr/bin/env python3
-"""Measures a page of 1,000 formulas built by the integrations, beside what one would take instead: seconds, bytes of the page,
+"""Measures a page of 1,000 formulas built by the integrations, beside what one would take instead: seconds, the bytes of the page,
 and those of the scripts that a reader's browser runs. What is not installed is left out, and named at the end."""
 import argparse
 import dataclasses
