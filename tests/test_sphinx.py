@@ -2,7 +2,7 @@
 import re
 import unittest
 
-from tests.environments import environment, example, requires_python, run_python
+from tests.environments import environment, requires_python, run_python
 from tests.support import ROOT, Case, scratch
 
 CONF = """
@@ -196,7 +196,7 @@ class Pages(Project):
 
     def test_example(self):
         """The example of the package is built without a warning, and all its formulas are drawn."""
-        source = example("sphinx", self.source / "example")
+        source = ROOT / "integrations/python/examples/sphinx"
         self.expect(run_python(environment("sphinx"), "-m", "sphinx", "-q", "-W", source, self.out, timeout=300), 0, b"", b"")
         self.assertEqual(len(formulas(self.page())), 6)
 
