@@ -205,6 +205,8 @@ class MarkdownIt(Package):
             ("text\n$$\na\n$$\ntext", "<p>text</p>\n<b>a</b>\n<p>text</p>\n"),
             ("> $$\n> a\n> $$", "<blockquote>\n<b>a</b>\n</blockquote>\n"),
             ("- $$\n  a\n  $$\n- b", "<ul>\n<li>\n<b>a</b>\n</li>\n<li>b</li>\n</ul>\n"),
+            ("- $$\n  a\nb\n$$", "<ul>\n<li><b>\na\nb\n</b></li>\n</ul>\n"),
+            ("> a\n    $$\n    b\n    $$", "<blockquote>\n<p>a\n<b>\nb\n</b></p>\n</blockquote>\n"),
             ("$$a$$ and $$b$$", "<p><b>a</b> and <b>b</b></p>\n"),
             ("$$a\\$$ b$$", "<b>a\\$$ b</b>\n"),
             ("$$\na\n\nb\n$$", "<p>$$\na</p>\n<p>b\n$$</p>\n"),
