@@ -234,8 +234,9 @@ class MarkdownIt(Package):
         self.check("$\\R \\le \\dots$", "<p><i>\\mathbb{R} \\leq \\ldots</i></p>\n", names={"\\R": "\\mathbb{R}"})
         [[_, [warning]]] = self.render(("$\\le$", {"names": False}, {}))
         self.assertIn('Command(\\"le\\")', warning)
-        [[_, [error]]] = self.render(("x", {"names": {"R": "x"}}, {}))
-        self.assertEqual(error, 'TypeError: latex2mathml: "R" is no name of a command')
+        for names, fault in (({"R": "x"}, '"R" is no name of a command'), ({"\\R": 1}, "\\R stands for no string")):
+            [[_, [error]]] = self.render(("x", {"names": names}, {}))
+            self.assertEqual(error, f"TypeError: latex2mathml: {fault}")
 
     def test_refused_formulas(self):
         code = '<code class="latex2mathml-refused" title="%s">%s</code>'
