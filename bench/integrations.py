@@ -1,5 +1,5 @@
 #!/usr/bin/env python3
-"""Measures a page of 1,000 formulas built by the integrations, beside what one would take instead: seconds, bytes of the page,
+"""Measures a page of 1,000 formulas built by the integrations, beside what one would take instead: seconds, the bytes of the page,
 and those of the scripts that a reader's browser runs. What is not installed is left out, and named at the end."""
 import argparse
 import dataclasses
@@ -92,12 +92,13 @@ def pandoc_with_filter(tools, source, page):
     return pandoc(*words)(tools, source, page)
 
 
-def python_markdown(*extensions):
-    script = """
+def python_markdown(extension, **options):
+    script = f"""
 import sys, markdown
-markdown.markdownFromFile(input=sys.argv[1], output=sys.argv[2], extensions=sys.argv[3:])
+markdown.markdownFromFile(
+    input=sys.argv[1], output=sys.argv[2], extensions=[{extension!r}], extension_configs={{{extension!r}: {options!r}}})
 """
-    return lambda tools, source, page: [tools.python(), "-c", script, source, page, *extensions]
+    return lambda tools, source, page: [tools.python(), "-c", script, source, page]
 
 
 def sphinx(renderer, extension):
@@ -127,8 +128,8 @@ ENTRIES = [
     Entry("Sphinx, mathjax", sphinx("mathjax", "sphinx.ext.mathjax"), [*SPHINX, MATHJAX], [MATHJAX / part for part in MATHJAX_PARTS]),
     Entry("Sphinx, imgmath", sphinx("imgmath", "sphinx.ext.imgmath"), [*SPHINX, "latex", "dvipng"], []),
     Entry("Python-Markdown, the extension", python_markdown("latex2mathml"), PYTHON_MARKDOWN, [PAGE_SCRIPT]),
-    Entry("Python-Markdown, for MathJax", python_markdown("mdx_math"), [*PYTHON_MARKDOWN, SYSTEM_PACKAGES / "mdx_math.py", MATHJAX],
-          [MATHJAX / part for part in MATHJAX_PARTS]),
+    Entry("Python-Markdown, for MathJax", python_markdown("mdx_math", enable_dollar_delimiter=True),
+          [*PYTHON_MARKDOWN, SYSTEM_PACKAGES / "mdx_math.py", MATHJAX], [MATHJAX / part for part in MATHJAX_PARTS]),
     Entry("pandoc and the filter", pandoc_with_filter, ["pandoc"], [PAGE_SCRIPT]),
     Entry("pandoc --mathml", pandoc("--mathml"), ["pandoc"], []),
     Entry("pandoc --mathjax", pandoc("--mathjax"), ["pandoc", MATHJAX], [MATHJAX / part for part in MATHJAX_PARTS]),
@@ -178,7 +179,7 @@ def main():
             page = folder / "page.html"
             wall, used = measure(entry.command(tools, source, page), options.times)
             markup = page.read_text(encoding="utf-8")
-            drawn = len(re.findall(r'<math |class="math |<script type="math|class="math"><img', markup))
+            drawn = len(re.findall(r'<math |<span\s+class="math[^>]*>(?!<)|<script type="math|<img class="math"', markup))
             scripts = sum(script.stat().st_size for script in entry.scripts)
             print(f"{entry.name:30} {wall:8.2f} {used:10.2f} {len(markup.encode()):10,} {drawn:9,} {scripts:9,}")
     if absent:

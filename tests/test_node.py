@@ -205,6 +205,8 @@ class MarkdownIt(Package):
             ("text\n$$\na\n$$\ntext", "<p>text</p>\n<b>a</b>\n<p>text</p>\n"),
             ("> $$\n> a\n> $$", "<blockquote>\n<b>a</b>\n</blockquote>\n"),
             ("- $$\n  a\n  $$\n- b", "<ul>\n<li>\n<b>a</b>\n</li>\n<li>b</li>\n</ul>\n"),
+            ("- $$\n  a\nb\n$$", "<ul>\n<li><b>\na\nb\n</b></li>\n</ul>\n"),
+            ("> a\n    $$\n    b\n    $$", "<blockquote>\n<p>a\n<b>\nb\n</b></p>\n</blockquote>\n"),
             ("$$a$$ and $$b$$", "<p><b>a</b> and <b>b</b></p>\n"),
             ("$$a\\$$ b$$", "<b>a\\$$ b</b>\n"),
             ("$$\na\n\nb\n$$", "<p>$$\na</p>\n<p>b\n$$</p>\n"),
@@ -232,8 +234,9 @@ class MarkdownIt(Package):
         self.check("$\\R \\le \\dots$", "<p><i>\\mathbb{R} \\leq \\ldots</i></p>\n", names={"\\R": "\\mathbb{R}"})
         [[_, [warning]]] = self.render(("$\\le$", {"names": False}, {}))
         self.assertIn('Command(\\"le\\")', warning)
-        [[_, [error]]] = self.render(("x", {"names": {"R": "x"}}, {}))
-        self.assertEqual(error, 'TypeError: latex2mathml: "R" is no name of a command')
+        for names, fault in (({"R": "x"}, '"R" is no name of a command'), ({"\\R": 1}, "\\R stands for no string")):
+            [[_, [error]]] = self.render(("x", {"names": names}, {}))
+            self.assertEqual(error, f"TypeError: latex2mathml: {fault}")
 
     def test_refused_formulas(self):
         code = '<code class="latex2mathml-refused" title="%s">%s</code>'

@@ -67,10 +67,11 @@ class Filter(Case):
         return path
 
     def test_formulas(self):
-        page = self.page("Let $x<y$ be, and\n$$\\frac{a}{b}$$ and $x<y$ for \\$5, `$x$`.\n\n    $x$\n")
+        page = self.page("Let $x<y$ be, and\n$$\\frac{a}{b}$$ and $x<y$ and $$x<y$$ for \\$5, `$x$`.\n\n    $x$\n")
         self.assertEqual(page.count(answer_of("x<y")), 2)
         self.assertEqual(page.count(answer_of("\\frac{a}{b}", "block")), 1)
-        self.assertEqual(page.count("<math"), 3)
+        self.assertEqual(page.count(answer_of("x<y", "block")), 1)
+        self.assertEqual(page.count("<math"), 4)
         self.assertIn("$5, <code>$x$</code>", page)
         self.assertIn("<pre><code>$x$</code></pre>", page)
 
@@ -94,11 +95,11 @@ class Filter(Case):
                                 '{&lt;b title=&quot;&#x24;&quot;&gt;&amp;</code>')
 
     def test_warnings(self):
-        (self.folder / "a.md").write_text("${x$ and $a \\foo b$ and ${x$ and $<\\&\\\"$")
+        (self.folder / "a.md").write_text("${x$ and $a \\foo b$ and ${x$ and $<\\&\\\"$ and $\\<$")
         done = self.pandoc("", "a.md", "-t", "html")
         mark = 'marked as an error: Undefined("Command(\\"%s\\")")'
         self.expect(done, stderr="".join(f"[WARNING] latex2mathml: a.md: {fault}\n" for fault in (
-            f"{{x: {UNCLOSED}", f"a \\foo b: {mark % 'foo'}", '<\\&\\": ' + mark % '\\\\\\"',
+            f"{{x: {UNCLOSED}", f"a \\foo b: {mark % 'foo'}", '<\\&\\": ' + mark % '\\\\\\"', f"\\<: {mark % '<'}",
         )).encode())
 
     def test_strict(self):

@@ -4,7 +4,7 @@ import unittest
 import zipfile
 
 from tests.environments import NAME_CASES, NAMES, ask, environment, requires_python, run_python, wheel
-from tests.support import Case, c_library, requires, run, scratch
+from tests.support import ROOT, Case, c_library, requires, run, scratch
 
 MATH = '<math xmlns="http://www.w3.org/1998/Math/MathML" display="{}">{}</math>'
 LESS = "<mi>x</mi><mo>&lt;</mo><mi>y</mi>"
@@ -101,6 +101,12 @@ class Wheel(Case):
 class Calls(Case):
     def answers(self, *calls):
         return ask(environment(), CALLS, calls)
+
+    def test_what_the_texts_show(self):
+        """The README's lines and the package's own come to what they say."""
+        self.expect(run_python(environment(), "-m", "doctest", ROOT / "integrations/python/README.md"), 0, b"", b"")
+        own = "import doctest, latex2mathml_proved; print(doctest.testmod(latex2mathml_proved))"
+        self.expect(run_python(environment(), "-c", own), 0, b"TestResults(failed=0, attempted=3)\n", b"")
 
     def test_markup(self):
         self.assertEqual(
