@@ -131,8 +131,11 @@ class Steps(unittest.TestCase):
         self.assertEqual(step.counts, Counts(failed=1))
 
     def test_crates_below(self):
-        self.assertEqual(crates_below("latex2mathml_nodes"), ["latex2mathml_tokens"])
-        self.assertLessEqual({"latex2mathml_tokens", "latex2mathml_nodes", "latex2mathml"}, set(crates_below("latex2mathml_c")))
+        below = crates_below("latex2mathml_c")
+        self.assertEqual(below[0], "latex2mathml_tokens")
+        self.assertEqual(below[-1], "latex2mathml")
+        self.assertEqual(len(below), len(set(below)))
+        self.assertNotIn("thiserror", crates_below("latex2mathml_app"))
 
 
 class Times(unittest.TestCase):
