@@ -132,9 +132,9 @@ def lines_of(path):
         line = Line(path, number, text)
         if fault := fault_of(text):
             raise WrongCase(f"{line.place}: {fault}")
-        if text.startswith("#"):
-            heading = text.lstrip("#").strip()
-        else:
+        if text.startswith("## "):
+            heading = text[3:]
+        elif not text.startswith("#"):
             yield heading, line
 
 

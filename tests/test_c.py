@@ -4,6 +4,7 @@ import re
 import shlex
 import shutil
 
+from tests.cases import every_rule
 from tests.support import Case, ROOT, c_library, requires, run, scratch
 
 CC = shlex.split(os.environ.get("CC", "cc"))
@@ -18,12 +19,6 @@ def math(display):
 INLINE, BLOCK = math("inline"), math("block")
 REASON = b'The token "RBrace" is expected, but the token "EOF" is found."'
 CALLS = {"latex2mathml_formula", "latex2mathml_document"}
-
-
-def every_rule():
-    """The formulas that have each rule of the grammar once."""
-    lines = (ROOT / "tools/every-rule.txt").read_text(encoding="utf-8").split("\n")
-    return lines[0:-1:2]
 
 
 @requires(CC[0], "nm", "ldd")
@@ -101,7 +96,7 @@ class Calls(Built):
         self.judge("memory")
 
     def test_every_rule_with_memory_refused(self):
-        self.judge("rules", "".join(f"{formula}\n" for formula in every_rule()).encode())
+        self.judge("rules", "".join(f"{formula}\n" for formula, _ in every_rule()).encode())
 
     def test_threads(self):
         self.judge("threads")

@@ -53,6 +53,12 @@ class Run(Case):
         self.expect(done, stdout=b"skips nothing: 1\n")
         self.assertEqual(calls, [])
 
+    def test_a_file_that_another_package_brought(self):
+        (self.house / ".ci/packages").write_text(f"missing {self.house}/test\nlost {self.house}/nothing\n")
+        done, calls = self.run_ci()
+        self.expect(done, stdout=b"skips nothing: 1\n", stderr=None)
+        self.assertEqual(calls[1:], ["install --no-install-recommends lost"])
+
     def test_one_cannot_be_installed(self):
         """The others are, and `./test` runs, in which what needs it fails."""
         done, calls = self.run_ci(NOT_THERE="lost")

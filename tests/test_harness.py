@@ -1,6 +1,7 @@
 """The harness counts each case, shows what failed, and ends what does not end."""
 import io
 import os
+import shutil
 import time
 import unittest
 import unittest.mock
@@ -8,7 +9,7 @@ import unittest.mock
 from tests import samples
 from tests.modules import Module, Runs, classes_of, name_of
 from tests.results import Counts, Result, SKIP_NOTHING
-from tests.steps import Command, Library, Proofs, crates_below
+from tests.steps import Command, Library, Proofs, crates_below, set_aside
 from tests.support import scratch
 from tools.progress import Screen, clock
 
@@ -131,8 +132,48 @@ class Steps(unittest.TestCase):
         self.assertEqual(step.counts, Counts(failed=1))
 
     def test_crates_below(self):
-        self.assertEqual(crates_below("latex2mathml_nodes"), ["latex2mathml_tokens"])
-        self.assertLessEqual({"latex2mathml_tokens", "latex2mathml_nodes", "latex2mathml"}, set(crates_below("latex2mathml_c")))
+        below = crates_below("latex2mathml_c")
+        self.assertEqual(below[0], "latex2mathml_tokens")
+        self.assertEqual(below[-1], "latex2mathml")
+        self.assertEqual(len(below), len(set(below)))
+        self.assertNotIn("thiserror", crates_below("latex2mathml_app"))
+
+
+class Products(unittest.TestCase):
+    """What `rt ci` and earlier checks built, in a repository of one crate."""
+
+    def setUp(self):
+        self.root = self.enterContext(scratch())
+        self.rlib = self.root / "crates/one/out/rlib"
+        self.rlib.mkdir(parents=True)
+        (self.rlib / "stamp").write_text("an earlier check")
+        self.enterContext(unittest.mock.patch("tests.steps.ROOT", self.root))
+
+    def test_rlibs_are_set_aside(self):
+        for name in ("with .git", "without .git"):
+            with self.subTest(name):
+                if name == "with .git":
+                    (self.root / ".git").mkdir()
+                with self.assertRaises(KeyboardInterrupt), set_aside():
+                    self.assertFalse(self.rlib.exists())
+                    self.rlib.mkdir()
+                    (self.rlib / "one.rlib").write_text("of rt ci")
+                    # nothing of it may stand where `rt ci` reads
+                    self.assertEqual([file for file in self.root.rglob("stamp") if ".git" not in file.parts], [])
+                    raise KeyboardInterrupt
+                self.assertEqual([file.name for file in self.rlib.iterdir()], ["stamp"])
+                shutil.rmtree(self.root / ".git", ignore_errors=True)
+
+    def test_an_edit_during_the_proofs_is_newer_than_what_is_built(self):
+        program = self.root / "rt"
+        program.write_text(
+            "#!/bin/sh\ncd crates/one && mkdir src && touch src/lib.rt && sleep 0.1 && touch out/one && echo 1 passed, 0 failed\n")
+        program.chmod(0o755)
+        proofs = Proofs()
+        proofs.words, proofs.log = [program], self.root / "log"
+        proofs.do(Screen(io.StringIO()))
+        self.assertEqual(proofs.counts, Counts(passed=1))
+        self.assertLess((self.root / "crates/one/out/one").stat().st_mtime, (self.root / "crates/one/src/lib.rt").stat().st_mtime)
 
 
 class Times(unittest.TestCase):
