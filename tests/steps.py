@@ -15,7 +15,7 @@ OUT = ROOT / "out"
 LAST_LINE = re.compile(r"(\d+) passed, (\d+) failed")
 
 # Scripts that are no modules yet. Each has a last line 'N passed, M failed'.
-SCRIPTS = ["tools/check-depth", "tools/run-without-memory", "tools/run-with-faults", "tools/check-page"]
+SCRIPTS = ["tools/check-page"]
 
 
 class Step:

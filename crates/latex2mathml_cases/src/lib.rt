@@ -38,6 +38,8 @@ mod productions;
 #[cfg(test)]
 mod refusals;
 #[cfg(test)]
+mod refused_counts;
+#[cfg(test)]
 mod sizes;
 #[cfg(test)]
 mod streams;
