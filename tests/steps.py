@@ -15,9 +15,6 @@ from tools.progress import Stopwatch, end_of, follow
 OUT = ROOT / "out"
 LAST_LINE = re.compile(r"(\d+) passed, (\d+) failed")
 
-# Scripts that are no modules yet. Each has a last line 'N passed, M failed'.
-SCRIPTS = ["tools/check-depth", "tools/run-without-memory", "tools/run-with-faults"]
-
 
 class Step:
     """A step of `./test`, with its times once it has ended."""

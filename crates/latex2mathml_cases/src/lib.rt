@@ -24,6 +24,8 @@ mod reading;
 #[cfg(test)]
 mod refusals;
 #[cfg(test)]
+mod refused_counts;
+#[cfg(test)]
 mod samples;
 #[cfg(test)]
 mod streams;
