@@ -64,7 +64,8 @@ class Visitors:
     def _markup(self, node: nodes.Element) -> str:
         source = node.astext()
         block = isinstance(node, nodes.math_block)
-        latex = aligned(source) if block and not node["nowrap"] else source
+        is_whole = node.get("no-wrap", node.get("nowrap", False))
+        latex = aligned(source) if block and not is_whole else source
         rendering = self._renderer.render(latex, block, source)
         if rendering.fault:
             self._report(node, rendering.fault)
