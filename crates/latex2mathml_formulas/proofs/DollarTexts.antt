@@ -6,33 +6,13 @@ use Rattle.std.specs.List.{list_all}
 use Rattle.std.proofs.lemmas.Bool.{and_parts}
 use Rattle.std.proofs.lemmas.Bool.Decides.{eqb_tells, nat_tests}
 use Rattle.std.proofs.lemmas.List.Folds.{list_all-append}
-use Rattle.latex2mathml.specs.Dollars.{dollar, is_other, IsDollarFree}
+use Rattle.latex2mathml_formulas.specs.Dollars.{dollar, is_other, IsDollarFree, free_both, free_first, free_more, free_one, free_rest, other}
 use Rattle.latex2mathml_tokens.specs.Escape.{content, content_byte, content_char, value, value_byte}
 use Rattle.latex2mathml_nodes.specs.Width.{width_text, thousandths_text, thousandths, after_point, trimmed, keep, three_digits}
-
--- two texts side by side
-pub free_both : (a b : List ℕ) → IsDollarFree a → IsDollarFree b → IsDollarFree (a ++ b)
-free_both a b x y = list_all-append is_other a b ∙ ap (λ q. q && list_all is_other b) x ∙ y
-
--- a byte and a text behind it
-pub free_first : (c : ℕ) (cs : List ℕ) → IsDollarFree (c ∷ cs) → is_other c ≡ true
-free_first c cs h = (and_parts (is_other c) (list_all is_other cs) h).0
-
-pub free_rest : (c : ℕ) (cs : List ℕ) → IsDollarFree (c ∷ cs) → IsDollarFree cs
-free_rest c cs h = (and_parts (is_other c) (list_all is_other cs) h).1
-
-pub free_more : (c : ℕ) (cs : List ℕ) → is_other c ≡ true → IsDollarFree cs → IsDollarFree (c ∷ cs)
-free_more c cs h k = ap (λ q. q && list_all is_other cs) h ∙ k
-
-pub free_one : (c : ℕ) → is_other c ≡ true → IsDollarFree (c ∷ [])
-free_one c h = free_more c [] h refl
 
 pub free_if : (p : Bool) (a b : List ℕ) → IsDollarFree a → IsDollarFree b → IsDollarFree (cond p a b)
 free_if true a b x y = x
 free_if false a b x y = y
-
-pub other : (c : ℕ) → c ≢ dollar → is_other c ≡ true
-other c n = grind (arith, nat_tests)
 
 -- Contents escape it.
 free_last : (b : ℕ) → IsDollarFree (cond (nat_eq b 36) (codes "&#x24;") (b ∷ []))

@@ -2,7 +2,7 @@
 use Rattle.std.proofs.Common.{ℕ, Bool, true, false, List, ◌++◌, Option, Some, None, refl, codes, nat_eq}
 use Rattle.std.specs.Fmt.{decimal}
 use Rattle.latex2mathml_tokens.specs.Attributes.{accent_text, align_text, bool_text, display_text, thickness_text, variant_text}
-use Rattle.latex2mathml.specs.Dollars.{IsDollarFree}
+use Rattle.latex2mathml_formulas.specs.Dollars.{IsDollarFree, free_both}
 use Rattle.latex2mathml_tokens.specs.Escape.{content, content_char, quoted, value}
 use Rattle.latex2mathml_nodes.specs.Print.{print, prints, members_print, letter_print, operator_print, slashed_print, member_print, style_open}
 use Rattle.latex2mathml_formulas.specs.Rendering.{math_print}
@@ -18,7 +18,7 @@ use Rattle.latex2mathml_tokens.specs.declared.attribute.LineThickness.{LineThick
 use Rattle.latex2mathml_tokens.specs.declared.attribute.LineThickness.TheVariants.{Length}
 use Rattle.latex2mathml_tokens.specs.declared.attribute.ColumnAlign.{ColumnAlign}
 use Rattle.latex2mathml_tokens.specs.declared.attribute.ColumnAlign.TheVariants.{Center}
-use Rattle.latex2mathml.proofs.DollarTexts.{free_both, free_if, free_content, free_content_char, free_value, free_decimal, free_width}
+use Rattle.latex2mathml_formulas.proofs.DollarTexts.{free_if, free_content, free_content_char, free_value, free_decimal, free_width}
 
 -- no size in the tree holds a dollar sign
 abbrev mutual

@@ -5,7 +5,7 @@ use Rattle.std.specs.List.{list_all}
 use Rattle.std.specs.Str.{bytes_eq, encode_utf8_all}
 use Rattle.std.proofs.lemmas.Bool.{and_parts}
 use Rattle.latex2mathml_tokens.specs.Commands.{command_entries, command_token, entry_token}
-use Rattle.latex2mathml.specs.Dollars.{is_other}
+use Rattle.latex2mathml_formulas.specs.Dollars.{is_other}
 use Rattle.latex2mathml_formulas.specs.Characters.{◌∈◌}
 use Rattle.latex2mathml_formulas.specs.Spelling.{Slice, SpellsAt, HasSlices, HasTokens, character_token, character, colon, colon_equals, number, digit, symbol_command, letter_command, lone_backslash, is_operator, is_paren, takes_digit}
 use Rattle.latex2mathml_tokens.specs.Tok.{Tok, Illegal, Paren, LBrace, RBrace, Underscore, Circumflex, Ampersand, Big, Operator, Letter, Command}

@@ -2,9 +2,9 @@
 -- a dollar sign. The productions are named in `free_rule` alone.
 use Rattle.std.proofs.Common.{ℕ, Bool, true, false, List, [], ◌∷◌, Option, Some, None, codes, cond, refl, sym, subst}
 use Rattle.std.specs.Str.{bytes_eq, chars, encode_utf8_all}
-use Rattle.latex2mathml.specs.DocumentLaws.{RendersDollarFree}
-use Rattle.latex2mathml.specs.Dollars.{IsDollarFree}
-use Rattle.latex2mathml_formulas.specs.Grammar.{Sort, environment, sized, stretching, with_fence, Rule, gives, refuses, reads_part, reads_members, reads_sign, takes_token, sees_token, takes_letters, rule, primed, scripted, Outcome, Read, Refused, first_or_end, AreLetters, Reads, core_at_end, core_begun, single_read, node_read, ReadsRule, rule_gives, rule_refuses, part_read, part_refused, members_read, members_refused, sign_stands, sign_missing, token_taken, token_at_end, token_seen, letters_taken, ReadsAll, formula_ends, group_ends, never_closed, member_read, later_refused, member_refused, Reading}
+use Rattle.latex2mathml_formulas.specs.RenderingLaws.{RendersDollarFree}
+use Rattle.latex2mathml_formulas.specs.Dollars.{IsDollarFree}
+use Rattle.latex2mathml_formulas.specs.Grammar.{environment, sized, stretching, with_fence, Rule, rule, primed, scripted, Outcome, Read, Reading}
 use Rattle.latex2mathml_nodes.specs.Productions.{environment_tree, fence_of, fenced_matrix, matrix_of, spread, stretched_of, grouped}
 use Rattle.latex2mathml_formulas.specs.Rendering.{IsRendering}
 use Rattle.latex2mathml_tokens.specs.Tok.{Tok, EOF, Begin, Paren, LBrace, Left, Right, Middle, Frac, Binom, Overset, Underset, Overbrace, Underbrace, Sqrt, Integral, Lim, BigOp, Style, Big, Over, Under, OperatorName, Slashed, Text}
@@ -12,19 +12,21 @@ use Rattle.latex2mathml_nodes.specs.Style.{styled, all_styled}
 use Rattle.latex2mathml_nodes.specs.Tree.{Tree, Trees, letter, operator, other_operator, row, no_trees, more_trees, trees_of}
 use Rattle.latex2mathml_tokens.specs.declared.attribute.ColumnAlign.TheVariants as align
 use Rattle.latex2mathml_tokens.specs.declared.attribute.Variant.{Variant}
-use Rattle.latex2mathml.proofs.DollarTokens.{IsFree, AreFree, free_tokens}
-use Rattle.latex2mathml.proofs.DollarTrees.{IsFreeTree, AreFreeTrees, free_math}
+use Rattle.latex2mathml_formulas.proofs.Kept.{Property, KeepsRule, IsKept, AllTokens, HasTrees, read_all}
+use Rattle.latex2mathml_formulas.proofs.DollarTokens.{IsFree, AreFree, free_tokens}
+use Rattle.latex2mathml_formulas.proofs.DollarTrees.{IsFreeTree, AreFreeTrees, free_math}
 
--- from parts and tokens whose sizes hold no dollar sign the rule gives none but trees of such sizes
+-- no size holds a dollar sign
+abbrev free_sizes : Property
+free_sizes = record {
+  of_tree = IsFreeTree;
+  of_trees = λ xs. AreFreeTrees (trees_of xs);
+  of_refusal = λ refusal. Unit {0};
+  of_token = IsFree;
+}
+
 abbrev IsFreeRule : Rule → Type 0
-IsFreeRule (gives x) = IsFreeTree x
-IsFreeRule (refuses r) = Unit {0}
-IsFreeRule (reads_part s then) = (x : Tree) → IsFreeTree x → IsFreeRule (then x)
-IsFreeRule (reads_members end then) = (xs : List Tree) → AreFreeTrees (trees_of xs) → IsFreeRule (then xs)
-IsFreeRule (reads_sign t a b) = IsFreeRule a × IsFreeRule b
-IsFreeRule (takes_token then) = (t : Tok) → IsFree t → IsFreeRule (then t)
-IsFreeRule (sees_token then) = (t : Tok) → IsFree t → IsFreeRule (then t)
-IsFreeRule (takes_letters then) = (cs : List ℕ) → IsFreeRule (then cs)
+IsFreeRule r = KeepsRule free_sizes r
 
 free_grouped : (xs : List Tree) → AreFreeTrees (trees_of xs) → IsFreeTree (grouped xs)
 free_grouped [] h = tt
@@ -105,69 +107,25 @@ free_primed x h = ((h, tt), h)
 free_scripted : (x : Tree) → IsFreeTree x → IsFreeRule (scripted x)
 free_scripted x h = (λ y k. (h, k), (λ y k. (h, k), h))
 
--- no size in what was read holds a dollar sign, and none of the tokens that are left
-abbrev IsFreeOutcome : Outcome Tree → Type 0
-IsFreeOutcome (Read x m) = IsFreeTree x × AreFree m
-IsFreeOutcome (Refused r) = Unit {0}
+free_kept : IsKept free_sizes
+free_kept = record {
+  rules = free_rule;
+  primes = free_primed;
+  scripts = free_scripted;
+  at_end = refl;
+  core_there = tt;
+  open_there = λ end. tt;
+  none = tt;
+  more = λ x xs h i. (h, i);
+}
 
-abbrev AreFreeOutcome : Outcome (List Tree) → Type 0
-AreFreeOutcome (Read xs m) = AreFreeTrees (trees_of xs) × AreFree m
-AreFreeOutcome (Refused r) = Unit {0}
-
-free_next : (l : List Tok) → AreFree l → IsFree (first_or_end l)
-free_next [] h = refl
-free_next (t ∷ l) h = h.0
-
--- what stands behind letters
-free_letters : (cs : List ℕ) (l m : List Tok) → AreLetters cs l m → AreFree l → AreFree m
-free_letters [] l m d h = subst AreFree d.0 h
-free_letters (c ∷ cs) l m d h =
-    let front : AreFree (d.0 ∷ d.1.0) = subst AreFree d.1.1 h in
-    free_letters cs d.1.0 m d.1.3 front.1
-
-mutual
-  free_read : {s : Sort} {l : List Tok} {o : Outcome Tree} → Reads s l o → AreFree l → IsFreeOutcome o
-  free_read core_at_end h = (tt, tt)
-  free_read (core_begun {t = t} d) h = free_read_rule d (free_rule t h.0) h.1
-  free_read (single_read d) h = free_read_rule d free_primed h
-  free_read (node_read d) h = free_read_rule d free_scripted h
-
-  free_read_rule : {r : Rule} {l : List Tok} {o : Outcome Tree} → ReadsRule r l o → IsFreeRule r → AreFree l → IsFreeOutcome o
-  free_read_rule rule_gives f h = (f, h)
-  free_read_rule rule_refuses f h = tt
-  free_read_rule (part_read {m = m} {x = x} d ds) f h =
-      let part : IsFreeOutcome (Read x m) = free_read d h in
-      free_read_rule ds (f x part.0) part.1
-  free_read_rule (part_refused d) f h = tt
-  free_read_rule (members_read {m = m} {xs = xs} d ds) f h =
-      let members : AreFreeOutcome (Read xs m) = free_read_all d h in
-      free_read_rule ds (f xs members.0) members.1
-  free_read_rule (members_refused d) f h = tt
-  free_read_rule (sign_stands {t = t} {m = m} p d) f h =
-      let front : AreFree (t ∷ m) = subst AreFree p h in
-      free_read_rule d f.0 front.1
-  free_read_rule (sign_missing p d) f h = free_read_rule d f.1 h
-  free_read_rule (token_taken {t = t} d) f h = free_read_rule d (f t h.0) h.1
-  free_read_rule (token_at_end d) f h = free_read_rule d (f EOF refl) h
-  free_read_rule (token_seen {l = l} d) f h = free_read_rule d (f (first_or_end l) (free_next l h)) h
-  free_read_rule (letters_taken cs {l = l} {m = m} p d) f h = free_read_rule d (f cs) (free_letters cs l m p h)
-
-  free_read_all : {end : Option Tok} {l : List Tok} {o : Outcome (List Tree)} → ReadsAll end l o → AreFree l → AreFreeOutcome o
-  free_read_all formula_ends h = (tt, tt)
-  free_read_all never_closed h = tt
-  free_read_all (group_ends {end = end} {m = m} p) h =
-      let front : AreFree (end ∷ m) = subst AreFree p h in
-      (tt, front.1)
-  free_read_all (member_read {m = m} {rest = rest} {x = x} {xs = xs} other d ds) h =
-      let one : IsFreeOutcome (Read x m) = free_read d h in
-      let later : AreFreeOutcome (Read xs rest) = free_read_all ds one.1 in
-      ((one.0, later.0), later.1)
-  free_read_all (later_refused other d ds) h = tt
-  free_read_all (member_refused other d) h = tt
+all_free : (l : List Tok) → AreFree l → AllTokens free_sizes l
+all_free [] h = tt
+all_free (t ∷ l) h = (h.0, all_free l h.1)
 
 -- the law
 pub dollar_free : (text : List ℕ) → RendersDollarFree text
 unfolding IsRendering Reading
 dollar_free text display markup d =
-    let read : AreFreeOutcome (Read d.2.0 []) = free_read_all d.2.1 (free_tokens None (chars text) d.0 d.1) in
+    let read : HasTrees free_sizes (Read d.2.0 []) = read_all free_sizes free_kept d.2.1 (all_free d.0 (free_tokens None (chars text) d.0 d.1)) in
     subst IsDollarFree (sym d.2.2) (free_math display d.2.0 read.0)
