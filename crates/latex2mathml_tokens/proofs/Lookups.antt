@@ -1,4 +1,4 @@
--- What one comparison in a table in order tells of a look-up.
+-- What one comparison in a sorted table says about a look-up.
 use Rattle.std.proofs.Common.{◌≡◌, ℕ, ◌+◌, ◌*◌, ◌^◌, ◌<◌, ◌≤◌, Bool, true, false, ◌&&◌, List, [], ◌∷◌, ◌++◌, refl, sym, ap, subst, ◌∙◌, arith, map, take, drop, get_or, ◌/◌, ◌==◌, take-append-drop, drop-cons, add-one, Some, None, length}
 use Rattle.std.specs.declared.cmp.Ordering.{Ordering}
 use Rattle.std.specs.declared.cmp.Ordering.TheVariants.{Less, Equal, Greater}
@@ -105,7 +105,7 @@ pub InOrder-right : (xs ys : Entries) → InOrder (xs ++ ys) → InOrder ys
 InOrder-right [] ys a = a
 InOrder-right (z ∷ xs) ys a = InOrder-right xs ys a.1
 
--- what the search keeps: the entries that are left decide the look-up, and n comparisons have left so few
+-- the invariant of the search: the entries that are left decide the look-up, and n comparisons bound their number
 pub record Narrowed (table entries : List Entry) (name : List ℕ) (n : ℕ) : Type 0 where
   pub same : entry_token (map entry_of table) name ≡ entry_token (map entry_of entries) name
   pub ordered : InOrder (map entry_of entries)
