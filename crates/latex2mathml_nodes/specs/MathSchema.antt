@@ -10,7 +10,7 @@ pub data Holding : Type 0 where
   text : Holding
   -- nothing at all
   nothing : Holding
-  -- so many elements
+  -- this many elements
   exactly : ℕ → Holding
   -- any number of elements
   elements : Holding

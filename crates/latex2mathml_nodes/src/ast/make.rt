@@ -10,7 +10,7 @@ use latex2mathml_tokens::attribute::{Accent, ColumnAlign, LineThickness};
 use std::alloc::{AllocError, Global};
 
 impl Node {
-    /// The members of a group as one node: one member is itself, none or several are a row.
+    /// Makes the members of a group one node: one member is itself, and none or several are a row.
     pub fn of_group(mut members: Vec<Node>) -> Node
         ensures { tree result ≡ grouped (map tree members.items) }
     {
