@@ -17,6 +17,7 @@ HOUSE = pathlib.Path(__file__).resolve().parent.parent
 FORMULAS = [line for line in HOUSE.joinpath("bench/formulas.txt").read_text(encoding="utf-8").splitlines() if line and "$" not in line]
 PAGE_SCRIPT = HOUSE / "page/latex2mathml.js"
 
+SYSTEM_PYTHON, SYSTEM_PACKAGES = "/usr/bin/python3", pathlib.Path("/usr/lib/python3/dist-packages")
 NODE_PACKAGES = pathlib.Path("/usr/share/nodejs")
 MATHJAX = pathlib.Path("/usr/share/javascript/mathjax")
 # What MathJax loads for a page of TeX, apart from fonts.
@@ -62,6 +63,17 @@ class Tools:
         done = subprocess.run([HOUSE / "tools/built", "latex2mathml_app"], check=True, stdout=subprocess.PIPE, text=True)
         return pathlib.Path(done.stdout.strip())
 
+    def python(self):
+        """The Python of an environment in which the wheel is installed, beside what the system has."""
+        environment = self.folder / "python"
+        if not environment.exists():
+            library, wheels = self.folder / "c", self.folder / "wheels"
+            subprocess.run([HOUSE / "tools/make-c-library", library], check=True)
+            subprocess.run([HOUSE / "tools/make-wheel", library, wheels], check=True, stdout=subprocess.DEVNULL)
+            subprocess.run([SYSTEM_PYTHON, "-m", "venv", "--system-site-packages", environment], check=True)
+            subprocess.run([environment / "bin/pip", "--quiet", "install", "--no-index", *wheels.glob("*.whl")], check=True)
+        return environment / "bin/python"
+
     def node_package(self):
         if not self.node.exists():
             shutil.copytree(HOUSE / "integrations/node", self.node, ignore=shutil.ignore_patterns("build", "lib"))
@@ -80,12 +92,44 @@ def pandoc_with_filter(tools, source, page):
     return pandoc(*words)(tools, source, page)
 
 
+def python_markdown(extension, **options):
+    script = f"""
+import sys, markdown
+markdown.markdownFromFile(
+    input=sys.argv[1], output=sys.argv[2], extensions=[{extension!r}], extension_configs={{{extension!r}: {options!r}}})
+"""
+    return lambda tools, source, page: [tools.python(), "-c", script, source, page]
+
+
+def sphinx(renderer, extension):
+    """Builds a project whose one page is the source."""
+    def command(tools, source, page):
+        project = tools.folder / renderer
+        project.mkdir()
+        (project / "conf.py").write_text(f"extensions = [{extension!r}]\nhtml_math_renderer = {renderer!r}\n", encoding="utf-8")
+        (project / "index.rst").write_text(in_rst(source.read_text(encoding="utf-8")), encoding="utf-8")
+        build = '"$0" -m sphinx -q -E -a "$1" "$1/out" && cp "$1/out/index.html" "$2"'
+        return ["sh", "-c", build, tools.python(), project, page]
+    return command
+
+
+def in_rst(source):
+    return "Formulas\n========\n\n" + re.sub(r"\$(.*?)\$", r":math:`\1`", source)
+
+
 def node(script):
     return lambda tools, source, page: ["node", "-e", script + RENDER, "--", tools.node_package(), source, page]
 
 
+SPHINX, PYTHON_MARKDOWN = [SYSTEM_PACKAGES / "sphinx"], [SYSTEM_PACKAGES / "markdown"]
 MARKDOWN_IT = ["node", NODE_PACKAGES / "markdown-it"]
 ENTRIES = [
+    Entry("Sphinx and the extension", sphinx("latex2mathml", "latex2mathml_proved.sphinx"), SPHINX, [PAGE_SCRIPT]),
+    Entry("Sphinx, mathjax", sphinx("mathjax", "sphinx.ext.mathjax"), [*SPHINX, MATHJAX], [MATHJAX / part for part in MATHJAX_PARTS]),
+    Entry("Sphinx, imgmath", sphinx("imgmath", "sphinx.ext.imgmath"), [*SPHINX, "latex", "dvipng"], []),
+    Entry("Python-Markdown, the extension", python_markdown("latex2mathml"), PYTHON_MARKDOWN, [PAGE_SCRIPT]),
+    Entry("Python-Markdown, for MathJax", python_markdown("mdx_math", enable_dollar_delimiter=True),
+          [*PYTHON_MARKDOWN, SYSTEM_PACKAGES / "mdx_math.py", MATHJAX], [MATHJAX / part for part in MATHJAX_PARTS]),
     Entry("pandoc and the filter", pandoc_with_filter, ["pandoc"], [PAGE_SCRIPT]),
     Entry("pandoc --mathml", pandoc("--mathml"), ["pandoc"], []),
     Entry("pandoc --mathjax", pandoc("--mathjax"), ["pandoc", MATHJAX], [MATHJAX / part for part in MATHJAX_PARTS]),
@@ -135,7 +179,7 @@ def main():
             page = folder / "page.html"
             wall, used = measure(entry.command(tools, source, page), options.times)
             markup = page.read_text(encoding="utf-8")
-            drawn = len(re.findall(r'<math |class="math ', markup))
+            drawn = len(re.findall(r'<math |<span\s+class="math[^>]*>(?!<)|<script type="math|<img class="math"', markup))
             scripts = sum(script.stat().st_size for script in entry.scripts)
             print(f"{entry.name:30} {wall:8.2f} {used:10.2f} {len(markup.encode()):10,} {drawn:9,} {scripts:9,}")
     if absent:

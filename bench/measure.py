@@ -2,7 +2,6 @@
 """Measures the program, and beside it the Rust crate where its folder is given. README.md says what is printed."""
 
 import argparse
-import re
 import subprocess
 import sys
 import tempfile
@@ -11,11 +10,16 @@ from pathlib import Path
 
 import workloads
 
-sys.path.append(str(Path(__file__).resolve().parent.parent / "diff"))
+ROOT = Path(__file__).resolve().parent.parent
+sys.path += [str(ROOT), str(ROOT / "diff")]
 import program  # noqa: E402
 import rust_crate  # noqa: E402
+from tests.instructions import instructions  # noqa: E402
 
 MEGABYTE = 1_000_000
+
+# The instructions of each workload, as `--renew` counted them last; `tests/test_instructions.py` holds the program to them.
+FIGURES = ROOT / "bench/instructions.txt"
 COUNTED = 300_000
 
 
@@ -42,12 +46,22 @@ def least(command, path, times):
     return Measure(min(one.seconds for one in measures), min(one.memory for one in measures))
 
 
-def instructions(command, path):
-    """The instructions of one run, as valgrind counts them. They do not hang on what else the machine does."""
-    with open(path, "rb") as text:
-        ended = subprocess.run(["valgrind", "--tool=callgrind", "--callgrind-out-file=/dev/null", *command], stdin=text,
-                               stdout=subprocess.DEVNULL, stderr=subprocess.PIPE, check=True)
-    return int(re.search(rb"Collected : (\d+)", ended.stderr)[1])
+def counted(command, word, text):
+    """The instructions of a run of the program, or of the crate's driver, over a workload."""
+    return instructions([*command, word], text(COUNTED).encode())
+
+
+def figures():
+    """The instructions of each workload, by its name, as they stand in the file."""
+    lines = [line.split(maxsplit=1) for line in FIGURES.read_text(encoding="utf-8").splitlines()]
+    return {name: int(count.replace(",", "")) for count, name in lines}
+
+
+def renew():
+    """Counts the instructions of each workload, and writes the file."""
+    counts = [(counted([program.built()], word, text), name.strip()) for word, name, text in workloads.workloads()]
+    FIGURES.write_text("".join(f"{count:,}  {name}\n" for count, name in counts), encoding="utf-8")
+    print(FIGURES.read_text(encoding="utf-8"), end="")
 
 
 def ratio(ours, theirs):
@@ -66,10 +80,10 @@ def show_times(name, commands, path, times):
     print(f"{name:20} {size:5.1f} MB  " + "   ".join(columns), flush=True)
 
 
-def show_instructions(name, commands, path):
+def show_instructions(word, name, text, programs):
     """One line: instructions of the program, also a byte of the text, and of the crate with the ratio."""
-    size = path.stat().st_size
-    counts = [instructions(command, path) for command in commands]
+    size = len(text(COUNTED).encode())
+    counts = [counted([one], word, text) for one in programs]
     columns = [f"{count:14,} {count / size:8.0f} a byte" for count in counts]
     if len(counts) == 2:
         columns.append(f"ratio {ratio(*counts)}")
@@ -82,11 +96,15 @@ def arguments():
     parser.add_argument("--megabytes", type=int, nargs="*", default=[1, 4, 16], metavar="N")
     parser.add_argument("--times", type=int, default=3, metavar="N", help="how often each is run; the least counts")
     parser.add_argument("--no-instructions", action="store_true", help="do without valgrind")
+    parser.add_argument("--renew", action="store_true", help="only count the program's instructions, and write instructions.txt")
     return parser.parse_args()
 
 
 def main():
     chosen = arguments()
+    if chosen.renew:
+        renew()
+        return
     with tempfile.TemporaryDirectory() as folder:
         programs = [program.built()]
         if chosen.crate:
@@ -100,8 +118,7 @@ def main():
                 show_times(name, [[one, word] for one in programs], path, chosen.times)
         if not chosen.no_instructions:
             for word, name, text in measured:
-                path.write_text(text(COUNTED), encoding="utf-8", newline="")
-                show_instructions(name, [[one, word] for one in programs], path)
+                show_instructions(word, name, text, programs)
         for word in {load[0] for load in workloads.workloads()} - {load[0] for load in measured}:
             print(f"the program at hand does not know the word {word} yet")
 

@@ -12,7 +12,7 @@ import sys
 
 from tests.modules import Runs, every_name, module_of, name_of
 from tests.results import Counts
-from tests.steps import Command, Library, Proofs, SCRIPTS, set_aside
+from tests.steps import Library, Proofs, set_aside
 from tests.support import BUILD_NOTHING, ROOT, RUN, scratch
 from tools.progress import Screen, Stopwatch, clock
 
@@ -38,11 +38,8 @@ def everything(screen):
     steps = prove(screen)
     # what is tried from here on is what was proved and built
     os.environ[BUILD_NOTHING] = "1"
-    scripts = [Command(script, [ROOT / script]) for script in SCRIPTS if (ROOT / script).exists()]
-    for step in scripts:
-        step.do(screen)
     modules, failures = try_modules(every_name(), screen)
-    return [*steps, *scripts, *modules], failures
+    return [*steps, *modules], failures
 
 
 def main(words):

@@ -1,6 +1,7 @@
 """What the built program and the library for C make of an input, and a failure that shows how they differ from what is due."""
 import ctypes
 import difflib
+import enum
 import functools
 import os.path
 import re
@@ -9,10 +10,18 @@ import unittest
 from tests.support import c_library, program, run
 
 ERROR = b"LaTeX2MathML Error: "
-DONE, REFUSED, NOT_UTF8, TOO_SMALL, OUT_OF_MEMORY = range(5)
 
 # As much of an input or of a difference as a failure shows.
 LIMIT = 2000
+
+
+class Code(enum.IntEnum):
+    """What an answer is, as the library for C says it."""
+    DONE = 0
+    REFUSED = 1
+    NOT_UTF8 = 2
+    TOO_SMALL = 3
+    OUT_OF_MEMORY = 4
 
 
 def by_program(word, given):
@@ -20,10 +29,10 @@ def by_program(word, given):
     done = run([program(), word], stdin=given)
     if done.returncode == 0 and not done.stderr:
         markup = done.stdout if word == "document" else done.stdout.removesuffix(b"\n")
-        return DONE, markup
+        return Code.DONE, markup
     reason = done.stderr.removeprefix(ERROR).removesuffix(b"\n")
     if done.returncode == 1 and not done.stdout and done.stderr == ERROR + reason + b"\n":
-        return NOT_UTF8 if reason == b"The input is not UTF-8 text." else REFUSED, reason
+        return Code.NOT_UTF8 if reason == b"The input is not UTF-8 text." else Code.REFUSED, reason
     return f"status {done.returncode}", b"standard output: " + done.stdout + b"\nstandard error: " + done.stderr
 
 
@@ -44,11 +53,11 @@ def by_library(word, given):
     else:
         call, more = library().latex2mathml_formula, [word == "block"]
     needed = ctypes.c_size_t(1)
-    code = TOO_SMALL
-    while code == TOO_SMALL:
+    code = Code.TOO_SMALL
+    while code == Code.TOO_SMALL:
         room = ctypes.create_string_buffer(max(needed.value, 1))
         code = call(given, len(given), *more, room, needed.value, ctypes.byref(needed))
-    return code, ctypes.string_at(room, needed.value)
+    return Code(code), ctypes.string_at(room, needed.value)
 
 
 WAYS = [("the program", by_program), ("the library for C", by_library)]
@@ -67,6 +76,10 @@ def difference(wanted, came):
     return "\n".join(lines)
 
 
+def name_of(code):
+    return code.name if isinstance(code, Code) else code
+
+
 def shown(given):
     text = repr(given.decode(errors="backslashreplace"))
     return text if len(text) <= LIMIT else f"{text[:LIMIT]}.. ({len(given)} bytes)"
@@ -80,4 +93,5 @@ class AnswerCase(unittest.TestCase):
         for name, way in WAYS:
             found, came = way(word, given)
             if (found, came) != (code, wanted):
-                self.fail(f"\n{place}: {word} of {shown(given)}\nby {name}: {found} where {code} is due\n{difference(wanted, came)}")
+                differs = f": {name_of(found)} where {name_of(code)} is due" if found != code else ""
+                self.fail(f"\n{place}: {word} of {shown(given)}\nby {name}{differs}\n{difference(wanted, came)}")

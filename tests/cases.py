@@ -1,4 +1,5 @@
 """Reads the files of the folder `cases/`. Its README.md says how they are written."""
+import os.path
 import pathlib
 import re
 import unicodedata
@@ -32,7 +33,7 @@ class Line:
 
     @property
     def place(self):
-        return f"{self.path.relative_to(ROOT)}:{self.number}"
+        return f"{os.path.relpath(self.path, ROOT)}:{self.number}"
 
     def expanded(self, text=None):
         """What the line, or a part of it, stands for: bytes, with each escape replaced."""
@@ -132,9 +133,9 @@ def lines_of(path):
         line = Line(path, number, text)
         if fault := fault_of(text):
             raise WrongCase(f"{line.place}: {fault}")
-        if text.startswith("#"):
-            heading = text.lstrip("#").strip()
-        else:
+        if text.startswith("## "):
+            heading = text[3:]
+        elif not text.startswith("#"):
             yield heading, line
 
 

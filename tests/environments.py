@@ -2,7 +2,6 @@
 import functools
 import json
 import os
-import pathlib
 import shutil
 import subprocess
 import sys
@@ -76,8 +75,3 @@ def ask(python, script, question):
     if done.returncode:
         raise AssertionError(f"the script ended with status {done.returncode}:\n{done.stderr.decode()}")
     return json.loads(done.stdout)
-
-
-def example(name, to):
-    """A copy of an example of the package."""
-    return pathlib.Path(shutil.copytree(ROOT / "integrations/python/examples" / name, to))

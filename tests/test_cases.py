@@ -2,7 +2,8 @@
 import unittest
 
 from tests import cases
-from tests.answers import DONE, NOT_UTF8, REFUSED, WAYS, AnswerCase, shown
+from tests.answers import WAYS, AnswerCase, Code, shown
+from tests.support import scratch
 
 WHITE_SPACE = [space * count for space in (b" ", b"\t", b"\n", b"\r") for count in (1, 1000)]
 NO_WHITE_SPACE = ["\u000c".encode(), "\u00a0".encode()]
@@ -13,7 +14,7 @@ class CaseOfFile(AnswerCase):
 
     def formula(self, case):
         for word in ("inline", "block"):
-            self.comes_to(case.place, word, case.input, DONE, cases.math(word, case.answer))
+            self.comes_to(case.place, word, case.input, Code.DONE, cases.math(word, case.answer))
 
     def refused_formula(self, case):
         for word in ("inline", "block"):
@@ -22,7 +23,7 @@ class CaseOfFile(AnswerCase):
     def document(self, case):
         """An answer is its own answer."""
         for given in (case.input, case.document_answer):
-            self.comes_to(case.place, "document", given, DONE, case.document_answer)
+            self.comes_to(case.place, "document", given, Code.DONE, case.document_answer)
 
     def refused_document(self, case):
         self.comes_to(case.place, "document", case.input, code_of(case), case.answer)
@@ -30,14 +31,14 @@ class CaseOfFile(AnswerCase):
     def white_space(self, case):
         """White space at one place changes nothing, and a character that is none changes the answer."""
         answer = cases.math("inline", case.answer)
-        self.comes_to(case.place, "inline", case.with_space(0, b""), DONE, answer)
+        self.comes_to(case.place, "inline", case.with_space(0, b""), Code.DONE, answer)
         for number in case.places:
             for space in WHITE_SPACE:
-                self.comes_to(f"{case.place}, place {number}", "inline", case.with_space(number, space), DONE, answer)
+                self.comes_to(f"{case.place}, place {number}", "inline", case.with_space(number, space), Code.DONE, answer)
             for character in NO_WHITE_SPACE:
                 given = case.with_space(number, character)
                 for name, way in WAYS:
-                    self.assertNotEqual(way("inline", given), (DONE, answer), f"{case.place}, place {number}: {shown(given)} by {name}")
+                    self.assertNotEqual(way("inline", given), (Code.DONE, answer), f"{case.place}, place {number}: {shown(given)} by {name}")
 
 
 def code_of(case):
@@ -45,8 +46,8 @@ def code_of(case):
     try:
         case.input.decode()
     except UnicodeDecodeError:
-        return NOT_UTF8
-    return REFUSED
+        return Code.NOT_UTF8
+    return Code.REFUSED
 
 
 # The files by their kind. A class of tests is made for each file.
@@ -71,7 +72,27 @@ for pattern, kind in KINDS:
 
 
 class Reader(unittest.TestCase):
-    """What is not written as a case is told, with the file and the line."""
+    """The reader of the files: what is not written as a case is told, with the line."""
+
+    def test_wrong_cases(self):
+        for text, told in [
+            ("a\nb\nc\n", "1: a case has two lines"),
+            ("\n\na\n\nb\nc\n", "3: a case has two lines"),
+            ("a\nb\n\na\nc\n", "4: the input stands in line 1 as well"),
+            ("a\n b\n", "2: a space at an end of a line is [U+0020]"),
+            ("a\tb\nc\n", "1: a character that cannot be seen is [U+0009]"),
+            ("a\u00a0b\nc\n", "1: a character that cannot be seen is [U+00A0]"),
+        ]:
+            with self.subTest(text), scratch() as folder:
+                (folder / "wrong.txt").write_text(text, encoding="utf-8")
+                with self.assertRaises(cases.WrongCase) as raised:
+                    cases.read(folder / "wrong.txt")
+                self.assertIn(f"wrong.txt:{told}", str(raised.exception))
+
+    def test_every_rule(self):
+        """Each is a formula of the grammar, as those who convert them all together take for granted."""
+        for formula, contents in cases.every_rule():
+            self.assertTrue(formula and contents.startswith("<"), formula)
 
     def test_all_files_are_read(self):
         read = {file for pattern, _ in KINDS for file in cases.files(pattern)} | {"commands.txt"}

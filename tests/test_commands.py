@@ -3,7 +3,7 @@ import re
 import unittest
 
 from tests import cases
-from tests.answers import DONE, REFUSED, WAYS, AnswerCase
+from tests.answers import WAYS, AnswerCase, Code
 from tests.command_table import DEFINITIONS, PAGE, in_the_definitions, on_the_page
 
 # What names the token behind it in a refusal. No parenthesis is missing where one stands behind a \\left.
@@ -39,9 +39,9 @@ class Entries(AnswerCase):
     def alone(self, entry):
         """The command alone is a formula."""
         for word in ("inline", "block"):
-            code, wanted = REFUSED, entry.alone.encode()
+            code, wanted = Code.REFUSED, entry.alone.encode()
             if entry.alone.startswith("<"):
-                code, wanted = DONE, cases.math(word, wanted)
+                code, wanted = Code.DONE, cases.math(word, wanted)
             self.comes_to(entry.line.place, word, entry.formula, code, wanted)
 
     def token(self, entry):

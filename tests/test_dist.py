@@ -1,6 +1,8 @@
 """The folder for people without Rattle, tried as they would, with nothing of the checkout."""
+import os
 import re
 
+from tests.environments import interpreter, requires_python
 from tests.support import Case, ROOT, program, requires, run, scratch
 
 CRATE = "crates/latex2mathml_c"
@@ -66,6 +68,17 @@ class Dist(Case):
     def test_the_library_from_c(self):
         self.expect(run([self.dist / "c/examples/build"]))
         self.expect(self.run_there("c/examples/formula", "x<y"), stdout=f"{INLINE}\n".encode())
+
+    @requires_python()
+    def test_the_package_for_python(self):
+        """The README's lines install it and call it."""
+        environment = self.enterContext(scratch()) / "environment"
+        self.expect(run([interpreter("ensurepip"), "-m", "venv", environment]))
+        text = (self.dist / "README.md").read_text(encoding="utf-8")
+        install, call = re.findall(r"^    (python3 -.*)$", text, re.MULTILINE)
+        path = f"{environment}/bin:{os.environ['PATH']}"
+        self.expect(run(["sh", "-c", install], cwd=self.dist, env={"PATH": path}), stdout=None, stderr=None)
+        self.expect(run(["sh", "-c", call], cwd=self.dist, env={"PATH": path}), stdout=f"{INLINE}\n".encode())
 
     @requires("python3")
     def test_the_library_from_python(self):

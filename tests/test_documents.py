@@ -155,7 +155,7 @@ class Versions(Case):
             "crates/latex2mathml_c/include/latex2mathml.h": r'#define LATEX2MATHML_VERSION "(.*)"',
             "integrations/python/pyproject.toml": r'^version = "(.*)"',
             "integrations/node/package.json": r'"version": "(.*)"',
-            "integrations/rust/Cargo.toml": r'^version = "(.*)"',
+            "integrations/rust/Cargo.toml": r'^version = "0\.2\.3\+(.*)"',
         }.items():
             with self.subTest(name):
                 found = re.search(pattern, (ROOT / name).read_text(), re.M)

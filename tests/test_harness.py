@@ -1,6 +1,7 @@
 """The harness counts each case, shows what failed, and ends what does not end."""
 import io
 import os
+import shutil
 import time
 import unittest
 import unittest.mock
@@ -8,6 +9,8 @@ import unittest.mock
 from tests import samples
 from tests.modules import Module, Runs, classes_of, name_of
 from tests.results import Counts, Result, SKIP_NOTHING
+from tests.steps import Command, Library, Proofs, crates_below, set_aside
+from tests.support import scratch
 from tools.progress import Screen, clock
 
 
@@ -86,6 +89,91 @@ class Modules(unittest.TestCase):
         for word in ("tests.test_c", "test_c", "tests/test_c.py"):
             self.assertEqual(name_of(word), "tests.test_c")
         self.assertEqual(name_of("test_c.Deep.test_deep"), "tests.test_c.Deep.test_deep")
+
+
+class Steps(unittest.TestCase):
+    def run_step(self, text):
+        """A step of a program that prints so much and ends so."""
+        folder = self.enterContext(scratch())
+        program = folder / "program"
+        program.write_text(f"#!/bin/sh\n{text}\n")
+        program.chmod(0o755)
+        step, screen = Command("a step", [program]), io.StringIO()
+        step.log = folder / "log"
+        step.do(Screen(screen))
+        return step, screen.getvalue()
+
+    def test_counts(self):
+        for text, counts in [
+            ("echo 7 passed, 0 failed", Counts(7, 0)),
+            ("echo 5 passed, 2 failed; exit 1", Counts(5, 2)),
+            ("echo 5 passed, 2 failed; echo and more", Counts(0, 1)),
+            ("echo 5 passed, 0 failed; exit 3", Counts(5, 1)),
+            ("", Counts(0, 1)),
+        ]:
+            with self.subTest(text):
+                self.assertEqual(self.run_step(text)[0].counts, counts)
+
+    def test_what_is_shown(self):
+        step, shown = self.run_step("for n in $(seq 100); do echo line $n; done; echo 1 passed, 1 failed; exit 1")
+        self.assertIn(f"    all that it prints is kept in {step.log}\n", shown)
+        self.assertEqual(shown.count("line "), 39)
+        self.assertIn("line 100\n1 passed, 1 failed\n", shown)
+        self.assertEqual(step.log.read_text().count("line "), 100)
+
+    def test_a_library_that_is_not_proved_is_not_built(self):
+        proofs, screen = Proofs(), io.StringIO()
+        for line in ("rt: latex2mathml_c proved", "rt: latex2mathml proved", "rt: latex2mathml_nodes: its tests are proved",
+                     "rt: latex2mathml_tokens NOT PROVED"):
+            proofs.read(line, Screen(screen))
+        self.assertEqual(proofs.proved, {"latex2mathml", "latex2mathml_c"})
+        step = Library(proofs)
+        step.do(Screen(screen))
+        self.assertEqual(step.counts, Counts(failed=1))
+
+    def test_crates_below(self):
+        below = crates_below("latex2mathml_c")
+        self.assertEqual(below[0], "latex2mathml_tokens")
+        self.assertEqual(below[-1], "latex2mathml")
+        self.assertEqual(len(below), len(set(below)))
+        self.assertNotIn("thiserror", crates_below("latex2mathml_app"))
+
+
+class Products(unittest.TestCase):
+    """What `rt ci` and earlier checks built, in a repository of one crate."""
+
+    def setUp(self):
+        self.root = self.enterContext(scratch())
+        self.rlib = self.root / "crates/one/out/rlib"
+        self.rlib.mkdir(parents=True)
+        (self.rlib / "stamp").write_text("an earlier check")
+        self.enterContext(unittest.mock.patch("tests.steps.ROOT", self.root))
+
+    def test_rlibs_are_set_aside(self):
+        for name in ("with .git", "without .git"):
+            with self.subTest(name):
+                if name == "with .git":
+                    (self.root / ".git").mkdir()
+                with self.assertRaises(KeyboardInterrupt), set_aside():
+                    self.assertFalse(self.rlib.exists())
+                    self.rlib.mkdir()
+                    (self.rlib / "one.rlib").write_text("of rt ci")
+                    # nothing of it may stand where `rt ci` reads
+                    self.assertEqual([file for file in self.root.rglob("stamp") if ".git" not in file.parts], [])
+                    raise KeyboardInterrupt
+                self.assertEqual([file.name for file in self.rlib.iterdir()], ["stamp"])
+                shutil.rmtree(self.root / ".git", ignore_errors=True)
+
+    def test_an_edit_during_the_proofs_is_newer_than_what_is_built(self):
+        program = self.root / "rt"
+        program.write_text(
+            "#!/bin/sh\ncd crates/one && mkdir src && touch src/lib.rt && sleep 0.1 && touch out/one && echo 1 passed, 0 failed\n")
+        program.chmod(0o755)
+        proofs = Proofs()
+        proofs.words, proofs.log = [program], self.root / "log"
+        proofs.do(Screen(io.StringIO()))
+        self.assertEqual(proofs.counts, Counts(passed=1))
+        self.assertLess((self.root / "crates/one/out/one").stat().st_mtime, (self.root / "crates/one/src/lib.rt").stat().st_mtime)
 
 
 class Times(unittest.TestCase):

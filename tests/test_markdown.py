@@ -2,7 +2,7 @@
 import re
 import unittest
 
-from tests.environments import ask, environment, example, requires_python, run_python
+from tests.environments import ask, environment, requires_python, run_python
 from tests.support import ROOT, Case, scratch
 
 OPEN = 'The token "RBrace" is expected, but the token "EOF" is found."'
@@ -205,12 +205,36 @@ class Options(unittest.TestCase):
 class Example(Case):
     def test_example(self):
         """The example of the package is converted without a warning, and what it links is there."""
-        folder = example("markdown", self.enterContext(scratch()) / "example")
-        self.expect(run_python(environment("markdown"), folder / "build.py"), 0, b"", b"")
+        folder = self.enterContext(scratch()) / "out"
+        script = ROOT / "integrations/python/examples/markdown/build.py"
+        self.expect(run_python(environment("markdown"), script, folder), 0, b"", b"")
         page = (folder / "page.html").read_text(encoding="utf-8")
         self.assertEqual((page.count("<math "), page.count("<code>"), page.count("\\")), (7, 1, 0))
         for name in ("latex2mathml.css", "latex2mathml.js"):
             self.assertEqual((folder / "page" / name).read_bytes(), (ROOT / "page" / name).read_bytes())
+
+
+@requires_python("markdown", "mkdocs")
+class MkDocs(Case):
+    def test_readme(self):
+        """The README's lines of mkdocs.yml make a site whose pages link the files, also those in folders."""
+        text = (ROOT / "integrations/python/README.md").read_text(encoding="utf-8")
+        [options] = re.findall(r"```yaml\n(.*?)```", text, re.DOTALL)
+        site, python = self.enterContext(scratch()), environment("markdown", "mkdocs")
+        (site / "docs").mkdir()
+        (site / "mkdocs.yml").write_text("site_name: Equations\n" + options, encoding="utf-8")
+        (site / "docs/index.md").write_text("$\\R$\n", encoding="utf-8")
+        (site / "docs/sub.md").write_text("$x$ ${x$\n", encoding="utf-8")
+        self.expect(run_python(python, "-m", "latex2mathml_proved", site / "docs/page"), stdout=b"")
+        done = run_python(python, "-m", "mkdocs", "build", cwd=site, timeout=120)
+        self.expect(done, 0, None, None)
+        self.assertIn(f"latex2mathml: line 1: {{x: {OPEN}", done.stderr.decode())
+        page, sub = ((site / "site" / name).read_text(encoding="utf-8") for name in ("index.html", "sub/index.html"))
+        self.assertIn('<mi mathvariant="double-struck">R</mi>', page)
+        self.assertEqual(sub.count("<math "), 1)
+        for text, way in [(page, ""), (sub, "../")]:
+            self.assertEqual(re.findall(r'"([^"]*latex2mathml\.(?:css|js))"', text), [f"{way}page/latex2mathml.css", f"{way}page/latex2mathml.js"])
+        self.assertTrue((site / "site/page/latex2mathml.js").exists())
 
 
 if __name__ == "__main__":

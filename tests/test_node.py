@@ -6,10 +6,10 @@ import pathlib
 import shutil
 import unittest
 
-from tests.support import ROOT, Case, c_library, program, requires, run, scratch
+from tests.integration import UNCLOSED, answer_of
+from tests.support import ROOT, Case, c_library, requires, run, scratch
 
 PACKAGES = pathlib.Path("/usr/share/nodejs")  # Debian's
-BRACE = 'The token "RBrace" is expected, but the token "EOF" is found."'
 
 # Reads [function of the module, arguments] and prints the answer, or the error's class, name, code and message.
 CALLER = """
@@ -39,11 +39,6 @@ console.log(JSON.stringify(cases.map(([source, options, env]) => {
     }
 })));
 """
-
-
-def answer_of(latex, word="inline"):
-    """The program's own answer."""
-    return run([program(), word], stdin=latex.encode()).stdout.decode().removesuffix("\n")
 
 
 def node_gyp():
@@ -97,7 +92,7 @@ class Calls(Package):
     def test_refusals(self):
         answers = self.call(("formula", ["{x", True]), ("document", ["$a$ ${x$"]), ("document", ["$"]))
         dollars = "The number of dollar sings found is invalid."
-        self.assertEqual(answers, [[True, "Refused", reason] for reason in (BRACE, BRACE, dollars)])
+        self.assertEqual(answers, [[True, "Refused", reason] for reason in (UNCLOSED, UNCLOSED, dollars)])
 
     def test_what_is_no_text(self):
         for name, words in (("formula", []), ("formula", [3]), ("formula", [None]), ("formula", ["x", 1]), ("formula", [["x"]]),
@@ -210,6 +205,8 @@ class MarkdownIt(Package):
             ("text\n$$\na\n$$\ntext", "<p>text</p>\n<b>a</b>\n<p>text</p>\n"),
             ("> $$\n> a\n> $$", "<blockquote>\n<b>a</b>\n</blockquote>\n"),
             ("- $$\n  a\n  $$\n- b", "<ul>\n<li>\n<b>a</b>\n</li>\n<li>b</li>\n</ul>\n"),
+            ("- $$\n  a\nb\n$$", "<ul>\n<li><b>\na\nb\n</b></li>\n</ul>\n"),
+            ("> a\n    $$\n    b\n    $$", "<blockquote>\n<p>a\n<b>\nb\n</b></p>\n</blockquote>\n"),
             ("$$a$$ and $$b$$", "<p><b>a</b> and <b>b</b></p>\n"),
             ("$$a\\$$ b$$", "<b>a\\$$ b</b>\n"),
             ("$$\na\n\nb\n$$", "<p>$$\na</p>\n<p>b\n$$</p>\n"),
@@ -237,16 +234,17 @@ class MarkdownIt(Package):
         self.check("$\\R \\le \\dots$", "<p><i>\\mathbb{R} \\leq \\ldots</i></p>\n", names={"\\R": "\\mathbb{R}"})
         [[_, [warning]]] = self.render(("$\\le$", {"names": False}, {}))
         self.assertIn('Command(\\"le\\")', warning)
-        [[_, [error]]] = self.render(("x", {"names": {"R": "x"}}, {}))
-        self.assertEqual(error, 'TypeError: latex2mathml: "R" is no name of a command')
+        for names, fault in (({"R": "x"}, '"R" is no name of a command'), ({"\\R": 1}, "\\R stands for no string")):
+            [[_, [error]]] = self.render(("x", {"names": names}, {}))
+            self.assertEqual(error, f"TypeError: latex2mathml: {fault}")
 
     def test_refused_formulas(self):
         code = '<code class="latex2mathml-refused" title="%s">%s</code>'
         [[page, warnings]] = self.render(('$x$ ${<b title="\\$">&$ and\n\n$$\n{y\n$$', {"page": False}, {}))
         self.assertEqual(page, f"<p>{answer_of('x')} "
-                               + code % (html.escape(BRACE), "{&lt;b title=&quot;\\&#x24;&quot;&gt;&amp;") + " and</p>\n"
-                               + code % (html.escape(BRACE), "{y") + "\n")
-        self.assertEqual(warnings, [f'Markdown:1: {{<b title="\\$">&: {BRACE}', f"Markdown:3: {{y: {BRACE}"])
+                               + code % (html.escape(UNCLOSED), "{&lt;b title=&quot;\\&#x24;&quot;&gt;&amp;") + " and</p>\n"
+                               + code % (html.escape(UNCLOSED), "{y") + "\n")
+        self.assertEqual(warnings, [f'Markdown:1: {{<b title="\\$">&: {UNCLOSED}', f"Markdown:3: {{y: {UNCLOSED}"])
 
     def test_lines(self):
         source = "# A ${h$\n\ntext `a\nb` ${x$\nmore $\\foo$\n\n- one\n- two\n  $$\n  {z\n  $$\n\n| a |\n|---|\n| ${t$ |\n"
@@ -254,8 +252,8 @@ class MarkdownIt(Package):
         for env, file in (({"path": "a.md"}, "a.md"), ({"page": {"inputPath": "./b.md"}}, "./b.md"), ({}, "Markdown")):
             with self.subTest(file):
                 [[_, warnings]] = self.render((source, {}, env))
-                self.assertEqual(warnings, [f"{file}:1: {{h: {BRACE}", f"{file}:4: {{x: {BRACE}", f"{file}:5: \\foo: {mark}",
-                                            f"{file}:9: {{z: {BRACE}", f"{file}: {{t: {BRACE}"])
+                self.assertEqual(warnings, [f"{file}:1: {{h: {UNCLOSED}", f"{file}:4: {{x: {UNCLOSED}", f"{file}:5: \\foo: {mark}",
+                                            f"{file}:9: {{z: {UNCLOSED}", f"{file}: {{t: {UNCLOSED}"])
 
     def test_a_mark_is_told_as_text(self):
         [[_, warnings]] = self.render(("$\\<$ $\\\"$", {}, {}))
@@ -263,7 +261,7 @@ class MarkdownIt(Package):
                                     'Markdown:1: \\": marked as an error: Undefined("Command(\\"\\\\\\"\\")")'])
 
     def test_strict(self):
-        for source, fault in (("${x$", f"{{x: {BRACE}"), ("$\\foo$", "\\foo: marked as an error: ")):
+        for source, fault in (("${x$", f"{{x: {UNCLOSED}"), ("$\\foo$", "\\foo: marked as an error: ")):
             with self.subTest(source):
                 [[page, [error]]] = self.render((source, {"strict": True}, {"path": "a.md"}))
                 self.assertEqual(page, "")
@@ -288,7 +286,7 @@ class MarkdownIt(Package):
     def test_the_example(self):
         environment = {**os.environ, "NODE_PATH": str(PACKAGES)}
         done = run(["node", self.package / "example.js"], env=environment)
-        self.expect(done, stdout=None, stderr=f"example.md:11: {{x: {BRACE}\n".encode())
+        self.expect(done, stdout=None, stderr=f"example.md:11: {{x: {UNCLOSED}\n".encode())
         self.assertEqual(done.stdout.count(b"</math>"), 8)
         self.assertNotIn(b"PARSE ERROR", done.stdout)
 

@@ -4,11 +4,11 @@ import json
 import re
 import unittest
 
+from tests.integration import UNCLOSED, answer_of
 from tests.support import ROOT, Case, program, requires, run, scratch
 
 FOLDER = ROOT / "integrations/pandoc"
 FILTER = FOLDER / "latex2mathml.lua"
-BRACE = 'The token "RBrace" is expected, but the token "EOF" is found."'
 
 # Answers every word with one empty element, and keeps what it read.
 RECORDER = """#!/bin/sh
@@ -21,11 +21,6 @@ COUNTER = """#!/bin/sh
 echo "$1" >>"$0.count"
 exec {program} "$@"
 """
-
-
-def answer_of(latex, word="inline"):
-    """The program's own answer."""
-    return run([program(), word], stdin=latex.encode()).stdout.decode().removesuffix("\n")
 
 
 def meta_of(value):
@@ -72,10 +67,11 @@ class Filter(Case):
         return path
 
     def test_formulas(self):
-        page = self.page("Let $x<y$ be, and\n$$\\frac{a}{b}$$ and $x<y$ for \\$5, `$x$`.\n\n    $x$\n")
+        page = self.page("Let $x<y$ be, and\n$$\\frac{a}{b}$$ and $x<y$ and $$x<y$$ for \\$5, `$x$`.\n\n    $x$\n")
         self.assertEqual(page.count(answer_of("x<y")), 2)
         self.assertEqual(page.count(answer_of("\\frac{a}{b}", "block")), 1)
-        self.assertEqual(page.count("<math"), 3)
+        self.assertEqual(page.count(answer_of("x<y", "block")), 1)
+        self.assertEqual(page.count("<math"), 4)
         self.assertIn("$5, <code>$x$</code>", page)
         self.assertIn("<pre><code>$x$</code></pre>", page)
 
@@ -89,25 +85,25 @@ class Filter(Case):
 
     def test_refused_formulas(self):
         formulas = [f"{{{i}" if i in (0, 1, 17, 63, 98) else f"x_{{{i}}}" for i in range(99)]
-        refused = f'<code class="latex2mathml-refused" title="{html.escape(BRACE)}">{{%s</code>'
+        refused = f'<code class="latex2mathml-refused" title="{html.escape(UNCLOSED)}">{{%s</code>'
         wanted = [refused % latex[1:] if latex.startswith("{") else answer_of(latex) for latex in formulas]
         self.assertEqual(self.places(formulas, warned=True), wanted)
 
     def test_a_refused_formula_is_escaped(self):
         [place] = self.places(['{<b title="$">&'], warned=True)
-        self.assertEqual(place, f'<code class="latex2mathml-refused" title="{html.escape(BRACE)}">'
+        self.assertEqual(place, f'<code class="latex2mathml-refused" title="{html.escape(UNCLOSED)}">'
                                 '{&lt;b title=&quot;&#x24;&quot;&gt;&amp;</code>')
 
     def test_warnings(self):
-        (self.folder / "a.md").write_text("${x$ and $a \\foo b$ and ${x$ and $<\\&\\\"$")
+        (self.folder / "a.md").write_text("${x$ and $a \\foo b$ and ${x$ and $<\\&\\\"$ and $\\<$")
         done = self.pandoc("", "a.md", "-t", "html")
         mark = 'marked as an error: Undefined("Command(\\"%s\\")")'
         self.expect(done, stderr="".join(f"[WARNING] latex2mathml: a.md: {fault}\n" for fault in (
-            f"{{x: {BRACE}", f"a \\foo b: {mark % 'foo'}", '<\\&\\": ' + mark % '\\\\\\"',
+            f"{{x: {UNCLOSED}", f"a \\foo b: {mark % 'foo'}", '<\\&\\": ' + mark % '\\\\\\"', f"\\<: {mark % '<'}",
         )).encode())
 
     def test_strict(self):
-        for source, fault in (("${x$", f"{{x: {BRACE}"), ("$\\foo$", "\\foo: marked as an error: ")):
+        for source, fault in (("${x$", f"{{x: {UNCLOSED}"), ("$\\foo$", "\\foo: marked as an error: ")):
             with self.subTest(source):
                 done = self.pandoc(source, "-M", "latex2mathml-strict=true", "-o", "a.html")
                 self.assertNotEqual(done.returncode, 0)
@@ -196,7 +192,7 @@ class Filter(Case):
 
     def test_the_example(self):
         done = self.pandoc("", "-s", FOLDER / "example.md")
-        self.expect(done, stderr=f"[WARNING] latex2mathml: {FOLDER / 'example.md'}: {{x: {BRACE}\n".encode())
+        self.expect(done, stderr=f"[WARNING] latex2mathml: {FOLDER / 'example.md'}: {{x: {UNCLOSED}\n".encode())
         page = done.stdout.decode()
         self.assertNotIn("PARSE ERROR", page)
         self.assertEqual(page.count("</math>"), 8)

@@ -4,7 +4,7 @@ import unittest
 import zipfile
 
 from tests.environments import NAME_CASES, NAMES, ask, environment, requires_python, run_python, wheel
-from tests.support import Case, c_library, run
+from tests.support import ROOT, Case, c_library, requires, run, scratch
 
 MATH = '<math xmlns="http://www.w3.org/1998/Math/MathML" display="{}">{}</math>'
 LESS = "<mi>x</mi><mo>&lt;</mo><mi>y</mi>"
@@ -73,18 +73,40 @@ class Wheel(Case):
         self.assertLessEqual({"py.typed", "liblatex2mathml.so", "names.json", "page/latex2mathml.css", "page/latex2mathml.js"}, names)
         self.assertNotIn("Requires-Dist", metadata)
 
+    @requires("mypy")
+    def test_types(self):
+        """A checker of types takes them from the installed package."""
+        program = self.enterContext(scratch()) / "typed.py"
+        program.write_text(
+            "import latex2mathml_proved\n"
+            "from latex2mathml_proved.rendering import Renderer\n"
+            "reveal_type(latex2mathml_proved.formula('x', block=True))\n"
+            "reveal_type(Renderer({'\\\\R': 'x'}).render('x').fault)\n"
+            "latex2mathml_proved.document(b'x')\n")
+        done = run(["mypy", "--strict", "--no-error-summary", "--python-executable", environment(), "--cache-dir", program.parent / "cache", program])
+        said = [line.partition(": ")[2] for line in done.stdout.decode().splitlines()]
+        self.assertEqual(said, [
+            'note: Revealed type is "builtins.str"', 'note: Revealed type is "Union[builtins.str, None]"',
+            'error: Argument 1 to "document" has incompatible type "bytes"; expected "str"  [arg-type]'])
+
     def test_page_files(self):
         """`python3 -m latex2mathml_proved FOLDER` puts them into a folder, also one that has them."""
+        folder = self.enterContext(scratch()) / "site"
         for _ in range(2):
-            self.expect(run_python(environment(), "-m", "latex2mathml_proved", "site"), stdout=b"")
-        names = sorted(path.name for path in (wheel().parent.parent / "site").iterdir())
-        self.assertEqual(names, ["latex2mathml.css", "latex2mathml.js"])
+            self.expect(run_python(environment(), "-m", "latex2mathml_proved", folder), stdout=b"")
+        self.assertEqual(sorted(path.name for path in folder.iterdir()), ["latex2mathml.css", "latex2mathml.js"])
 
 
 @requires_python()
 class Calls(Case):
     def answers(self, *calls):
         return ask(environment(), CALLS, calls)
+
+    def test_what_the_texts_show(self):
+        """The README's lines and the package's own come to what they say."""
+        self.expect(run_python(environment(), "-m", "doctest", ROOT / "integrations/python/README.md"), 0, b"", b"")
+        own = "import doctest, latex2mathml_proved; print(doctest.testmod(latex2mathml_proved))"
+        self.expect(run_python(environment(), "-c", own), 0, b"TestResults(failed=0, attempted=3)\n", b"")
 
     def test_markup(self):
         self.assertEqual(

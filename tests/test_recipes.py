@@ -5,10 +5,10 @@ import re
 import shutil
 import unittest
 
+from tests.integration import UNCLOSED, answer_of
 from tests.support import ROOT, Case, program, requires, run, scratch
 
 RECIPES = (ROOT / "integrations/recipes.md").read_text()
-BRACE = 'The token "RBrace" is expected, but the token "EOF" is found."'
 
 LINE = "x<y_a * b_c"
 BLOCK = "\\begin{align} a & \\leq b \\\\ c & = d \\end{align}"
@@ -27,11 +27,6 @@ def blocks(name, language):
 def files(name):
     """The files of a section, by their paths."""
     return dict(re.findall(r"^`([^`\n]+)`:\n\n```\w+\n(.*?)^```$", section(name), re.DOTALL | re.MULTILINE))
-
-
-def answer_of(latex, word="inline"):
-    """The program's own answer."""
-    return run([program(), word], stdin=latex.encode()).stdout.decode().removesuffix("\n")
 
 
 class Recipe(Case):
@@ -78,7 +73,7 @@ class BuiltSites(Recipe):
     def test_a_refused_formula(self):
         self.put({"public/a.html": self.PAGE, "public/b.html": "<!--m-->{x<!--m-->", "public/c.html": self.PAGE})
         said = self.convert(status=1, stderr=None)
-        self.assertEqual(said, f"LaTeX2MathML Error: public.new/b.html: {BRACE}\n")
+        self.assertEqual(said, f"LaTeX2MathML Error: public.new/b.html: {UNCLOSED}\n")
         self.assertIn(said, section("Convert a built site"))
         self.assertEqual((self.site / "public/a.html").read_text(), self.PAGE)
         self.assertEqual((self.site / "public.new/c.html").read_text(), self.converted())
@@ -93,7 +88,7 @@ class BuiltSites(Recipe):
         for name in pages:
             self.assertEqual((self.site / name).read_text(), self.converted())
         self.put({"public/b/3.html": "<!--m-->{x<!--m-->"})
-        self.do("sh", "-c", commands, status=123, stderr=f"LaTeX2MathML Error: public.new/b/3.html: {BRACE}\n".encode())
+        self.do("sh", "-c", commands, status=123, stderr=f"LaTeX2MathML Error: public.new/b/3.html: {UNCLOSED}\n".encode())
 
 
 class Builders(Recipe):
@@ -156,8 +151,8 @@ class Builders(Recipe):
         chapter = {"content": "Let $x*y*z$ be \\$5.\n\n$$\na_b\n$$\n\n`$x$` and ${x_$\n\n```\n$x$\n```\n", "sub_items": []}
         book = {"sections": [{"Chapter": {**chapter, "sub_items": [{"Chapter": dict(chapter)}]}}, "Separator"]}
         done = run(["python3", script], stdin=json.dumps([{}, book]).encode(), env=self.environment)
-        self.expect(done, stdout=None, stderr=f"LaTeX2MathML Error: {BRACE}\n".encode() * 2)
-        reason = BRACE.replace('"', "&quot;")
+        self.expect(done, stdout=None, stderr=f"LaTeX2MathML Error: {UNCLOSED}\n".encode() * 2)
+        reason = UNCLOSED.replace('"', "&quot;")
         content = (f"Let {answer_of('x*y*z').replace('*', '&#42;')} be \\$5.\n\n{answer_of('a_b', 'block')}\n\n`$x$` and "
                    f'<code class="latex2mathml-refused" title="{reason}">{{x&#95;</code>\n\n```\n$x$\n```\n')
         book = json.loads(done.stdout)

@@ -9,15 +9,16 @@ from tests.support import ROOT, Case, c_library, requires, run, scratch
 CRATE = ROOT / "integrations/rust"
 MEGABYTE = 1 << 20
 
-# What is written for the crate that has these calls, where only the dependency's line is another.
+# What is written for the crate that has these calls.
 MANIFEST = """[package]
 name = "site"
 version = "0.1.0"
 edition = "2018"
 
 [dependencies]
-latex2mathml = { path = "CRATE" }
 """
+DEPENDENCY = 'latex2mathml = { path = "CRATE" }\n'
+PATCH = 'latex2mathml = "0.2"\n\n[patch.crates-io]\n' + DEPENDENCY
 CALLER = r"""
 use latex2mathml::{latex_to_mathml, replace, DisplayStyle, LatexError};
 
@@ -71,17 +72,19 @@ class Crate(Case):
         self.assertEqual(done.stdout.count(b"test result: ok."), 5)  # of the modules, three files, and the comments
 
     def test_a_caller_of_the_crate(self):
-        caller = self.folder / "site"
-        (caller / "src").mkdir(parents=True)
-        (caller / "src/main.rs").write_text(CALLER)
-        (caller / "Cargo.toml").write_text(MANIFEST.replace("CRATE", str(self.crate)))
-        done = self.cargo("run", folder=caller)
         start = '<math xmlns="http://www.w3.org/1998/Math/MathML" display='
-        self.expect(done, stdout=(
+        printed = (
             f'{start}"block"><mi>E</mi><mo>=</mo><mi>m</mi><msup><mi>c</mi><mn>2</mn></msup></math>\n'
             f'<p>Let {start}"inline"><mi>r</mi></math> be.</p>\n'
             'The token "RBrace" is expected, but the token "EOF" is found."\n'
-            "The number of dollar sings found is invalid.\n").encode())
+            "The number of dollar sings found is invalid.\n")
+        for name, dependencies in (("line", DEPENDENCY), ("patch", PATCH)):
+            with self.subTest(name):
+                caller = self.folder / name
+                (caller / "src").mkdir(parents=True)
+                (caller / "src/main.rs").write_text(CALLER)
+                (caller / "Cargo.toml").write_text(MANIFEST + dependencies.replace("CRATE", str(self.crate)))
+                self.expect(self.cargo("run", folder=caller), stdout=printed.encode())
 
     def test_where_the_library_is_found(self):
         elsewhere = self.folder / "elsewhere"

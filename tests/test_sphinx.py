@@ -2,7 +2,7 @@
 import re
 import unittest
 
-from tests.environments import environment, example, requires_python, run_python
+from tests.environments import environment, requires_python, run_python
 from tests.support import ROOT, Case, scratch
 
 CONF = """
@@ -194,9 +194,17 @@ class Pages(Project):
         self.assertEqual(told[0], told[1])
         self.assertEqual(made[0], made[1])
 
+    def test_readme(self):
+        """The README's lines of conf.py are all that is wanted."""
+        text = (ROOT / "integrations/python/README.md").read_text(encoding="utf-8")
+        [conf] = re.findall(r"In `conf.py`:\n\n```python\n(.*?)```", text, re.DOTALL)
+        page, warnings = self.built(conf, r":math:`\R`")
+        self.assertIn('<mi mathvariant="double-struck">R</mi>', page)
+        self.assertEqual((len(self.links(page)), warnings), (2, ""))
+
     def test_example(self):
         """The example of the package is built without a warning, and all its formulas are drawn."""
-        source = example("sphinx", self.source / "example")
+        source = ROOT / "integrations/python/examples/sphinx"
         self.expect(run_python(environment("sphinx"), "-m", "sphinx", "-q", "-W", source, self.out, timeout=300), 0, b"", b"")
         self.assertEqual(len(formulas(self.page())), 6)
 

@@ -9,8 +9,9 @@ const PIECE = /\\(?:[A-Za-z]+|[^A-Za-z])?|[^\\]+/gsu;
 function namesOf(option = true) {
     if (option === false) return new Map();
     const own = option === true ? {} : option;
-    for (const name of Object.keys(own)) {
+    for (const [name, tex] of Object.entries(own)) {
         if (!NAME.test(name)) throw new TypeError(`latex2mathml: ${JSON.stringify(name)} is no name of a command`);
+        if (typeof tex !== 'string') throw new TypeError(`latex2mathml: ${name} stands for no string`);
     }
     return new Map(Object.entries({ ...usual, ...own }));
 }

@@ -175,10 +175,10 @@ local function is_body(formula)
   return #formula.latex:match('\\*$') % 2 == 0
 end
 
---- The formula as a document has it. The spaces stand for nothing, and keep an empty one from being a pair of dollar signs.
+--- The formula as a document has it. The space stands for nothing, and keeps an empty one from being a pair of dollar signs.
 local function spell(formula)
   local fence = formula.is_block and '$$' or '$'
-  return fence .. ' ' .. formula.latex:gsub('\\?.', {['$'] = '\\$'}) .. ' ' .. fence
+  return fence .. formula.latex:gsub('\\?.', {['$'] = '\\$'}) .. ' ' .. fence
 end
 
 local function convert_alone(formula)

@@ -7,7 +7,7 @@ use Rattle.std.proofs.lemmas.Bool.Decides.{eqb_tells}
 use Rattle.std.proofs.lemmas.List.{reverse-append}
 use Rattle.latex2mathml.specs.DocumentLaws.{EndsInOddBackslashes, JoinsAnswers}
 use Rattle.latex2mathml.specs.Documents.{Piece, prose, inline, display, piece_text, spelling, IsWhole, nothing, single, pair, IsPlain, whole, lone, IsPiece, MayFollow, ArePieces, IsCut, PieceAnswer, PiecesAnswer, IsAnswer}
-use Rattle.latex2mathml.specs.Dollars.{dollar, backslash}
+use Rattle.latex2mathml_formulas.specs.Dollars.{dollar, backslash}
 use Rattle.latex2mathml.proofs.PlainTexts.{plain_append, whole_append}
 use Rattle.latex2mathml.proofs.ProseTexts.{prose_append}
 

@@ -1,15 +1,11 @@
 pub mod Answering
 pub mod Cuts
-pub mod DollarReads
-pub mod DollarTexts
-pub mod DollarTokens
-pub mod DollarTrees
 pub mod Given
 pub mod Joining
 pub mod Outcomes
 pub mod PlainTexts
 pub mod ProseTexts
-pub mod Renderings
 pub mod Repeating
 pub mod StreamLemmas
+pub mod Surrounding
 pub mod Walks

@@ -1,13 +1,13 @@
 -- Each document has exactly one answer or exactly one refusal.
-use Rattle.std.proofs.Common.{◌≡◌, ◌≢◌, ◌⊎◌, ℕ, zero, suc, ◌<◌, ◌≤◌, List, [], ◌∷◌, ◌++◌, length, length-append, ⊎_elim, inl, inr, refl, sym, ap, ◌∙◌, append_assoc, arith, subst}
-use Rattle.latex2mathml.specs.DocumentLaws.{HasOneOutcome}
+use Rattle.std.proofs.Common.{◌≡◌, ◌≢◌, ◌⊎◌, ◌↔◌, ℕ, zero, suc, ◌<◌, ◌≤◌, List, [], ◌∷◌, ◌++◌, length, length-append, ⊎_elim, inl, inr, refl, sym, ap, ◌∙◌, append_assoc, arith, subst}
+use Rattle.latex2mathml.specs.DocumentLaws.{HasOneOutcome, IsForDollars}
 use Rattle.latex2mathml.specs.Documents.{Piece, prose, inline, display, piece_text, IsPlain, IsPiece, HasCut, HasNoCut, PieceAnswer, PiecesAnswer, IsAnswer, PieceRefuses, FirstRefused, IsRefusal, prose_answer}
-use Rattle.latex2mathml.specs.Dollars.{dollar}
+use Rattle.latex2mathml_formulas.specs.Dollars.{dollar}
 use Rattle.latex2mathml.specs.Pieces.{BeginsWith, EndsBefore}
 use Rattle.latex2mathml_tokens.specs.Refusal.{Refusal, InvalidNumberOfDollarSigns}
 use Rattle.latex2mathml_tokens.specs.declared.DisplayStyle.TheVariants.{Block, Inline}
 use Rattle.latex2mathml.proofs.Cuts.{begins_with_prose, first_forced, more_cut, no_display, no_inline, one_cut_lem}
-use Rattle.latex2mathml.proofs.Renderings.{formula_outcome, one_formula_refusal, one_rendering, rendered_or_refused}
+use Rattle.latex2mathml_formulas.specs.RenderingLaws.{RenderingsHold}
 use Rattle.latex2mathml.proofs.PlainTexts.{dollar_or_other, plain_front}
 
 -- the first piece of a text, or that it has no cut
@@ -90,74 +90,97 @@ cut_within (suc bound) (b ∷ text) short =
         ⊎_elim (λ cut. inl (piece ∷ cut.0, more_cut (b ∷ text) piece rest cut.0 begins cut.1))
         (λ none. inr (λ cut. (let on = first_forced (b ∷ text) piece rest cut.0 begins cut.1 in none (on.0, on.2)))) (later (omega arith))
 
-piece_outcome : (piece : Piece) → ((answer : List ℕ) × PieceAnswer piece answer) ⊎ ((refusal : Refusal) × PieceRefuses piece refusal)
-piece_outcome (prose text) = inl (prose_answer text, refl)
-piece_outcome (inline body) = formula_outcome body Inline
-piece_outcome (display body) = formula_outcome body Block
+-- by the laws of formulas
+module _ (hold : RenderingsHold) where
+  piece_outcome : (piece : Piece) → ((answer : List ℕ) × PieceAnswer piece answer) ⊎ ((refusal : Refusal) × PieceRefuses piece refusal)
+  piece_outcome (prose text) = inl (prose_answer text, refl)
+  piece_outcome (inline body) = (hold.one_rendering body Inline).some
+  piece_outcome (display body) = (hold.one_rendering body Block).some
 
-pieces_outcome : (pieces : List Piece) → ((answer : List ℕ) × PiecesAnswer pieces answer) ⊎ ((refusal : Refusal) × FirstRefused pieces refusal)
-pieces_outcome [] = inl ([], refl)
-pieces_outcome (piece ∷ pieces) =
-    ⊎_elim (λ first. ⊎_elim (λ later. inl (first.0 ++ later.0, (first.0, later.0, first.1, later.1, refl))) (λ later. inr (later.0, inr (first, later.1))) (pieces_outcome pieces))
-    (λ refused. inr (refused.0, inl refused.1)) (piece_outcome piece)
+  pieces_outcome : (pieces : List Piece) → ((answer : List ℕ) × PiecesAnswer pieces answer) ⊎ ((refusal : Refusal) × FirstRefused pieces refusal)
+  pieces_outcome [] = inl ([], refl)
+  pieces_outcome (piece ∷ pieces) =
+      ⊎_elim (λ first. ⊎_elim (λ later. inl (first.0 ++ later.0, (first.0, later.0, first.1, later.1, refl))) (λ later. inr (later.0, inr (first, later.1))) (pieces_outcome pieces))
+      (λ refused. inr (refused.0, inl refused.1)) (piece_outcome piece)
 
-some_outcome : (document : List ℕ) → ((answer : List ℕ) × IsAnswer document answer) ⊎ ((refusal : Refusal) × IsRefusal document refusal)
-unfolding IsAnswer IsRefusal
-some_outcome document =
-    ⊎_elim (λ cut. ⊎_elim (λ answered. inl (answered.0, (cut.0, cut.1, answered.1))) (λ refused. inr (refused.0, inr (cut.0, cut.1, refused.1))) (pieces_outcome cut.0))
-    (λ none. inr (InvalidNumberOfDollarSigns, inl (none, refl))) (cut_within (length document) document (omega arith))
+  some_outcome : (document : List ℕ) → ((answer : List ℕ) × IsAnswer document answer) ⊎ ((refusal : Refusal) × IsRefusal document refusal)
+  unfolding IsAnswer IsRefusal
+  some_outcome document =
+      ⊎_elim (λ cut. ⊎_elim (λ answered. inl (answered.0, (cut.0, cut.1, answered.1))) (λ refused. inr (refused.0, inr (cut.0, cut.1, refused.1))) (pieces_outcome cut.0))
+      (λ none. inr (InvalidNumberOfDollarSigns, inl (none, refl))) (cut_within (length document) document (omega arith))
 
-piece_once : (piece : Piece) (answer other : List ℕ) → PieceAnswer piece answer → PieceAnswer piece other → answer ≡ other
-piece_once (prose text) answer other a b = a ∙ sym b
-piece_once (inline body) answer other a b = one_rendering body Inline answer other a b
-piece_once (display body) answer other a b = one_rendering body Block answer other a b
+  piece_once : (piece : Piece) (answer other : List ℕ) → PieceAnswer piece answer → PieceAnswer piece other → answer ≡ other
+  piece_once (prose text) answer other a b = a ∙ sym b
+  piece_once (inline body) answer other a b = (hold.one_rendering body Inline).one_rendering answer other a b
+  piece_once (display body) answer other a b = (hold.one_rendering body Block).one_rendering answer other a b
 
-pieces_once : (pieces : List Piece) (answer other : List ℕ) → PiecesAnswer pieces answer → PiecesAnswer pieces other → answer ≡ other
-pieces_once [] answer other a b = a ∙ sym b
-pieces_once (piece ∷ pieces) answer other (x, y, a, b, e) (z, w, c, d, f) = e ∙ (λ i. piece_once piece x z a c i ++ pieces_once pieces y w b d i) ∙ sym f
+  pieces_once : (pieces : List Piece) (answer other : List ℕ) → PiecesAnswer pieces answer → PiecesAnswer pieces other → answer ≡ other
+  pieces_once [] answer other a b = a ∙ sym b
+  pieces_once (piece ∷ pieces) answer other (x, y, a, b, e) (z, w, c, d, f) = e ∙ (λ i. piece_once piece x z a c i ++ pieces_once pieces y w b d i) ∙ sym f
 
-piece_refused_once : (piece : Piece) (refusal other : Refusal) → PieceRefuses piece refusal → PieceRefuses piece other → refusal ≡ other
-piece_refused_once (prose text) refusal other a b = absurd a
-piece_refused_once (inline body) refusal other a b = one_formula_refusal body refusal other a b
-piece_refused_once (display body) refusal other a b = one_formula_refusal body refusal other a b
+  piece_refused_once : (piece : Piece) (refusal other : Refusal) → PieceRefuses piece refusal → PieceRefuses piece other → refusal ≡ other
+  piece_refused_once (prose text) refusal other a b = absurd a
+  piece_refused_once (inline body) refusal other a b = (hold.one_rendering body Inline).one_refusal refusal other a b
+  piece_refused_once (display body) refusal other a b = (hold.one_rendering body Block).one_refusal refusal other a b
 
-never_both : (piece : Piece) (answer : List ℕ) (refusal : Refusal) → PieceAnswer piece answer → PieceRefuses piece refusal → ⊥
-never_both (prose text) answer refusal a r = r
-never_both (inline body) answer refusal a r = rendered_or_refused body Inline answer refusal a r
-never_both (display body) answer refusal a r = rendered_or_refused body Block answer refusal a r
+  never_both : (piece : Piece) (answer : List ℕ) (refusal : Refusal) → PieceAnswer piece answer → PieceRefuses piece refusal → ⊥
+  never_both (prose text) answer refusal a r = r
+  never_both (inline body) answer refusal a r = (hold.one_rendering body Inline).never_both answer refusal a r
+  never_both (display body) answer refusal a r = (hold.one_rendering body Block).never_both answer refusal a r
 
-first_once : (pieces : List Piece) (refusal other : Refusal) → FirstRefused pieces refusal → FirstRefused pieces other → refusal ≡ other
-first_once [] refusal other a b = absurd a
-first_once (piece ∷ pieces) refusal other a b =
-    ⊎_elim (λ here. ⊎_elim (λ same. piece_refused_once piece refusal other here same) (λ later. absurd (never_both piece later.0.0 refusal later.0.1 here)) b)
-    (λ later. ⊎_elim (λ here. absurd (never_both piece later.0.0 other later.0.1 here)) (λ same. first_once pieces refusal other later.1 same.1) b) a
+  first_once : (pieces : List Piece) (refusal other : Refusal) → FirstRefused pieces refusal → FirstRefused pieces other → refusal ≡ other
+  first_once [] refusal other a b = absurd a
+  first_once (piece ∷ pieces) refusal other a b =
+      ⊎_elim (λ here. ⊎_elim (λ same. piece_refused_once piece refusal other here same) (λ later. absurd (never_both piece later.0.0 refusal later.0.1 here)) b)
+      (λ later. ⊎_elim (λ here. absurd (never_both piece later.0.0 other later.0.1 here)) (λ same. first_once pieces refusal other later.1 same.1) b) a
 
-all_answered : (pieces : List Piece) (answer : List ℕ) (refusal : Refusal) → PiecesAnswer pieces answer → FirstRefused pieces refusal → ⊥
-all_answered [] answer refusal a r = r
-all_answered (piece ∷ pieces) answer refusal (x, y, a, b, e) r =
-    ⊎_elim (λ here. never_both piece x refusal a here) (λ later. all_answered pieces y refusal b later.1) r
+  all_answered : (pieces : List Piece) (answer : List ℕ) (refusal : Refusal) → PiecesAnswer pieces answer → FirstRefused pieces refusal → ⊥
+  all_answered [] answer refusal a r = r
+  all_answered (piece ∷ pieces) answer refusal (x, y, a, b, e) r =
+      ⊎_elim (λ here. never_both piece x refusal a here) (λ later. all_answered pieces y refusal b later.1) r
 
-one_answer : (document answer other : List ℕ) → IsAnswer document answer → IsAnswer document other → answer ≡ other
-unfolding IsAnswer
-one_answer document answer other (ps, c, a) (qs, d, b) =
-    pieces_once ps answer other a (subst (λ l. PiecesAnswer l other) (one_cut_lem qs ps document d c) b)
+  one_answer : (document answer other : List ℕ) → IsAnswer document answer → IsAnswer document other → answer ≡ other
+  unfolding IsAnswer
+  one_answer document answer other (ps, c, a) (qs, d, b) =
+      pieces_once ps answer other a (subst (λ l. PiecesAnswer l other) (one_cut_lem qs ps document d c) b)
 
-one_refusal : (document : List ℕ) (refusal other : Refusal) → IsRefusal document refusal → IsRefusal document other → refusal ≡ other
-unfolding IsRefusal
-one_refusal document refusal other a b =
-    ⊎_elim (λ none. ⊎_elim (λ same. none.1 ∙ sym same.1) (λ formula. absurd (none.0 (formula.0, formula.1))) b)
-    (λ formula. ⊎_elim (λ none. absurd (none.0 (formula.0, formula.1))) (λ same. first_once formula.0 refusal other formula.2 (subst (λ l. FirstRefused l other) (one_cut_lem same.0 formula.0 document same.1 formula.1) same.2)) b) a
+  one_refusal : (document : List ℕ) (refusal other : Refusal) → IsRefusal document refusal → IsRefusal document other → refusal ≡ other
+  unfolding IsRefusal
+  one_refusal document refusal other a b =
+      ⊎_elim (λ none. ⊎_elim (λ same. none.1 ∙ sym same.1) (λ formula. absurd (none.0 (formula.0, formula.1))) b)
+      (λ formula. ⊎_elim (λ none. absurd (none.0 (formula.0, formula.1))) (λ same. first_once formula.0 refusal other formula.2 (subst (λ l. FirstRefused l other) (one_cut_lem same.0 formula.0 document same.1 formula.1) same.2)) b) a
 
-answered_or_refused : (document answer : List ℕ) (refusal : Refusal) → IsAnswer document answer → IsRefusal document refusal → ⊥
-unfolding IsAnswer IsRefusal
-answered_or_refused document answer refusal (ps, c, a) r =
-    ⊎_elim (λ none. none.0 (ps, c)) (λ formula. all_answered ps answer refusal a (subst (λ l. FirstRefused l refusal) (one_cut_lem formula.0 ps document formula.1 c) formula.2)) r
+  answered_or_refused : (document answer : List ℕ) (refusal : Refusal) → IsAnswer document answer → IsRefusal document refusal → ⊥
+  unfolding IsAnswer IsRefusal
+  answered_or_refused document answer refusal (ps, c, a) r =
+      ⊎_elim (λ none. none.0 (ps, c)) (λ formula. all_answered ps answer refusal a (subst (λ l. FirstRefused l refusal) (one_cut_lem formula.0 ps document formula.1 c) formula.2)) r
 
--- the law
-pub one_outcome : (document : List ℕ) → HasOneOutcome document
-one_outcome document = record {
-  some = some_outcome document;
-  one_answer = one_answer document;
-  one_refusal = one_refusal document;
-  never_both = answered_or_refused document;
-}
+  -- the law
+  pub one_outcome : (document : List ℕ) → HasOneOutcome document
+  one_outcome document = record {
+    some = some_outcome document;
+    one_answer = one_answer document;
+    one_refusal = one_refusal document;
+    never_both = answered_or_refused document;
+  }
+
+  -- no formula is refused for its dollar signs, so a document is refused for them only where it has no cut
+  first_is_other : (pieces : List Piece) (refusal : Refusal) → FirstRefused pieces refusal → refusal ≢ InvalidNumberOfDollarSigns
+  first_is_other [] refusal r = absurd r
+  first_is_other (prose text ∷ pieces) refusal (inl r) = absurd r
+  first_is_other (inline body ∷ pieces) refusal (inl r) = hold.never_for_dollars body refusal r
+  first_is_other (display body ∷ pieces) refusal (inl r) = hold.never_for_dollars body refusal r
+  first_is_other (piece ∷ pieces) refusal (inr r) = first_is_other pieces refusal r.1
+
+  refused_for_dollars : (document : List ℕ) (refusal : Refusal) → IsRefusal document refusal → (refusal ≡ InvalidNumberOfDollarSigns) ↔ HasNoCut document
+  unfolding IsRefusal
+  refused_for_dollars document refusal (inl (none, same)) = (λ e. none, λ h. same)
+  refused_for_dollars document refusal (inr (pieces, cut, first)) = (λ e. absurd (first_is_other pieces refusal first e), λ none. absurd (none (pieces, cut)))
+
+  answered_cut : (document answer : List ℕ) → IsAnswer document answer → HasCut document
+  unfolding IsAnswer
+  answered_cut document answer (pieces, cut, a) = (pieces, cut)
+
+  -- the law
+  pub for_dollars : (document : List ℕ) → IsForDollars document
+  for_dollars document = record { refused = refused_for_dollars document; answered = answered_cut document }

@@ -5,7 +5,7 @@ use Rattle.std.proofs.lemmas.List.{take_more, drop_more, drop_all}
 use Rattle.std.proofs.str.Laws.{order}
 use Rattle.latex2mathml.specs.Pieces.{EndsAt, EndsBefore, HoldsNo}
 use Rattle.latex2mathml.specs.Documents.{IsWhole, nothing, single, pair, IsPlain, whole, lone, IsBody}
-use Rattle.latex2mathml.specs.Dollars.{dollar, backslash}
+use Rattle.latex2mathml_formulas.specs.Dollars.{dollar, backslash}
 
 -- plain text begins with no dollar sign
 whole_begins : (b : ℕ) (text : List ℕ) → IsWhole (b ∷ text) → b ≢ dollar

@@ -3,28 +3,27 @@ use Rattle.std.proofs.Common.{◌≡◌, ℕ, List, [], ◌∷◌, ◌++◌, Opt
 use Rattle.std.specs.Prelude.{IfOk, IfSome, MatchResult, String}
 use Rattle.latex2mathml.specs.DocumentLaws.{RepeatsAnswers}
 use Rattle.latex2mathml.specs.Documents.{Piece, prose, inline, display, IsPiece, ArePieces, IsCut, PieceAnswer, PiecesAnswer, IsAnswer, FirstRefused, IsRefusal}
-use Rattle.latex2mathml.specs.Dollars.{IsDollarFree}
+use Rattle.latex2mathml_formulas.specs.Dollars.{IsDollarFree, free_both}
+use Rattle.latex2mathml_formulas.specs.RenderingLaws.{RenderingsHold}
 use Rattle.latex2mathml_tokens.specs.Refusal.{Refusal, IfRefused, refusal_of}
 use Rattle.latex2mathml_tokens.specs.declared.DisplayStyle.TheVariants.{Block, Inline}
 use Rattle.latex2mathml_tokens.specs.declared.error.LatexError.{LatexError}
 use Rattle.latex2mathml.proofs.Cuts.{one_cut_lem}
-use Rattle.latex2mathml.proofs.DollarReads.{dollar_free}
-use Rattle.latex2mathml.proofs.DollarTexts.{free_both}
 use Rattle.latex2mathml.proofs.ProseTexts.{free_plain, free_prose, free_stays}
 
 -- An answer of pieces holds no dollar sign.
-free_piece : (piece : Piece) (answer : List ℕ) → IsPiece piece → PieceAnswer piece answer → IsDollarFree answer
-free_piece (prose text) answer i a = subst IsDollarFree (sym a) (free_prose text i.1)
-free_piece (inline body) answer i a = dollar_free body Inline answer a
-free_piece (display body) answer i a = dollar_free body Block answer a
+free_piece : RenderingsHold → (piece : Piece) (answer : List ℕ) → IsPiece piece → PieceAnswer piece answer → IsDollarFree answer
+free_piece hold (prose text) answer i a = subst IsDollarFree (sym a) (free_prose text i.1)
+free_piece hold (inline body) answer i a = hold.dollar_free body Inline answer a
+free_piece hold (display body) answer i a = hold.dollar_free body Block answer a
 
-free_answer : (pieces : List Piece) (answer : List ℕ) → ArePieces pieces → PiecesAnswer pieces answer → IsDollarFree answer
-free_answer [] answer w a = subst IsDollarFree (sym a) refl
-free_answer (piece ∷ pieces) answer w (x, y, a, b, e) = subst IsDollarFree (sym e) (free_both x y (free_piece piece x w.0 a) (free_answer pieces y w.2 b))
+free_answer : RenderingsHold → (pieces : List Piece) (answer : List ℕ) → ArePieces pieces → PiecesAnswer pieces answer → IsDollarFree answer
+free_answer hold [] answer w a = subst IsDollarFree (sym a) refl
+free_answer hold (piece ∷ pieces) answer w (x, y, a, b, e) = subst IsDollarFree (sym e) (free_both x y (free_piece hold piece x w.0 a) (free_answer hold pieces y w.2 b))
 
-pub answer_free : (document answer : List ℕ) → IsAnswer document answer → IsDollarFree answer
+pub answer_free : RenderingsHold → (document answer : List ℕ) → IsAnswer document answer → IsDollarFree answer
 unfolding IsAnswer
-answer_free document answer (pieces, cut, a) = free_answer pieces answer cut.well_formed a
+answer_free hold document answer (pieces, cut, a) = free_answer hold pieces answer cut.well_formed a
 
 -- the pieces of a document without a dollar sign
 pieces_of_free : List ℕ → List Piece
@@ -57,9 +56,9 @@ no_other_answer text answer free (pieces, cut, a) =
     only_answer_of_free text answer free (subst (λ ps. PiecesAnswer ps answer) (one_cut_lem pieces (pieces_of_free text) text cut (cut_of_free text free)) a)
 
 -- the law
-pub repeated : (document : List ℕ) → RepeatsAnswers document
-repeated document answer a =
-    let free = answer_free document answer a in
+pub repeated : RenderingsHold → (document : List ℕ) → RepeatsAnswers document
+repeated hold document answer a =
+    let free = answer_free hold document answer a in
     record { dollar_free = free; own = own_answer answer free; no_other = λ other b. no_other_answer answer other free b }
 
 -- nor is it refused
@@ -75,9 +74,9 @@ never_refused text refusal free r =
     (λ formula. no_formula text refusal (subst (λ ps. FirstRefused ps refusal) (one_cut_lem formula.0 (pieces_of_free text) text formula.1 (cut_of_free text free)) formula.2)) r
 
 -- what `replace` promises beside its answer and its refusal
-pub free_result : (document : List ℕ) (result : Result (String Global) LatexError) → IfOk result (λ answer. IsAnswer document (string_bytes answer)) → IfOk result (λ answer. IsDollarFree (string_bytes answer))
-free_result document (Ok answer) a = answer_free document (string_bytes answer) a
-free_result document (Err error) a = tt
+pub free_result : RenderingsHold → (document : List ℕ) (result : Result (String Global) LatexError) → IfOk result (λ answer. IsAnswer document (string_bytes answer)) → IfOk result (λ answer. IsDollarFree (string_bytes answer))
+free_result hold document (Ok answer) a = answer_free hold document (string_bytes answer) a
+free_result hold document (Err error) a = tt
 
 none_told : (document : List ℕ) (told : Option Refusal) → IsDollarFree document → IfSome told (IsRefusal document) → told ≡ None
 none_told document None free r = refl

@@ -1,15 +1,12 @@
--- Laws of documents, and of the formulas in them.
-use Rattle.std.specs.Prelude.{◌≡◌, ◌⊎◌, ◌==◌, ◌%◌, ℕ, List, ◌++◌}
+-- Laws of documents: they hold of every text.
+use Rattle.std.specs.Prelude.{◌≡◌, ◌⊎◌, ◌↔◌, ◌==◌, ◌%◌, ℕ, List, ◌++◌}
 use Rattle.std.specs.List.{suffix_len}
-use Rattle.latex2mathml.specs.Documents.{Piece, IsCut, IsAnswer, IsRefusal}
-use Rattle.latex2mathml.specs.Dollars.{backslash, IsDollarFree}
-use Rattle.latex2mathml_tokens.specs.Refusal.{Refusal}
-use Rattle.latex2mathml_formulas.specs.Rendering.{IsRendering}
-use Rattle.latex2mathml_tokens.specs.declared.DisplayStyle.{DisplayStyle}
-
--- no rendering of the formula holds a dollar sign
-abbrev pub RendersDollarFree : List ℕ → Type 0
-RendersDollarFree text = (style : DisplayStyle) (markup : List ℕ) → IsRendering text style markup → IsDollarFree markup
+use Rattle.latex2mathml.specs.Documents.{Piece, HasCut, HasNoCut, IsCut, IsAnswer, IsRefusal}
+use Rattle.latex2mathml.specs.Surroundings.{HasBalancedProse, HasPageProse}
+use Rattle.latex2mathml_formulas.specs.Dollars.{backslash, IsDollarFree}
+use Rattle.latex2mathml_nodes.specs.Markup.{IsBalanced}
+use Rattle.latex2mathml_nodes.specs.Pages.{IsPage}
+use Rattle.latex2mathml_tokens.specs.Refusal.{Refusal, InvalidNumberOfDollarSigns}
 
 -- two cuts of the document are the same pieces
 abbrev pub HasOneCut : List ℕ → Type 0
@@ -49,3 +46,19 @@ pub record HasOneOutcome (document : List ℕ) : Type 0 where
   pub one_refusal : (refusal other : Refusal) → IsRefusal document refusal → IsRefusal document other → refusal ≡ other
   -- what has an answer is not refused
   pub never_both : (answer : List ℕ) (refusal : Refusal) → IsAnswer document answer → IsRefusal document refusal → ⊥
+
+-- the document is refused for its dollar signs exactly where it has no cut, and what has an answer has one
+pub record IsForDollars (document : List ℕ) : Type 0 where
+  pub refused : (refusal : Refusal) → IsRefusal document refusal → (refusal ≡ InvalidNumberOfDollarSigns) ↔ HasNoCut document
+  pub answered : (answer : List ℕ) → IsAnswer document answer → HasCut document
+
+-- what holds of all documents
+pub record AnswersHold : Type 0 where
+  pub for_dollars : (document : List ℕ) → IsForDollars document
+  pub one_outcome : (document : List ℕ) → HasOneOutcome document
+  pub repeated : (document : List ℕ) → RepeatsAnswers document
+  pub joined : (first second : List ℕ) → JoinsAnswers first second
+  -- where the prose is balanced around the formulas, so is the answer, and where it is that of a page, each `math`
+  -- element stands where it may and obeys the child table
+  pub balanced : (document answer : List ℕ) → HasBalancedProse document → IsAnswer document answer → IsBalanced answer
+  pub page : (document answer : List ℕ) → HasPageProse document → IsAnswer document answer → IsPage answer

@@ -2,7 +2,7 @@
 -- and whether it has ended.
 use Rattle.std.specs.Prelude.{◌≡◌, ◌≢◌, ℕ, List, Bool, None, Result, Ok, Err, IfSome, IsFalse, IsTrue, IsUtf8, string_bytes}
 use Rattle.latex2mathml.specs.Documents.{IsAnswer, IsRefusal}
-use Rattle.latex2mathml.specs.Dollars.{IsDollarFree}
+use Rattle.latex2mathml_formulas.specs.Dollars.{IsDollarFree}
 use Rattle.latex2mathml_tokens.specs.Refusal.{refusal_of}
 use Rattle.latex2mathml.specs.declared.error.FileFault.{FileFault}
 use Rattle.latex2mathml.specs.declared.error.FileFault.TheVariants.{Read, NotText, Refused}
@@ -30,6 +30,7 @@ IsReadingOf bytes failed ended (Ok (Changed answer)) =
     IsWholeText bytes failed ended
     × (¬ IsDollarFree bytes)
     × IsAnswer bytes (string_bytes answer)
+    × IsDollarFree (string_bytes answer)
     × (string_bytes answer ≢ bytes)
 IsReadingOf bytes failed ended (Ok (Unchanged text)) =
     IsWholeText bytes failed ended

@@ -1,8 +1,10 @@
+pub mod Conversions
 pub mod DocumentLaws
 pub mod Documents
-pub mod Dollars
 pub mod Faults
 pub mod Files
 pub mod Inputs
 pub mod Pieces
 pub mod Streams
+pub mod Surroundings
+pub use Rattle.latex2mathml_formulas.specs.Dollars

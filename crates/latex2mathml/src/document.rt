@@ -1,7 +1,7 @@
 //! The pieces of a document: prose, and formulas between dollar signs.
 ghost use Rattle.std.specs.Prelude.{◌≡◌, ◌≢◌, ◌++◌, [], IfNone, IfSome, OnErr, OnOk};
 ghost use Rattle.latex2mathml.specs.Pieces.{BeginsWith, EndsAt, EndsBefore, HoldsNo, piece_of};
-ghost use Rattle.latex2mathml.specs.Dollars.{dollar};
+ghost use Rattle.latex2mathml_formulas.specs.Dollars.{dollar};
 ghost use Rattle.latex2mathml.specs.Documents.{HasCut, HasNoCut, IsPlain};
 
 pub(crate) mod convert;

@@ -7,7 +7,7 @@
 
 ghost use Rattle.std.specs.Prelude.{◌≡◌, None, IfOk, MatchResult, string_bytes};
 ghost use Rattle.latex2mathml.specs.Documents.{IsAnswer, IsRefusal};
-ghost use Rattle.latex2mathml.specs.Dollars.{IsDollarFree};
+ghost use Rattle.latex2mathml_formulas.specs.Dollars.{IsDollarFree};
 ghost use Rattle.latex2mathml_tokens.specs.Refusal.{IfRefused, refusal_of};
 
 mod document;
@@ -46,5 +46,6 @@ pub fn replace(alloc: Global, input: &str) -> Result<String, LatexError>
     ensures unchanged { IsDollarFree input.now →
         MatchResult result (λ answer. string_bytes answer ≡ input.now) (λ error. refusal_of error ≡ None) }
 {
+    laws::renderings();
     document::convert::converted(alloc, input)
 }

@@ -595,7 +595,7 @@ fn keeps_at(alloc: Global, size: usize) -> Result<bool, AllocError> {
     Ok(ended == Ok(()) && output.inner.as_slice() == digits.as_bytes())
 }
 
-/// Requests this many bytes, which marks the beginning and the end of a run for `tools/run-without-memory`.
+/// Requests this many bytes, which marks the beginning and the end of a run for `tests/test_memory.py`.
 fn mark(alloc: Global, size: usize) -> Result<(), AllocError> {
     let _mark: Vec<u8> = Vec::with_capacity(alloc, size)?;
     Ok(())
@@ -624,7 +624,7 @@ fn answers_or_wants(
 /// The output's memory is allocated before a run, so that only the requests of the run itself can be refused.
 const ROOM: usize = 1 << 10;
 
-/// `tools/run-without-memory` refuses the requests of these runs.
+/// `tests/test_memory.py` refuses the requests of these runs.
 #[test]
 fn runs_without_memory(rt: HostRuntime) -> Result<(), Fail> {
     for (job, bytes, answer) in [

@@ -3,8 +3,8 @@ use Rattle.std.specs.Prelude.{◌≡◌, ◌≢◌, ◌<◌, ◌≤◌, ◌⊎�
 use Rattle.latex2mathml_tokens.specs.Refusal.{Refusal, refusal_text}
 use Rattle.latex2mathml_tokens.specs.declared.DisplayStyle.{DisplayStyle}
 use Rattle.latex2mathml_tokens.specs.declared.DisplayStyle.TheVariants.{Block, Inline}
-use Rattle.latex2mathml_formulas.specs.Rendering.{IsFormulaRefusal, IsRendering}
-use Rattle.latex2mathml.specs.Documents.{IsAnswer, IsRefusal}
+use Rattle.latex2mathml.specs.Conversions.{IsConverted, IsRefusedAs}
+use Rattle.latex2mathml.specs.Conversions as conversions
 use Rattle.latex2mathml_c.specs.declared.Conversion.{Conversion}
 use Rattle.latex2mathml_c.specs.declared.Conversion.TheVariants.{Formula, Document}
 use Rattle.latex2mathml_c.specs.declared.Status.{Status}
@@ -25,21 +25,16 @@ code_of OutOfMemory = 4
 
 -- The text that a call comes to.
 
--- the markup of a text
-abbrev pub IsConverted : Conversion → List ℕ → List ℕ → Type 0
-IsConverted (Formula display) text markup = IsRendering text display markup
-IsConverted Document text markup = IsAnswer text markup
-
--- the refusal of a text
-abbrev pub IsRefusedAs : Conversion → List ℕ → Refusal → Type 0
-IsRefusedAs (Formula display) text refusal = IsFormulaRefusal text refusal
-IsRefusedAs Document text refusal = IsRefusal text refusal
+-- as what the input is converted
+abbrev pub conversion_of : Conversion → conversions.Conversion
+conversion_of (Formula display) = conversions.formula display
+conversion_of Document = conversions.document
 
 -- the text that the input comes to, and what it is: the markup, or why there is none
 abbrev pub IsText : Conversion → List ℕ → Status → List ℕ → Type 0
-IsText conversion input Done text = IsUtf8 input × IsConverted conversion input text
+IsText conversion input Done text = IsUtf8 input × IsConverted (conversion_of conversion) input text
 IsText conversion input Refused text =
-    IsUtf8 input × ((refusal : Refusal) × IsRefusedAs conversion input refusal × (text ≡ refusal_text refusal))
+    IsUtf8 input × ((refusal : Refusal) × IsRefusedAs (conversion_of conversion) input refusal × (text ≡ refusal_text refusal))
 IsText conversion input NotUtf8 text = (¬ IsUtf8 input) × (text ≡ codes "The input is not UTF-8 text.")
 IsText conversion input TooSmall text = ⊥
 IsText conversion input OutOfMemory text = ⊥

@@ -8,10 +8,11 @@ ghost use Rattle.std.specs.Prelude.{◌≡◌, ◌≢◌, IfOk, string_bytes};
 ghost use Rattle.latex2mathml_c.specs.declared.Conversion.TheVariants.{Document, Formula};
 ghost use Rattle.latex2mathml_c.specs.declared.Status.{Status};
 ghost use Rattle.latex2mathml_c.specs.declared.Status.TheVariants.{OutOfMemory};
-ghost use Rattle.latex2mathml_c.specs.Call.{IsConverted, IsLength, IsOutcome, IsPutOrTooSmall, IsRefusedAs, IsText, code_of, display_of};
+ghost use Rattle.latex2mathml_c.specs.Call.{IsLength, IsOutcome, IsPutOrTooSmall, IsText, code_of, conversion_of, display_of};
+ghost use Rattle.latex2mathml.specs.Conversions.{IsConverted, IsRefusedAs};
 ghost use Rattle.latex2mathml_tokens.specs.Refusal.{IfRefused};
 
-use latex2mathml::{DisplayStyle, LatexError, latex_to_mathml, replace};
+use latex2mathml::{DisplayStyle, LatexError, latex_to_mathml, laws, replace};
 use std::alloc::{AllocError, Global};
 
 /// What is to be converted.
@@ -71,6 +72,8 @@ pub extern "C" fn latex2mathml_formula(
     ensures length { result ≢ code_of OutOfMemory →
         IsLength (Formula (display_of block)) latex.now needed.new }
 {
+    laws::renderings();
+    laws::answers();
     let conversion = Conversion::Formula(display(block));
     call(alloc, conversion, latex, out, needed).code()
 }
@@ -90,6 +93,8 @@ pub extern "C" fn latex2mathml_document(
         (record { old = out.old; new = out.new; needed = needed.new }) }
     ensures length { result ≢ code_of OutOfMemory → IsLength Document document.now needed.new }
 {
+    laws::renderings();
+    laws::answers();
     call(alloc, Conversion::Document, document, out, needed).code()
 }
 
@@ -146,9 +151,11 @@ fn text_of(
 
 /// The markup of the text.
 fn converted(alloc: Global, conversion: Conversion, text: &str) -> Result<String, LatexError>
-    ensures markup { IfOk result (λ markup. IsConverted conversion text.now (string_bytes markup)) }
-    ensures refusal { IfRefused result (IsRefusedAs conversion text.now) }
+    ensures markup { IfOk result (λ markup.
+        IsConverted (conversion_of conversion) text.now (string_bytes markup)) }
+    ensures refusal { IfRefused result (IsRefusedAs (conversion_of conversion) text.now) }
 {
+    laws::dollar_free(text);
     match conversion {
         Conversion::Formula(display) => latex_to_mathml(alloc, text, display),
         Conversion::Document => replace(alloc, text),

@@ -1,15 +1,17 @@
 -- What a whole reading answers and counts, from what its parts do.
-use Rattle.std.proofs.Common.{◌≡◌, ℕ, ◌+◌, ◌*◌, ◌≤◌, true, false, List, [], ◌∷◌, ◌++◌, length, Option, Some, None, Result, Global, Ok, Err, refl, ap, ◌∙◌, arith}
+use Rattle.std.proofs.Common.{◌≡◌, ◌≢◌, ℕ, ◌+◌, ◌*◌, ◌<◌, ◌≤◌, Bool, true, false, List, [], ◌∷◌, ◌++◌, length, Option, Some, None, Result, Global, Ok, Err, refl, ap, ◌∙◌, arith}
 use Rattle.std.specs.Prelude.{IfOk, IfSome, OnOk, is_ok, string_bytes, String}
 use Rattle.std.proofs.lemmas.List.{length-map}
-use Rattle.std.specs.Str.{chars}
+use Rattle.std.specs.Str.{chars, IsUtf8}
+use Rattle.std.proofs.Math.Utf8.{encodes}
+use Rattle.std.proofs.lemmas.Str.{encodes-chars, length-le-encodes}
 use Rattle.latex2mathml_formulas.specs.Counts.{IsComparisonCount, IsTokenCount, backslashes}
 use Rattle.latex2mathml_formulas.specs.Cutting.{slices_of}
 use Rattle.latex2mathml_formulas.specs.Grammar.{Reading, Refuses}
 use Rattle.latex2mathml_formulas.specs.Openers.{IsFrameCount, OpensFor}
-use Rattle.latex2mathml_tokens.specs.Refusal.{IfRefused, Refusal, refusal_of}
+use Rattle.latex2mathml_tokens.specs.Refusal.{IfRefused, InvalidNumberOfDollarSigns, Refusal, refusal_of}
 use Rattle.latex2mathml_formulas.specs.Rendering.{IsFormulaRefusal, IsRendering, math_print}
-use Rattle.latex2mathml_formulas.specs.Spelling.{HasTokens, Slice}
+use Rattle.latex2mathml_formulas.specs.Spelling.{HasSlices, HasTokens, Slice, takes_digit}
 use Rattle.latex2mathml_tokens.specs.Tok.{Tok}
 use Rattle.latex2mathml_nodes.specs.Tree.{Tree}
 use Rattle.latex2mathml_formulas.specs.Unread.{GoesOn, Left, Unread, left_of, token_list}
@@ -17,6 +19,8 @@ use Rattle.latex2mathml_tokens.specs.declared.DisplayStyle.{DisplayStyle}
 use Rattle.latex2mathml_tokens.specs.declared.error.LatexError.{LatexError}
 use Rattle.latex2mathml_tokens.specs.declared.token.Token.{Token}
 use Rattle.latex2mathml_formulas.proofs.OneList.{cut}
+use Rattle.latex2mathml_formulas.proofs.OtherRefusals.{never_dollars}
+use Rattle.latex2mathml_formulas.proofs.Tokenizing.{step_shortens}
 
 -- where no token is left, no slice with a backslash is
 pub no_backslashes : (next : Option Token) (unread : Unread) → (left_of next unread).list ≡ [] → (left_of next unread).backslashes ≡ 0
@@ -74,3 +78,27 @@ refused text l (Err error) e h = told (refusal_of error) h
     told : (o : Option Refusal) → IfSome o (Refuses l) → IfSome o (IsFormulaRefusal text)
     told None h = tt
     told (Some q) h = refusal text l q e h
+
+-- and no formula is refused for its dollar signs
+pub refused_otherwise : {A : Type 0} (text : List ℕ) (r : Result A LatexError) → IfRefused r (IsFormulaRefusal text) → IfRefused r (λ refusal. refusal ≢ InvalidNumberOfDollarSigns)
+refused_otherwise text (Ok markup) h = tt
+refused_otherwise text (Err error) h = told (refusal_of error) h
+  where
+    told : (o : Option Refusal) → IfSome o (IsFormulaRefusal text) → IfSome o (λ refusal. refusal ≢ InvalidNumberOfDollarSigns)
+    told None h = tt
+    told (Some q) h = never_dollars text q h
+
+-- each slice has a character
+slices_within_text : (takes : Bool) (text : List ℕ) (slices : List Slice) → HasSlices takes text slices → length slices ≤ length text
+slices_within_text takes text [] h = omega arith
+slices_within_text takes text (s ∷ ss) (rest, step, later) =
+    let less : length rest < length text = step_shortens takes text rest s step in
+    let more : length ss ≤ length rest = slices_within_text (takes_digit (Some s.token)) rest ss later in
+    omega arith
+
+-- so no more tokens are taken than the text has bytes
+pub tokens_within_text : (text : List ℕ) (done : Bool) (n : ℕ) → IsUtf8 text → IsTokenCount (chars text) done n → n ≤ length text
+tokens_within_text text done n utf8 (slices, cut, bound, all) =
+    let within : length slices ≤ length (chars text) = slices_within_text false (chars text) slices cut in
+    let characters : length (chars text) ≤ length (encodes (chars text)) = length-le-encodes (chars text) in
+    omega (arith, ap length (encodes-chars text utf8))

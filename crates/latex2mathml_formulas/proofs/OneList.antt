@@ -1,5 +1,5 @@
 -- A text has exactly one list of slices, and so exactly one token list.
-use Rattle.std.proofs.Common.{◌≡◌, ℕ, zero, suc, ◌<◌, Bool, true, false, ◌&&◌, List, [], ◌∷◌, ◌++◌, map, drop, codes, length, refl, sym, ap, subst, ◌∙◌, Option, Some, ◌⊎◌, inl, inr, append_assoc, arith}
+use Rattle.std.proofs.Common.{◌≡◌, ℕ, zero, suc, ◌<◌, Bool, true, false, ◌&&◌, List, [], ◌∷◌, ◌++◌, map, drop, codes, length, refl, sym, ap, subst, ◌∙◌, Option, Some, None, ◌⊎◌, inl, inr, append_assoc, arith}
 use Rattle.std.proofs.lemmas.Bool.{cases_Bool}
 use Rattle.std.proofs.lemmas.Bool.Decides.{nat_tests}
 use Rattle.std.specs.Char.{is_ascii_digit, is_ascii_alphabetic}
@@ -12,6 +12,7 @@ use Rattle.latex2mathml_tokens.specs.Commands.{command_token}
 use Rattle.latex2mathml_formulas.specs.Cutting.{slice, run_of, behind_run, first_slice, slices_within, slices_of}
 use Rattle.latex2mathml_formulas.specs.Lexing.{BeginsWith, IsLongestRun}
 use Rattle.latex2mathml_formulas.specs.Spelling.{Slice, IsStep, HasSlices, HasTokens, takes_digit, is_period, is_equals_sign, begins_longer, character_token, character, colon, colon_equals, number, digit, symbol_command, letter_command, lone_backslash}
+use Rattle.latex2mathml_formulas.specs.TokenLists.{HasOneTokenList}
 use Rattle.latex2mathml_tokens.specs.Tok.{Tok, Number, Command, Paren, Operator}
 use Rattle.latex2mathml_formulas.proofs.FirstSlices.{run_whole, behind_whole, slice_of, Dark, dark_stops, dark_some, spells_dark}
 use Rattle.latex2mathml_formulas.proofs.Numbers.{number_whole, number_parts}
@@ -170,3 +171,14 @@ pub at_most_one : (p : Option Tok) (text : List ℕ) (ts us : List Tok) → HasT
 at_most_one p text ts us a b =
     let same : a.0 ≡ b.0 = sym (one_cut (takes_digit p) text a.0 a.1) ∙ one_cut (takes_digit p) text b.0 b.1 in
     a.2 ∙ ap (map (λ s. s.token)) same ∙ sym b.2
+
+one_slicing : (text : List ℕ) (slices others : List Slice) → HasSlices false text slices → HasSlices false text others → slices ≡ others
+one_slicing text slices others h k = sym (one_cut false text slices h) ∙ one_cut false text others k
+
+-- the law
+pub has_one_list : (text : List ℕ) → HasOneTokenList text
+has_one_list text = record {
+  one_cut = one_slicing text;
+  some = some_list None text;
+  one = at_most_one None text;
+}

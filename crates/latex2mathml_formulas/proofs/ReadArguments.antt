@@ -3,28 +3,30 @@
 use Rattle.std.proofs.Common.{ℕ, Bool, true, false, List, [], ◌∷◌, Option, Some, None, codes, cond}
 use Rattle.std.specs.Str.{bytes_eq, encode_utf8_all}
 use Rattle.latex2mathml_nodes.specs.Arguments.{HasNoArgument, HaveNoArgument}
-use Rattle.latex2mathml_formulas.specs.Grammar.{Sort, environment, sized, stretching, with_fence, Rule, gives, refuses, reads_part, reads_members, reads_sign, takes_token, sees_token, takes_letters, rule, primed, scripted, Outcome, Read, Refused, first_or_end, Reads, core_at_end, core_begun, single_read, node_read, ReadsRule, rule_gives, rule_refuses, part_read, part_refused, members_read, members_refused, sign_stands, sign_missing, token_taken, token_at_end, token_seen, letters_taken, ReadsAll, formula_ends, group_ends, never_closed, member_read, later_refused, member_refused, Reading}
+use Rattle.latex2mathml_formulas.specs.Grammar.{environment, sized, stretching, with_fence, Rule, rule, primed, scripted, Outcome, Read, Reading}
 use Rattle.latex2mathml_nodes.specs.Productions.{environment_tree, fence_of, fenced_matrix, matrix_of, spread, stretched_of, grouped}
 use Rattle.latex2mathml_tokens.specs.Tok.{Tok, EOF, Begin, Paren, LBrace, Left, Right, Middle, Frac, Binom, Overset, Underset, Overbrace, Underbrace, Sqrt, Integral, Lim, BigOp, Style, Big, Over, Under, OperatorName, Slashed, Text}
 use Rattle.latex2mathml_nodes.specs.Style.{styled, all_styled}
 use Rattle.latex2mathml_nodes.specs.Tree.{Tree, Trees, letter, operator, other_operator, row, no_trees, more_trees, trees_of}
 use Rattle.latex2mathml_tokens.specs.declared.attribute.ColumnAlign.TheVariants as align
 use Rattle.latex2mathml_tokens.specs.declared.attribute.Variant.{Variant}
+use Rattle.latex2mathml_formulas.proofs.Kept.{Property, KeepsRule, IsKept, AllTokens, HasTrees, read_all}
 
 -- no function in any of the trees has an argument
 abbrev pub NoneHasArgument : List Tree → Type 0
 NoneHasArgument xs = HaveNoArgument (trees_of xs)
 
--- where the parts that a rule reads have no argument, what it gives has none
+-- no function has an argument
+abbrev no_argument : Property
+no_argument = record {
+  of_tree = HasNoArgument;
+  of_trees = NoneHasArgument;
+  of_refusal = λ refusal. Unit {0};
+  of_token = λ t. Unit {0};
+}
+
 abbrev Keeps : Rule → Type 0
-Keeps (gives x) = HasNoArgument x
-Keeps (refuses r) = Unit {0}
-Keeps (reads_part s then) = (x : Tree) → HasNoArgument x → Keeps (then x)
-Keeps (reads_members end then) = (xs : List Tree) → NoneHasArgument xs → Keeps (then xs)
-Keeps (reads_sign t a b) = Keeps a × Keeps b
-Keeps (takes_token then) = (t : Tok) → Keeps (then t)
-Keeps (sees_token then) = (t : Tok) → Keeps (then t)
-Keeps (takes_letters then) = (cs : List ℕ) → Keeps (then cs)
+Keeps r = KeepsRule no_argument r
 
 keeps_group : (xs : List Tree) → NoneHasArgument xs → HasNoArgument (grouped xs)
 keeps_group [] h = tt
@@ -88,13 +90,13 @@ keeps (BigOp c) = (λ x h. (λ y i. (tt, h, i), (tt, h)), (λ y i. (λ x h. (tt,
 keeps (Integral c) = (λ x h. (λ y i. (tt, h, i), (tt, h)), (λ y i. (λ x h. (tt, h, i), (tt, i)), tt))
 keeps (Lim name) = (λ x h. (tt, h), tt)
 keeps (Style variant) = λ x h. keeps_style variant x h
-keeps (Big size) = λ t. keeps_size size t
-keeps Text = λ before cs behind. tt
-keeps OperatorName = λ before cs behind. tt
-keeps Slashed = λ before x h behind. h
-keeps Left = λ t. keeps_fence Left t (fence_of t) _ (λ opening xs h u. keeps_fence Right u (fence_of u) _ (λ close. keeps_group xs h))
-keeps Middle = λ t x h. keeps_stretch t x
-keeps Begin = λ before cs behind xs h again ds last. keeps_environment (encode_utf8_all cs) (grouped xs) (keeps_group xs h)
+keeps (Big size) = λ t free. keeps_size size t
+keeps Text = λ before free cs behind free'. tt
+keeps OperatorName = λ before free cs behind free'. tt
+keeps Slashed = λ before free x h behind free'. h
+keeps Left = λ t free. keeps_fence Left t (fence_of t) _ (λ opening xs h u free'. keeps_fence Right u (fence_of u) _ (λ close. keeps_group xs h))
+keeps Middle = λ t free x h. keeps_stretch t x
+keeps Begin = λ before free cs behind free' xs h again free'' ds last free'''. keeps_environment (encode_utf8_all cs) (grouped xs) (keeps_group xs h)
 keeps t = tt
 
 keeps_primed : (x : Tree) → HasNoArgument x → Keeps (primed x)
@@ -103,44 +105,24 @@ keeps_primed x h = ((h, tt), h)
 keeps_scripted : (x : Tree) → HasNoArgument x → Keeps (scripted x)
 keeps_scripted x h = (λ sub i. (h, i), (λ sup i. (h, i), h))
 
--- what was read, if anything, has no argument
-abbrev NoArgumentRead : Outcome Tree → Type 0
-NoArgumentRead (Read x rest) = HasNoArgument x
-NoArgumentRead (Refused r) = Unit {0}
+no_argument_kept : IsKept no_argument
+no_argument_kept = record {
+  rules = λ t free. keeps t;
+  primes = keeps_primed;
+  scripts = keeps_scripted;
+  at_end = tt;
+  core_there = tt;
+  open_there = λ end. tt;
+  none = tt;
+  more = λ x xs h i. (h, i);
+}
 
-abbrev NoArgumentsRead : Outcome (List Tree) → Type 0
-NoArgumentsRead (Read xs rest) = NoneHasArgument xs
-NoArgumentsRead (Refused r) = Unit {0}
-
-mutual
-  read : {s : Sort} {l : List Tok} {o : Outcome Tree} → Reads s l o → NoArgumentRead o
-  read core_at_end = tt
-  read (core_begun {t = t} d) = read_rule (rule t) (keeps t) d
-  read (single_read d) = read_rule _ keeps_primed d
-  read (node_read d) = read_rule _ keeps_scripted d
-
-  read_rule : (r : Rule) {l : List Tok} {o : Outcome Tree} → Keeps r → ReadsRule r l o → NoArgumentRead o
-  read_rule r k rule_gives = k
-  read_rule r k rule_refuses = tt
-  read_rule r k (part_read {then = then} {x = x} d ds) = read_rule (then x) (k x (read d)) ds
-  read_rule r k (part_refused d) = tt
-  read_rule r k (members_read {then = then} {xs = xs} d ds) = read_rule (then xs) (k xs (all_read d)) ds
-  read_rule r k (members_refused d) = tt
-  read_rule r k (sign_stands {a = a} p d) = read_rule a k.0 d
-  read_rule r k (sign_missing {b = b} h d) = read_rule b k.1 d
-  read_rule r k (token_taken {then = then} {t = t} d) = read_rule (then t) (k t) d
-  read_rule r k (token_at_end {then = then} d) = read_rule (then EOF) (k EOF) d
-  read_rule r k (token_seen {then = then} {l = l} d) = read_rule (then (first_or_end l)) (k (first_or_end l)) d
-  read_rule r k (letters_taken cs {then = then} p d) = read_rule (then cs) (k cs) d
-
-  all_read : {end : Option Tok} {l : List Tok} {o : Outcome (List Tree)} → ReadsAll end l o → NoArgumentsRead o
-  all_read formula_ends = tt
-  all_read never_closed = tt
-  all_read (group_ends p) = tt
-  all_read (member_read h d ds) = (read d, all_read ds)
-  all_read (later_refused h d ds) = tt
-  all_read (member_refused h d) = tt
+any_tokens : (l : List Tok) → AllTokens no_argument l
+any_tokens [] = tt
+any_tokens (t ∷ l) = (tt, any_tokens l)
 
 pub reading_has_no_argument : (l : List Tok) (xs : List Tree) → Reading l xs → NoneHasArgument xs
 unfolding Reading
-reading_has_no_argument l xs d = all_read d
+reading_has_no_argument l xs d =
+    let read : HasTrees no_argument (Read xs []) = read_all no_argument no_argument_kept d (any_tokens l) in
+    read.0

@@ -1,6 +1,7 @@
 pub mod Characters
 pub mod Counts
 pub mod Cutting
+pub mod Dollars
 pub mod Frames
 pub mod Grammar
 pub mod Laws
@@ -10,6 +11,7 @@ pub mod Marks
 pub mod Openers
 pub mod Places
 pub mod Rendering
+pub mod RenderingLaws
 pub mod SliceRefusals
 pub mod Slices
 pub mod Spelling

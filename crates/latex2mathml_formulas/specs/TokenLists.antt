@@ -1,11 +1,13 @@
 -- The laws of the spelling, and of the reading of what is spelled: they hold of every text.
-use Rattle.std.specs.Prelude.{◌≡◌, ℕ, List, None}
+use Rattle.std.specs.Prelude.{◌≡◌, ℕ, false, List, None}
 use Rattle.latex2mathml_formulas.specs.Laws.{HasOneReading}
-use Rattle.latex2mathml_formulas.specs.Spelling.{HasTokens}
+use Rattle.latex2mathml_formulas.specs.Spelling.{Slice, HasSlices, HasTokens}
 use Rattle.latex2mathml_tokens.specs.Tok.{Tok}
 
 -- the text, a list of characters, has exactly one token list
 pub record HasOneTokenList (text : List ℕ) : Type 0 where
+  -- two cuts of it into slices are the same slices
+  pub one_cut : (slices others : List Slice) → HasSlices false text slices → HasSlices false text others → slices ≡ others
   -- it has a token list
   pub some : (ts : List Tok) × HasTokens None text ts
   -- two token lists of it are the same list

@@ -1,10 +1,9 @@
 //! Laws of texts, of the grammar, and of renderings.
-ghost use Rattle.std.specs.Prelude.{ℕ, List, map};
+ghost use Rattle.std.specs.Prelude.{map};
 ghost use Rattle.std.specs.Str.{chars};
 ghost use Rattle.latex2mathml_formulas.specs.Laws.{HasOneReading, IsReadBySlices, IsRefusedBySlices, IsSliced};
-ghost use Rattle.latex2mathml_nodes.specs.MathSchema.{IsMathElement};
 ghost use Rattle.latex2mathml_formulas.specs.Places.{HasPlaces, SpaceChangesNothing};
-ghost use Rattle.latex2mathml_formulas.specs.Rendering.{IsRendering};
+ghost use Rattle.latex2mathml_formulas.specs.RenderingLaws.{HasOneRendering, RendersDollarFree, RendersElements, RenderingsHold};
 ghost use Rattle.latex2mathml_tokens.specs.Tok.{tok};
 ghost use Rattle.latex2mathml_formulas.specs.TokenLists.{HasOneTokenList, TextHasOneReading};
 
@@ -50,11 +49,32 @@ pub fn refused_by_slices()
 
 /// Each rendering of a text is one `math` element that obeys the child table.
 pub fn rendering(text: &str, display: DisplayStyle)
-    ensures { (markup : List ℕ) → IsRendering text.now display markup → IsMathElement markup }
+    ensures { RendersElements text.now display }
 {
     let _ = text;
     let _ = display;
 }
+
+/// No rendering of a formula holds a dollar sign.
+pub fn dollar_free(text: &str)
+    ensures { RendersDollarFree text.now }
+{
+    let _ = text;
+}
+
+/// A formula has exactly one rendering or exactly one refusal.
+pub fn one_rendering(text: &str, display: DisplayStyle)
+    ensures { HasOneRendering text.now display }
+{
+    let _ = text;
+    let _ = display;
+}
+
+/// Each formula has exactly one rendering, which is one `math` element and holds no dollar sign, or exactly one refusal,
+/// which is never for dollar signs.
+pub fn renderings()
+    ensures { RenderingsHold }
+{}
 
 /// A place lies between each two tokens of a text that stand side by side.
 pub fn places(text: &str)

@@ -3,12 +3,12 @@
 //! The crate `latex2mathml` hands on what its callers need of this one.
 #![tactic(auto)]
 
-ghost use Rattle.std.specs.Prelude.{IfOk, is_ok, string_bytes};
+ghost use Rattle.std.specs.Prelude.{◌≢◌, ◌≤◌, IfOk, is_ok, length, string_bytes};
 ghost use Rattle.std.specs.Str.{chars};
 ghost use Rattle.latex2mathml_formulas.specs.Counts.{IsComparisonCount, IsTokenCount};
 ghost use Rattle.latex2mathml_nodes.specs.MathSchema.{IsMathElement};
 ghost use Rattle.latex2mathml_formulas.specs.Openers.{IsFrameCount};
-ghost use Rattle.latex2mathml_tokens.specs.Refusal.{IfRefused};
+ghost use Rattle.latex2mathml_tokens.specs.Refusal.{IfRefused, InvalidNumberOfDollarSigns};
 ghost use Rattle.latex2mathml_formulas.specs.Rendering.{IsRendering, IsFormulaRefusal};
 
 mod formula;
@@ -25,8 +25,15 @@ use std::alloc::Global;
 /// The `math` element of a formula.
 ///
 /// A character or a command that has no meaning is no refusal: it stands in the markup as
-/// `<mtext>[PARSE ERROR: ..]</mtext>`. [`LatexError::UnexpectedToken`] comes where a group is open at the end of the
-/// text, and [`LatexError::OutOfMemory`] where an allocation was refused. An `Err` leaves nothing behind.
+/// `<mtext>[PARSE ERROR: ..]</mtext>`. An `Err` leaves nothing behind:
+///
+/// - [`LatexError::UnexpectedToken`]: a group is open at the end of the text, or no parenthesis follows a size.
+/// - [`LatexError::MissingParensethis`]: no fence follows `\left` or `\right`, or `\middle` stands before what does not
+///   stretch.
+/// - [`LatexError::UnknownEnvironment`]: `\begin` names an environment that there is not.
+/// - [`LatexError::OutOfMemory`]: an allocation was refused.
+///
+/// [`LatexError::InvalidNumberOfDollarSigns`] never comes: it is a refusal of documents.
 ///
 /// Neither reading nor printing recurses as deep as braces and scripts stand one in the other: what is nested deep takes
 /// memory for a list.
@@ -41,6 +48,7 @@ pub fn latex_to_mathml(
         IsRendering latex.now display (string_bytes markup)) }
     ensures element { IfOk result (λ markup. IsMathElement (string_bytes markup)) }
     ensures refusal { IfRefused result (IsFormulaRefusal latex.now) }
+    ensures dollars { IfRefused result (λ refusal. refusal ≢ InvalidNumberOfDollarSigns) }
 {
     let (result, _) = latex_to_mathml_counted(alloc, latex, display);
     result
@@ -49,7 +57,7 @@ pub fn latex_to_mathml(
 /// How many steps a reading took.
 #[derive(Debug, Clone, Copy, PartialEq, Eq)]
 pub struct Steps {
-    /// How many tokens were taken from the text.
+    /// How many tokens were taken from the text: at most as many as it has bytes.
     pub tokens: u128,
     /// How many names of the command table were compared with a command's name.
     pub comparisons: u128,
@@ -67,7 +75,9 @@ pub fn latex_to_mathml_counted(
         IsRendering latex.now display (string_bytes markup)) }
     ensures element { IfOk result.0 (λ markup. IsMathElement (string_bytes markup)) }
     ensures refusal { IfRefused result.0 (IsFormulaRefusal latex.now) }
+    ensures dollars { IfRefused result.0 (λ refusal. refusal ≢ InvalidNumberOfDollarSigns) }
     ensures tokens { IsTokenCount (chars latex.now) (is_ok result.0) result.1.tokens }
+    ensures length { result.1.tokens ≤ length latex.now }
     ensures comparisons { IsComparisonCount (chars latex.now) (is_ok result.0)
         result.1.comparisons }
     ensures frames { IsFrameCount (chars latex.now) result.1.tokens result.1.frames }

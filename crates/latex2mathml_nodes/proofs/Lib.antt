@@ -5,6 +5,7 @@ pub mod Elements
 pub mod Leads
 pub mod Leaves
 pub mod Members
+pub mod Pages
 pub mod Pieces
 pub mod PrintWeights
 pub mod Prints

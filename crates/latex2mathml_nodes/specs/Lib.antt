@@ -4,6 +4,7 @@ pub mod Held
 pub mod Layout
 pub mod Markup
 pub mod MathSchema
+pub mod Pages
 pub mod Piece
 pub mod Print
 pub mod PrintWeight

@@ -3,6 +3,7 @@ ghost use Rattle.std.specs.Prelude.{◌≡◌};
 ghost use Rattle.latex2mathml_nodes.specs.Arguments.{HasNoArgument};
 ghost use Rattle.latex2mathml_nodes.specs.Markup.{IsBalanced};
 ghost use Rattle.latex2mathml_nodes.specs.MathSchema.{IsOneElement};
+ghost use Rattle.latex2mathml_nodes.specs.Pages.{JoinsMarkup};
 ghost use Rattle.latex2mathml_nodes.specs.Print.{print};
 ghost use Rattle.latex2mathml_nodes.specs.Style.{styled};
 ghost use Rattle.latex2mathml_nodes.specs.Tree.{tree};
@@ -38,3 +39,9 @@ pub fn one_element(node: &Node)
 {
     let _ = node;
 }
+
+/// Balanced markup stays balanced, one behind the other and within an element, and so do pages: markup in which each
+/// element that the child table names obeys it. A `math` element may stand in either.
+pub fn joined_markup()
+    ensures { JoinsMarkup }
+{}

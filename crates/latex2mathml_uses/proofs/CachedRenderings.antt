@@ -6,21 +6,14 @@ use Rattle.std.specs.HashMap.{HashMap, get_by_text}
 use Rattle.std.specs.Map.{update}
 use Rattle.std.specs.Str.{bytes_eq, chars}
 use Rattle.latex2mathml_tokens.specs.declared.DisplayStyle.{DisplayStyle}
-use Rattle.latex2mathml_formulas.specs.Grammar.{Reading}
-use Rattle.latex2mathml_formulas.specs.Rendering.{IsRendering, math_print}
-use Rattle.latex2mathml_formulas.specs.TokenLists.{TextHasOneReading}
+use Rattle.latex2mathml_formulas.specs.Rendering.{IsRendering}
+use Rattle.latex2mathml_formulas.specs.RenderingLaws.{HasOneRendering}
 use Rattle.latex2mathml_uses.specs.Cached.{HoldsRenderings, IsOnlyRendering}
 
-one_rendering : (text : List ℕ) (display : DisplayStyle) (markup other : List ℕ) → TextHasOneReading (chars text) → IsRendering text display markup → IsRendering text display other → other ≡ markup
-unfolding IsRendering
-one_rendering text display markup other one (ts, h, d) (us, k, e) =
-    let same : ts ≡ us = one.one_list.one ts us h k in
-    e.2 ∙ ap (math_print display) ((one.read us k).one_reading e.0 d.0 e.1 (subst (λ l. Reading l d.0) same d.1)) ∙ sym d.2
-
 -- what is rendered once is the only rendering
-pub only_rendering : (text : List ℕ) (display : DisplayStyle) (markup : List ℕ) → TextHasOneReading (chars text) → IsRendering text display markup → IsOnlyRendering text display markup
+pub only_rendering : (text : List ℕ) (display : DisplayStyle) (markup : List ℕ) → HasOneRendering text display → IsRendering text display markup → IsOnlyRendering text display markup
 only_rendering text display markup one is =
-    record { rendering = is; no_other = λ other also. one_rendering text display markup other one is also }
+    record { rendering = is; no_other = λ other also. one.one_rendering other markup also is }
 
 -- what is lent from a map holds what is said of the map
 pub lent : {Y : Type 0} (P : List ℕ → Type 0) (o : Option (Bor (String Y))) (m : Option (String Y)) → option_copied o ≡ m → IfSome (option_map string_bytes m) P → IfSome o (λ x. P (string_bytes x.now))

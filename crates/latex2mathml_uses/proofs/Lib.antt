@@ -1,3 +1,2 @@
 mod CachedRenderings
-mod Markups
-mod Mending
+mod SecondRuns

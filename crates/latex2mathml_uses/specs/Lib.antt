@@ -1,3 +1,4 @@
+pub mod Builds
 pub mod Cached
 pub mod Caches
 pub mod Limited

@@ -1,45 +1,65 @@
 //! A build that may run again over what it wrote.
-ghost use Rattle.std.specs.Prelude.{ℕ, List, IfOk, IsFalse, MatchOption, string_bytes};
+ghost use Rattle.std.specs.Prelude.{◌≡◌, ℕ, List, IfErr, IfOk, IsFalse, MatchOption, string_bytes};
 ghost use Rattle.std.specs.Io.KnownBytes.{Consumes};
-ghost use Rattle.latex2mathml.specs.Documents.{IsAnswer, IsRefusal};
+ghost use Rattle.latex2mathml.specs.Documents.{IsAnswer};
 ghost use Rattle.latex2mathml.specs.DocumentLaws.{IsOwnAnswer};
 ghost use Rattle.latex2mathml.specs.Dollars.{IsDollarFree};
-ghost use Rattle.latex2mathml_tokens.specs.Refusal.{IfRefused};
+ghost use Rattle.latex2mathml_uses.specs.Builds.{IsFaultOf, page_text};
 
-use latex2mathml::{FileFault, LatexError, Reading, Source, laws, read_document, replace};
+use latex2mathml::{FileFault, Reading, Source, Stream, laws, read_document};
 use std::alloc::Global;
 
 /// What a run of the build writes in place of the page that it reads: its answer where the page holds a dollar sign, and
-/// otherwise nothing, since the page is its own answer.
+/// otherwise nothing, since the page is its own answer. What it writes is its own answer too, so the next run writes
+/// nothing.
 pub fn rewritten<S: Source>(alloc: Global, source: &mut S) -> Result<Option<String>, FileFault>
     requires unfailed { IsFalse (S.has_failed source.old) }
     requires unended { IsFalse (S.has_ended source.old) }
     ensures { IfOk result (λ written. (page : List ℕ)
         × Consumes (S.remaining source.old) (S.remaining source.new) page
-        × MatchOption written (IsDollarFree page × IsOwnAnswer page)
-        (λ answer. (¬ IsDollarFree page) × IsAnswer page (string_bytes answer))) }
+        × MatchOption written (IsDollarFree page × IsOwnAnswer page) (λ answer.
+        (¬ IsDollarFree page) × IsAnswer page (string_bytes answer) × IsOwnAnswer (string_bytes answer))) }
 {
+    laws::answers();
     match read_document(alloc, source)? {
         Reading::Changed(answer) => Ok(Some(answer)),
-        Reading::Unchanged(page) => {
-            laws::repeated(page.as_str());
-            Ok(None)
-        }
+        Reading::Unchanged(_) => Ok(None),
     }
 }
 
 /// The page that two runs of a build leave of a document. The second leaves the page of the first as it is, and refuses
 /// nothing in it.
-pub fn built_twice(alloc: Global, document: &str) -> Result<String, LatexError>
-    ensures answer { IfOk result (λ page. IsAnswer document.now (string_bytes page)) }
-    ensures own { IfOk result (λ page. IsOwnAnswer (string_bytes page)) }
-    ensures refusal { IfRefused result (IsRefusal document.now) }
+pub fn built_twice<S: Source>(alloc: Global, source: &mut S) -> Result<String, FileFault>
+    requires unfailed { IsFalse (S.has_failed source.old) }
+    requires unended { IsFalse (S.has_ended source.old) }
+    ensures page { IfOk result (λ page. (document : List ℕ)
+        × Consumes (S.remaining source.old) (S.remaining source.new) document
+        × IsAnswer document (string_bytes page)
+        × IsOwnAnswer (string_bytes page)) }
+    ensures fault { IfErr result (λ fault. (document : List ℕ)
+        × Consumes (S.remaining source.old) (S.remaining source.new) document
+        × IsFaultOf document fault) }
 {
-    laws::repeated(document);
-    let first = replace(alloc, document)?;
-    match replace(alloc, first.as_str()) {
-        Ok(second) => Ok(second),
-        Err(LatexError::OutOfMemory) => Err(LatexError::OutOfMemory),
-        Err(_) => unreachable!(),
+    laws::answers();
+    let page = page_of(read_document(alloc, source)?);
+    let mut written = Stream {
+        inner: page.as_bytes(),
+        failed: false,
+        ended: false,
+    };
+    match read_document(alloc, &mut written) {
+        Ok(Reading::Changed(_)) => unreachable!(),
+        Ok(Reading::Unchanged(again)) => Ok(again),
+        Err(fault) => Err(fault),
+    }
+}
+
+/// The page that a run of the build leaves.
+fn page_of(reading: Reading) -> String
+    ensures { string_bytes result ≡ page_text reading }
+{
+    match reading {
+        Reading::Changed(answer) => answer,
+        Reading::Unchanged(page) => page,
     }
 }

@@ -83,7 +83,7 @@ fn kept(
         return Ok(copy);
     }
     let markup = latex_to_mathml(alloc, formula, display)?;
-    laws::one_reading(formula);
+    laws::one_rendering(formula, display);
     let key = String::from_str(alloc, formula)?;
     let copy = markup.clone()?;
     map.insert(key, copy)?;

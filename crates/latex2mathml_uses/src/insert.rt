@@ -1,16 +1,20 @@
-//! A page that is built from its front.
-ghost use Rattle.std.specs.Prelude.{◌≡◌, ℕ, List, ◌++◌, OnErr, OnOk, string_bytes};
+//! A page that is built from its front, and a document in a page.
+ghost use Rattle.std.specs.Prelude.{◌≡◌, ℕ, List, ◌++◌, IfOk, OnErr, OnOk, codes, string_bytes};
+ghost use Rattle.latex2mathml.specs.Documents.{IsAnswer, IsRefusal};
+ghost use Rattle.latex2mathml.specs.Surroundings.{HasPageProse};
 ghost use Rattle.latex2mathml_nodes.specs.Markup.{IsBalanced};
+ghost use Rattle.latex2mathml_nodes.specs.Pages.{IsPage};
 ghost use Rattle.latex2mathml_tokens.specs.Refusal.{IfRefused};
 ghost use Rattle.latex2mathml_formulas.specs.Rendering.{IsFormulaRefusal, IsRendering};
 
-use latex2mathml::{DisplayStyle, LatexError, latex_to_mathml};
+use latex2mathml::{DisplayStyle, LatexError, latex_to_mathml, laws, replace};
 use std::alloc::Global;
 
 /// A page that holds nothing yet.
 pub fn blank(alloc: Global) -> String
     ensures { IsBalanced (string_bytes result) }
 {
+    laws::joined_markup();
     String::new(alloc)
 }
 
@@ -29,7 +33,23 @@ pub fn insert(
     ensures unchanged { OnErr result (string_bytes page.new ≡ string_bytes page.old) }
     ensures refusal { IfRefused result (IsFormulaRefusal formula.now) }
 {
+    laws::joined_markup();
     let markup = latex_to_mathml(alloc, formula, display)?;
     page.push_str(markup.as_str())?;
     Ok(())
+}
+
+/// A document as an article of a page. Where the prose is that of a page, around whatever its formulas are, so is the
+/// article: its tags balance, and each `math` element in it obeys the child table.
+pub fn article(alloc: Global, document: &str) -> Result<String, LatexError>
+    requires { HasPageProse document.now }
+    ensures answer { IfOk result (λ article. (answer : List ℕ) × IsAnswer document.now answer
+        × (string_bytes article ≡ codes "<article>" ++ (answer ++ codes "</article>"))) }
+    ensures page { IfOk result (λ article. IsPage (string_bytes article)) }
+    ensures refusal { IfRefused result (IsRefusal document.now) }
+{
+    laws::answers();
+    laws::joined_markup();
+    let answer = replace(alloc, document)?;
+    Ok(format!(in alloc; "<article>{answer}</article>")?)
 }

@@ -7,7 +7,7 @@ ghost use Rattle.latex2mathml_tokens.specs.declared.DisplayStyle.TheVariants.{In
 ghost use Rattle.latex2mathml_uses.specs.Mistakes.{mistake_of};
 ghost use Rattle.latex2mathml_uses.specs.declared.refusal.Mistake.TheVariants.{Dollars};
 
-use latex2mathml::{DisplayStyle, LatexError, latex_to_mathml, replace};
+use latex2mathml::{DisplayStyle, LatexError, latex_to_mathml, laws, replace};
 use std::alloc::{AllocError, Global};
 
 /// What an author is to mend.
@@ -48,6 +48,7 @@ pub fn in_document(alloc: Global, document: &str) -> Result<Option<Mistake>, All
         (λ mistake. (refusal : Refusal) × IsRefusal document.now refusal × (mistake ≡ mistake_of refusal))) }
     ensures dollars { IfOk result (λ found. (found ≡ Some Dollars) ↔ HasNoCut document.now) }
 {
+    laws::answers();
     match replace(alloc, document) {
         Ok(_) => Ok(None),
         Err(LatexError::UnexpectedToken { .. }) => Ok(Some(Mistake::Unfinished)),

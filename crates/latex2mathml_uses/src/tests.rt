@@ -106,7 +106,7 @@ fn source(text: &str) -> Stream<&[u8]>
 
 #[test]
 fn a_build_that_runs_twice(rt: HostRuntime) -> Result<(), Fail> {
-    let page = built_twice(rt.alloc(), "$x$")?;
+    let page = built_twice(rt.alloc(), &mut source("$x$"))?;
     assert!(rt;
         page.as_str()
             == "<math xmlns=\"http://www.w3.org/1998/Math/MathML\" display=\"inline\"><mi>x</mi></math>"

@@ -6,4 +6,4 @@ use Rattle.latex2mathml_c.proofs.latex2mathml_formula.Goals as goal
 
 pub returns-clause-length : goal.returns-clause-length
 returns-clause-length c some =
-    subst (λ d. IsLength (Formula d) c.args.latex.now c.call.new.needed) c.display.ensures (needed_length (Formula c.display.result) c.args.latex.now c.call.result c.code.result (record { old = c.args.out.now; new = c.call.new.out; needed = c.call.new.needed }) c.code.ensures c.call.ensures.outcome some)
+    subst (λ d. IsLength (Formula d) c.args.latex.now c.call.new.needed) c.display.ensures (needed_length c.renderings.ensures c.answers.ensures (Formula c.display.result) c.args.latex.now c.call.result c.code.result (record { old = c.args.out.now; new = c.call.new.out; needed = c.call.new.needed }) c.code.ensures c.call.ensures.outcome some)

@@ -2,7 +2,7 @@
 import ctypes
 import pathlib
 import platform
-from typing import Any
+from typing import Any, List
 
 DONE, REFUSED, NOT_UTF8, TOO_SMALL, OUT_OF_MEMORY = range(5)
 
@@ -26,7 +26,7 @@ def _load() -> ctypes.CDLL:
         library = ctypes.CDLL(str(path))
     except OSError as error:
         raise ImportError(f"latex2mathml_proved needs the GNU C library, of the version that its wheel names: {error}") from error
-    room = [ctypes.c_char_p, ctypes.c_size_t, ctypes.POINTER(ctypes.c_size_t)]
+    room: List[Any] = [ctypes.c_char_p, ctypes.c_size_t, ctypes.POINTER(ctypes.c_size_t)]
     library.latex2mathml_formula.argtypes = [ctypes.c_char_p, ctypes.c_size_t, ctypes.c_bool, *room]
     library.latex2mathml_formula.restype = ctypes.c_uint32
     library.latex2mathml_document.argtypes = [ctypes.c_char_p, ctypes.c_size_t, *room]

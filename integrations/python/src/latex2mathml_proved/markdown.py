@@ -8,7 +8,7 @@ digit directly behind, as between two prices.
 import logging
 import re
 import xml.etree.ElementTree as etree
-from typing import Any, List, NamedTuple, Optional, Tuple
+from typing import Any, Dict, List, NamedTuple, Optional, Tuple
 
 from markdown import Markdown
 from markdown.blockprocessors import BlockProcessor
@@ -193,7 +193,7 @@ class Latex2MathML(Extension):
     """The extension. Its options are `names`, `strict` and `page`; a name that is none raises `ValueError`."""
 
     def __init__(self, **options: Any):
-        self.config = {
+        self.config: Dict[str, List[Any]] = {
             "names": [True, "True: the usual names are replaced; a mapping: those too, before the usual ones; False: none"],
             "strict": [False, "whether a formula that is refused, or has a marked error, is an error"],
             "page": ["page", "where the page finds the folder of the style sheet and the script; False: no link"],

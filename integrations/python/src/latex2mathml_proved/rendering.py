@@ -45,7 +45,7 @@ class Renderer:
             markup = f'<code class="latex2mathml-refused" title="{escape(reason)}">{escape(source)}</code>'
             return Rendering(markup, f"{source}: {reason}")
         mark = _MARK.search(markup)
-        return Rendering(markup, mark and f"{source}: marked as an error: {html.unescape(mark[1])}")
+        return Rendering(markup, f"{source}: marked as an error: {html.unescape(mark[1])}" if mark else None)
 
 
 def escape(text: str) -> str:

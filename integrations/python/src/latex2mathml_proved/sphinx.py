@@ -5,11 +5,13 @@
 """
 import os
 import re
-from typing import Any, Dict
+from typing import Any, Dict, cast
 
 from docutils import nodes
 from sphinx.application import Sphinx
+from sphinx.builders.html import StandaloneHTMLBuilder
 from sphinx.config import Config
+from sphinx.domains.math import MathDomain
 from sphinx.errors import ConfigError, SphinxError
 from sphinx.locale import _
 from sphinx.util import logging
@@ -62,7 +64,8 @@ class Visitors:
     def _markup(self, node: nodes.Element) -> str:
         source = node.astext()
         block = isinstance(node, nodes.math_block)
-        latex = aligned(source) if block and not node["nowrap"] else source
+        is_whole = node.get("no-wrap", node.get("nowrap", False))
+        latex = aligned(source) if block and not is_whole else source
         rendering = self._renderer.render(latex, block, source)
         if rendering.fault:
             self._report(node, rendering.fault)
@@ -117,20 +120,22 @@ def has_cells(latex: str) -> bool:
     return False
 
 
-def find_page_files(app: Sphinx) -> None:
+def copy_page_files(app: Sphinx) -> None:
     """Has Sphinx copy the style sheet and the script to `_static`."""
     if is_in_use(app):
         app.config.html_static_path.append(str(PAGE))
 
 
 def link_page_files(app: Sphinx, pagename: str, templatename: str, context: Dict[str, Any], doctree: Any) -> None:
-    if is_in_use(app) and (app.registry.html_assets_policy == "always" or app.env.get_domain("math").has_equations(pagename)):
+    equations = cast(MathDomain, app.env.get_domain("math"))
+    if is_in_use(app) and (app.registry.html_assets_policy == "always" or equations.has_equations(pagename)):
         app.add_css_file(STYLE_SHEET)
         app.add_js_file(SCRIPT, defer="defer")
 
 
 def is_in_use(app: Sphinx) -> bool:
-    return app.config.latex2mathml_page and app.builder.format == "html" and app.builder.math_renderer_name == NAME
+    builder = app.builder
+    return bool(app.config.latex2mathml_page) and isinstance(builder, StandaloneHTMLBuilder) and builder.math_renderer_name == NAME
 
 
 def setup(app: Sphinx) -> Dict[str, Any]:
@@ -140,6 +145,6 @@ def setup(app: Sphinx) -> Dict[str, Any]:
     app.add_config_value("latex2mathml_strict", False, "html", [bool])
     app.add_config_value("latex2mathml_page", True, "html", [bool])
     app.connect("config-inited", visitors.take_options)
-    app.connect("builder-inited", find_page_files)
+    app.connect("builder-inited", copy_page_files)
     app.connect("html-page-context", link_page_files)
     return {"parallel_read_safe": True, "parallel_write_safe": True}

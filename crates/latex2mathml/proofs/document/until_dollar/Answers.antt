@@ -2,7 +2,7 @@ use Rattle.std.proofs.Common.{arith}
 use Rattle.std.specs.Prelude.{None}
 use Rattle.std.proofs.lemmas.Str.Pattern.{find_char}
 use Rattle.latex2mathml.specs.Documents.{whole}
-use Rattle.latex2mathml.specs.Dollars.{backslash}
+use Rattle.latex2mathml_formulas.specs.Dollars.{backslash}
 use Rattle.latex2mathml.proofs.PlainTexts.{singles, ends_whole}
 use Rattle.latex2mathml.proofs.document.until_dollar.Goals as goal
 

@@ -1,5 +1,4 @@
-use Rattle.latex2mathml.proofs.Repeating.{repeated}
 use Rattle.latex2mathml.proofs.laws.repeated.Goals as goal
 
 pub returns : goal.returns
-returns c = repeated c.args.document.now
+returns c = c.answers.ensures.repeated c.args.document.now

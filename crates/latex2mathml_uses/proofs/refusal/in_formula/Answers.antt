@@ -1,8 +1,8 @@
 use Rattle.std.proofs.Common.{refl}
-use Rattle.latex2mathml_uses.proofs.Mending.{never_dollars}
 use Rattle.latex2mathml_uses.proofs.refusal.in_formula.Goals as goal
 
 -- no formula is refused for its dollar signs
 pub unreachable-requires : goal.unreachable-requires
 unreachable-requires c =
-    never_dollars c.args.formula.now _ (rw c.in-Err-InvalidNumberOfDollarSigns.field-0-is at c.in-Err-InvalidNumberOfDollarSigns.ensures.refusal) refl
+    let other = rw c.in-Err-InvalidNumberOfDollarSigns.field-0-is at c.in-Err-InvalidNumberOfDollarSigns.ensures.dollars in
+    other refl

@@ -1,0 +1,23 @@
+-- What a text is converted as, what becomes of it, and how it is refused.
+use Rattle.std.specs.Prelude.{ℕ, List}
+use Rattle.latex2mathml.specs.Documents.{IsAnswer, IsRefusal}
+use Rattle.latex2mathml_formulas.specs.Dollars.{IsDollarFree}
+use Rattle.latex2mathml_formulas.specs.Rendering.{IsFormulaRefusal, IsRendering}
+use Rattle.latex2mathml_nodes.specs.MathSchema.{IsMathElement}
+use Rattle.latex2mathml_tokens.specs.Refusal.{Refusal}
+use Rattle.latex2mathml_tokens.specs.declared.DisplayStyle.{DisplayStyle}
+
+-- one formula, set so, or a document
+pub data Conversion : Type 0 where
+  formula : DisplayStyle → Conversion
+  document : Conversion
+
+-- a formula becomes its rendering, which is one `math` element, and a document its answer; neither holds a dollar sign
+abbrev pub IsConverted : Conversion → List ℕ → List ℕ → Type 0
+IsConverted (formula display) text markup = IsRendering text display markup × IsMathElement markup × IsDollarFree markup
+IsConverted document text markup = IsAnswer text markup × IsDollarFree markup
+
+-- the text is refused so
+abbrev pub IsRefusedAs : Conversion → List ℕ → Refusal → Type 0
+IsRefusedAs (formula display) text refusal = IsFormulaRefusal text refusal
+IsRefusedAs document text refusal = IsRefusal text refusal

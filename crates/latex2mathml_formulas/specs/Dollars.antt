@@ -1,0 +1,47 @@
+-- Texts without a dollar sign. The sign is ASCII, so it is no byte of another character, and what is said of bytes here
+-- holds of characters.
+use Rattle.std.specs.Prelude.{◌≡◌, ◌≢◌, ℕ, Bool, true, not, ◌&&◌, ◌==◌, List, [], ◌∷◌, ◌++◌}
+use Rattle.std.specs.List.{list_all}
+use Rattle.std.specs.Str.{byte}
+use Rattle.std.proofs.Common.{⊎_elim, refl, ap, ◌∙◌}
+use Rattle.std.proofs.lemmas.Bool.{and_parts}
+use Rattle.std.proofs.lemmas.Bool.Decides.{eqb_tells}
+use Rattle.std.proofs.lemmas.List.Folds.{list_all-append}
+
+-- the dollar sign
+abbrev pub dollar : ℕ
+dollar = byte "$"
+
+-- what keeps a dollar sign from beginning or ending a formula
+abbrev pub backslash : ℕ
+backslash = byte "\\"
+
+-- any byte or character but the dollar sign
+abbrev pub is_other : ℕ → Bool
+is_other c = not (c == dollar)
+
+-- the text holds no dollar sign
+abbrev pub IsDollarFree : List ℕ → Type 0
+IsDollarFree text = list_all is_other text ≡ true
+
+-- Lemmas: texts put together.
+
+pub other : (c : ℕ) → c ≢ dollar → is_other c ≡ true
+other c n = ⊎_elim (λ h. absurd (n h.1)) (λ h. ap not h.0) (eqb_tells c dollar)
+
+-- two texts side by side
+pub free_both : (a b : List ℕ) → IsDollarFree a → IsDollarFree b → IsDollarFree (a ++ b)
+free_both a b x y = list_all-append is_other a b ∙ ap (λ q. q && list_all is_other b) x ∙ y
+
+-- a byte and a text behind it
+pub free_first : (c : ℕ) (cs : List ℕ) → IsDollarFree (c ∷ cs) → is_other c ≡ true
+free_first c cs h = (and_parts (is_other c) (list_all is_other cs) h).0
+
+pub free_rest : (c : ℕ) (cs : List ℕ) → IsDollarFree (c ∷ cs) → IsDollarFree cs
+free_rest c cs h = (and_parts (is_other c) (list_all is_other cs) h).1
+
+pub free_more : (c : ℕ) (cs : List ℕ) → is_other c ≡ true → IsDollarFree cs → IsDollarFree (c ∷ cs)
+free_more c cs h k = ap (λ q. q && list_all is_other cs) h ∙ k
+
+pub free_one : (c : ℕ) → is_other c ≡ true → IsDollarFree (c ∷ [])
+free_one c h = free_more c [] h refl

@@ -1,0 +1,14 @@
+"""Instructions of a run, as valgrind counts them: they do not hang on what else the machine does."""
+import re
+
+from tests import support
+
+
+def instructions(words, stdin=b"", timeout=60):
+    """How many instructions a command takes."""
+    counted = ["valgrind", "--tool=cachegrind", "--cache-sim=no", "--cachegrind-out-file=/dev/null", *words]
+    done = support.run(counted, stdin=stdin, timeout=timeout)
+    found = re.search(rb"I +refs: +([0-9,]+)", done.stderr)
+    if not found:
+        raise RuntimeError(done.stderr.decode(errors="replace"))
+    return int(found[1].replace(b",", b""))

@@ -1,0 +1,115 @@
+"""Formulas that are a million nodes deep, or as wide, on a stack of 8 MiB: printed, in a style, and let go behind a refusal.
+Formulas a quarter as deep, on a quarter of that stack: cut off, and let go where a request for memory is refused.
+
+Each kind of node and each place in it is tried, nested in itself; `productions.py` has them.
+"""
+import resource
+import unittest
+
+from tests import faulty, support
+from tests.productions import MISSING, PRODUCTIONS, WIDE
+
+# Seconds that the cases of a class may take.
+LIMIT = 1800
+
+# the most that such a formula may take
+MOST_MEMORY = 500 << 20
+
+OPEN = 'The token "{}" is expected, but the token "EOF" is found."'
+NO_MEMORY = "Memory could not be found."
+# what `\middle` refuses, whatever follows
+NO_STRETCH = 'There must be a parenthesis after "Middle", but not found. Insted, "Middle" is found.'
+
+
+class Depth(support.Case):
+    nodes = 1_000_000
+    stack = 8 << 20
+
+    def limit_stack(self):
+        resource.setrlimit(resource.RLIMIT_STACK, (self.stack, self.stack))
+
+    def answers(self, formula, contents):
+        """Checks the whole answer, byte for byte, and the most memory that was held."""
+        done, counts = faulty.counts_of([support.program(), "inline"], stdin=formula.encode(), preexec_fn=self.limit_stack)
+        self.assertEqual((done.returncode, done.stderr), (0, b""))
+        self.assertTrue(done.stdout == faulty.math(contents) + b"\n", f"answered {support.show(done.stdout)}")
+        self.assertLessEqual(counts["peak"], MOST_MEMORY)
+
+    def is_refused(self, formula, reason):
+        done = support.run([support.program(), "inline"], stdin=formula.encode(), preexec_fn=self.limit_stack)
+        self.expect(done, 1, b"", faulty.ERROR + reason.encode() + b"\n")
+
+    def wants_memory(self, formula, request):
+        """Checks what comes of it that this request for memory is refused, and no other."""
+        fault = faulty.Fault("memory", request, request, 12)
+        words = [support.program(), "inline"]
+        done, failed = faulty.run_with(words, stdin=formula.encode(), fault=fault, preexec_fn=self.limit_stack)
+        self.assertEqual(failed, ["memory"])
+        self.expect(done, 1, b"", faulty.ERROR + NO_MEMORY.encode() + b"\n")
+
+
+@support.requires("cc")
+class Printed(Depth):
+    """The whole markup."""
+
+    def judge(self, kind):
+        levels = kind.levels(self.nodes)
+        self.answers(kind.nested(levels), kind.contents(levels))
+
+
+@support.requires("cc")
+class Styled(Depth):
+    """The whole markup of the node in bold."""
+
+    def judge(self, kind):
+        levels = kind.levels(self.nodes)
+        self.answers("\\mathbf{" + kind.nested(levels) + "}", kind.styled_contents(levels))
+
+
+class Dropped(Depth):
+    """The whole node is the member of a group that is never closed."""
+
+    def judge(self, kind):
+        self.is_refused("{" + kind.nested(kind.levels(self.nodes)), OPEN.format("RBrace"))
+
+
+@support.requires("cc")
+class Cut(Depth):
+    """The text ends in the innermost place."""
+    nodes = Depth.nodes // 4
+    stack = Depth.stack // 4
+
+    def judge(self, kind):
+        levels = kind.levels(self.nodes)
+        if kind.waits:
+            self.is_refused(kind.cut(levels), OPEN.format(kind.waits))
+        else:
+            self.answers(kind.cut(levels), kind.contents(levels, MISSING))
+
+    def test_stretched(self):
+        """`\\middle` takes an operator alone, so no node is in it, but as many as there are wait one for the other."""
+        self.is_refused("\\middle" * self.nodes + "|", NO_STRETCH)
+
+
+@support.requires("cc")
+class WithoutMemory(Depth):
+    """A request for memory is refused: the one in the middle, while the tree is half as deep."""
+    nodes = Depth.nodes // 4
+    stack = Depth.stack // 4
+
+    def judge(self, kind):
+        levels = kind.levels(self.nodes)
+        _, counts = faulty.counts_of([support.program(), "inline"], stdin=kind.nested(levels // 10).encode())
+        self.wants_memory(kind.nested(levels), counts["requests"] * 5)
+
+
+def add_cases():
+    for way in (Printed, Styled, Dropped, Cut, WithoutMemory):
+        for kind in PRODUCTIONS + WIDE:
+            setattr(way, f"test_{kind.name.replace(' ', '_').replace(',', '')}", lambda self, kind=kind: self.judge(kind))
+
+
+add_cases()
+
+if __name__ == "__main__":
+    unittest.main()

@@ -1,0 +1,245 @@
+"""Inputs and outputs of the program that fail, and what it asks of the system for them."""
+import itertools
+import os
+import pathlib
+import re
+import subprocess
+import unittest
+
+from tests import faulty, support
+from tests.faulty import ERROR, Fault
+
+UNREAD = ERROR + b"The input could not be read.\n"
+NO_TEXT = ERROR + b"The input is not UTF-8 text.\n"
+
+FORMULA = rb"a<\frac12"
+OF_FORMULA = faulty.math("<mi>a</mi><mo>&lt;</mo><mfrac><mn>1</mn><mn>2</mn></mfrac>") + b"\n"
+DOCUMENT = "é $x$ é".encode()
+OF_DOCUMENT = "é ".encode() + faulty.X + " é".encode()
+
+# a word of the program, its input, and its answer
+ANSWERS = {"inline": (FORMULA, OF_FORMULA), "document": (DOCUMENT, OF_DOCUMENT)}
+
+# an error of the device, an interruption, and a call that would have to wait
+READ_ERRORS = {"an error": 5, "an interruption": 4, "a wait": 11}
+# a full device, an interruption, a closed pipe, an error of the device, and nothing taken
+WRITE_ERRORS = {"a full device": 28, "an interruption": 4, "a closed pipe": 32, "an error": 5, "nothing": 0}
+
+# as much as the program asks for at once
+ROOM = 4096
+
+
+def stopped(count):
+    return ERROR + b"The output stopped after %d bytes.\n" % count
+
+
+def case_name(text):
+    return "test_" + re.sub(r"\W+", "_", text)
+
+
+class Streams(support.Case):
+    def run_with(self, word, stdin, **told):
+        return faulty.run_with([faulty.program(), word], stdin=stdin, **told)
+
+    def judge(self, done, status, stdout, stderr):
+        self.expect(done[0] if isinstance(done, tuple) else done, status, stdout, stderr)
+
+
+@support.requires("cc")
+class Inputs(Streams):
+    def fails_at_each_read(self, word, error):
+        """One byte a call, and one call fails, each in turn, also the one that would tell the end. Nothing behind it is read."""
+        given, answer = ANSWERS[word]
+        for number in itertools.count(1):
+            with self.subTest(call=number), open_input(given) as source:
+                done, failed = self.run_with(word, source, fault=Fault("read", number, number, error), step=1)
+                if not failed:
+                    self.assertEqual(number, len(given) + 2)
+                    self.expect(done, 0, answer)
+                    return
+                self.expect(done, 1, b"", UNREAD)
+                self.assertEqual(len(source.read()), len(given) - number + 1)
+
+    def test_formula_by_bytes(self):
+        self.judge(self.run_with("inline", FORMULA, step=1), 0, OF_FORMULA, b"")
+
+    def test_document_by_bytes(self):
+        self.judge(self.run_with("document", DOCUMENT, step=1), 0, OF_DOCUMENT, b"")
+
+
+for word, (name, error) in itertools.product(ANSWERS, READ_ERRORS.items()):
+    setattr(Inputs, case_name(f"{word} {name} at each read"),
+            lambda self, word=word, error=error: self.fails_at_each_read(word, error))
+
+
+def open_input(given):
+    """A file with these bytes, whose place a program that reads it moves."""
+    file = os.memfd_create("input")
+    os.write(file, given)
+    os.lseek(file, 0, os.SEEK_SET)
+    return open(file, "rb", buffering=0)
+
+
+# bytes that are no text: alone, behind and before what is
+NO_TEXTS = {"a beginning": b"$\xc3", "a surrogate": b"\xed\xa0\x80", "no byte of text": b"\xff", "behind a formula": b"$x$\x80",
+            "before a formula": b"\xc3$x$"}
+
+
+@support.requires("cc")
+class NoText(Streams):
+    """Each answers that the bytes are no text, however they come."""
+
+
+for (name, given), word, step in itertools.product(NO_TEXTS.items(), ("inline", "block", "document"), (None, 1)):
+    def case(self, given=given, word=word, step=step):
+        self.judge(self.run_with(word, given, step=step), 1, b"", NO_TEXT)
+    setattr(NoText, case_name(f"{word} {name} {step or ROOM} a call"), case)
+
+
+class AroundTheRoom(Streams):
+    """A character of four bytes that begins before the end of what the first call gives, at it, or behind it; then the text
+    ends, or has ended within the character.
+    """
+
+
+for before in range(ROOM - 4, ROOM + 1):
+    def document(self, before=before):
+        given = b"z" * before + "𝑥".encode()
+        self.judge(support.run([faulty.program(), "document"], stdin=given), 0, given, b"")
+    setattr(AroundTheRoom, f"test_document_behind_{before}", document)
+
+    def formula(self, before=before):
+        answer = faulty.math("<mi>z</mi>" * before + '<mi mathvariant="normal">𝑥</mi>') + b"\n"
+        self.judge(support.run([faulty.program(), "inline"], stdin=b"z" * before + "𝑥".encode()), 0, answer, b"")
+    setattr(AroundTheRoom, f"test_formula_behind_{before}", formula)
+
+    for cut, word in itertools.product((1, 2, 3), ("inline", "document")):
+        def within(self, before=before, cut=cut, word=word):
+            given = b"z" * before + "𝑥".encode()[:cut]
+            self.judge(support.run([faulty.program(), word], stdin=given), 1, b"", NO_TEXT)
+        setattr(AroundTheRoom, f"test_{word}_{cut}_bytes_behind_{before}", within)
+
+
+@support.requires("cc")
+class Outputs(Streams):
+    def stops_at_each_write(self, word, error):
+        """One byte a call, and one call fails, or takes nothing where the error is 0. Nothing behind it is written."""
+        given, answer = ANSWERS[word]
+        for number in itertools.count(1):
+            done, failed = self.run_with(word, given, fault=Fault("write", number, number, error), step=1)
+            with self.subTest(call=number):
+                if not failed:
+                    self.assertEqual(number, len(answer) + 1)
+                    self.expect(done, 0, answer)
+                    return
+                self.expect(done, 1, answer[:number - 1], stopped(number - 1))
+
+    def test_byte_by_byte(self):
+        self.judge(self.run_with("inline", FORMULA, step=1), 0, OF_FORMULA, b"")
+
+
+for word, (name, error) in itertools.product(ANSWERS, WRITE_ERRORS.items()):
+    setattr(Outputs, case_name(f"{word} {name} at each write"),
+            lambda self, word=word, error=error: self.stops_at_each_write(word, error))
+
+
+class Pipes(Streams):
+    def nobody_reads(self, word):
+        """The reader is gone before anything is written. The program is told so by an error, and no signal ends it."""
+        read, write = os.pipe()
+        os.close(read)
+        with open(write, "wb") as output:
+            done = support.run([faulty.program(), word], stdin=b"x", stdout=output, restore_signals=False)
+        self.expect(done, 1, None, stopped(0))
+
+    def test_inline(self):
+        self.nobody_reads("inline")
+
+    def test_block(self):
+        self.nobody_reads("block")
+
+    def test_document(self):
+        self.nobody_reads("document")
+
+    def test_signal(self):
+        """The same where the signal of a closed pipe does what the system has it do."""
+        read, write = os.pipe()
+        os.close(read)
+        with open(write, "wb") as output:
+            done = support.run([faulty.program(), "inline"], stdin=b"x", stdout=output)
+        self.expect(done, 1, None, stopped(0))
+
+    def test_reader_goes(self):
+        """The reader goes while more is to come than a pipe holds."""
+        given = b"z" * 1_000_000
+        with support.scratch() as folder:
+            (folder / "in").write_bytes(given)
+            with open(folder / "in", "rb") as source:
+                running = subprocess.Popen([faulty.program(), "document"], stdin=source, stdout=subprocess.PIPE,
+                                           stderr=subprocess.PIPE)
+                first = running.stdout.read(1)
+                running.stdout.close()
+                errors = running.stderr.read()
+                running.stderr.close()
+                status = running.wait(timeout=60)
+        self.assertEqual((first, status), (b"z", 1))
+        found = re.fullmatch(re.escape(ERROR) + rb"The output stopped after (\d+) bytes\.\n", errors)
+        self.assertIsNotNone(found, errors)
+        self.assertIn(int(found[1]), range(1, len(given)))
+
+
+FULL = pathlib.Path("/dev/full")
+
+
+@unittest.skipUnless(FULL.is_char_device(), f"{FULL} not found")
+class FullDevice(Streams):
+    def is_full(self, word):
+        with open(FULL, "wb") as output:
+            done = support.run([faulty.program(), word], stdin=b"x", stdout=output)
+        self.expect(done, 1, None, stopped(0))
+
+    def test_inline(self):
+        self.is_full("inline")
+
+    def test_document(self):
+        self.is_full("document")
+
+    def test_errors(self):
+        with open(FULL, "wb") as errors:
+            done = support.run([faulty.program(), "inline"], stdin=b"{x", stderr=errors)
+        self.expect(done, 1, b"", None)
+
+
+@support.requires("cc")
+class Readings(Streams):
+    """How often the program reads: two calls for a short input, of which one tells the end, and one more for each full room."""
+
+    def reads(self, word, given):
+        with open_input(given) as source:
+            done, counts = faulty.counts_of([faulty.program(), word], stdin=source)
+        self.assertIn(done.returncode, (0, 1))
+        self.assertEqual(done.stderr, b"")
+        return counts["read"]
+
+    def test_short(self):
+        for word in ("inline", "block", "document"):
+            for given in (b"", b"x", b"x" * (ROOM - 1)):
+                with self.subTest(word=word, bytes=len(given)):
+                    self.assertLessEqual(self.reads(word, given), 2)
+
+    def test_long(self):
+        for word in ("inline", "block", "document"):
+            for size in (ROOM, ROOM + 1, 1_000_000, 16_000_000 // (1 + 15 * (word != "document"))):
+                with self.subTest(word=word, bytes=size):
+                    self.assertLessEqual(self.reads(word, b"x" * size), size // ROOM + 2)
+
+    def test_writes(self):
+        """An answer is written by one call, as long as the system takes it whole."""
+        for word in ("inline", "document"):
+            with open_input(b"x" * 100_000) as source:
+                _, counts = faulty.counts_of([faulty.program(), word], stdin=source)
+            self.assertEqual(counts["write"], 1)
+
+
+if __name__ == "__main__":
+    unittest.main()

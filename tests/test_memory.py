@@ -1,0 +1,194 @@
+"""Requests for memory that are refused, of calls of the library, of `run`, and of the whole program: each in turn, and then each
+with all that follow it, until a run makes fewer requests.
+"""
+import itertools
+import unittest
+
+from tests import cases, faulty, support
+from tests.walks import Folder
+
+NO_MEMORY = b"Memory could not be found."
+OPEN_GROUP = b'The token "RBrace" is expected, but the token "EOF" is found."'
+WRONG_SIGNS = b"The number of dollar sings found is invalid."
+USAGE = b"usage: latex2mathml inline | block | document | html PATH\n"
+
+# formulas and documents, and what they come to
+ERROR_FUNCTION = r"\erf ( x ) = \frac{ 2 }{ \sqrt{ \pi } } \int_0^x e^{- t^2} \, dt"
+OF_ERROR_FUNCTION = (
+    "<mi>erf</mi><mo>(</mo><mi>x</mi><mo>)</mo><mo>=</mo><mfrac><mn>2</mn><msqrt><mi>π</mi></msqrt></mfrac>"
+    "<msubsup><mo>∫</mo><mn>0</mn><mi>x</mi></msubsup><msup><mi>e</mi><mrow><mo>-</mo><msup><mi>t</mi><mn>2</mn></msup></mrow></msup>"
+    '<mspace width="0.167em"/><mi>d</mi><mi>t</mi>')
+OF_FOO = r'<mtext>[PARSE ERROR: Undefined("Command(\"foo\")")]</mtext>'
+ENERGY = "$E = m c^2$ is"
+OF_ENERGY = faulty.math("<mi>E</mi><mo>=</mo><mi>m</mi><msup><mi>c</mi><mn>2</mn></msup>") + b" is"
+PROSE = r"Let $x$ be é, and $$\sum_a^b \frac12$$ its sum."
+OF_SUM = "<munderover><mo>∑</mo><mi>a</mi><mi>b</mi></munderover><mfrac><mn>1</mn><mn>2</mn></mfrac>"
+OF_PROSE = b"Let " + faulty.X + " be é, and ".encode() + faulty.math(OF_SUM, "block") + b" its sum."
+OF_GROUP = "<mrow><mi>a</mi><msup><mi>b</mi><mn>2</mn></msup></mrow>"
+
+
+# each rule of the grammar once, as one formula
+RULES = " ".join(formula for formula, _ in cases.every_rule())
+OF_RULES = "".join(contents for _, contents in cases.every_rule())
+
+# the words of a call, its answer, and what it answers where memory is not found
+CALLS = {
+    "a formula": ("latex_to_mathml", ERROR_FUNCTION, b"answer: " + faulty.math(OF_ERROR_FUNCTION), NO_MEMORY),
+    "an unknown command": ("latex_to_mathml", r"\foo", b"answer: " + faulty.math(OF_FOO), NO_MEMORY),
+    "each rule": ("latex_to_mathml", RULES, b"answer: " + faulty.math(OF_RULES), NO_MEMORY),
+    "an unknown environment": ("latex_to_mathml", r"\begin{foo}\foo\end{foo}",
+                               b'refusal: An unknown environment "foo" is found', NO_MEMORY),
+    "a counted formula": ("latex_to_mathml_counted", "{{a}b^2}",
+                          b"answer: " + faulty.math(OF_GROUP, "block") + b"\n8 tokens, 2 frames", NO_MEMORY),
+    "a document": ("replace", ENERGY, b"answer: " + OF_ENERGY, NO_MEMORY),
+    "a document of two formulas": ("replace", PROSE, b"answer: " + OF_PROSE, NO_MEMORY),
+    "a document with an open group": ("replace", r"$\foo$ ${$", b"refusal: " + OPEN_GROUP, NO_MEMORY),
+    "a document that is read": ("read_document", ENERGY, b"changed: " + OF_ENERGY, NO_MEMORY),
+    "a document of two formulas that is read": ("read_document", PROSE, b"changed: " + OF_PROSE, NO_MEMORY),
+    "a document without formulas that is read": ("read_document", "no sign", b"unchanged: no sign", NO_MEMORY),
+    "a document with a lone sign that is read": ("read_document", "a $x$ $", b"refusal: " + WRONG_SIGNS, NO_MEMORY),
+    "a copy of a node": ("clone", "node", b"answer: equal", b"memory allocation failed"),
+    "a copy of a token": ("clone", "token", b"answer: equal", b"memory allocation failed"),
+    "a copy of a refusal": ("clone", "refusal", b"answer: equal", b"memory allocation failed"),
+}
+
+# a word of the program, its input, and its status and streams
+RUNS = {
+    "inline": ("inline", ERROR_FUNCTION, 0, faulty.math(OF_ERROR_FUNCTION) + b"\n", b""),
+    "block": ("block", RULES, 0, faulty.math(OF_RULES, "block") + b"\n", b""),
+    "block, an unknown command": ("block", r"\foo", 0, faulty.math(OF_FOO, "block") + b"\n", b""),
+    "inline, an open group": ("inline", "{x", 1, b"", faulty.ERROR + OPEN_GROUP + b"\n"),
+    "document": ("document", ENERGY, 0, OF_ENERGY, b""),
+    "document, two formulas": ("document", PROSE, 0, OF_PROSE, b""),
+    "document, no formula": ("document", "no sign", 0, b"no sign", b""),
+    "document, an open group": ("document", r"$\foo$ ${$", 1, b"", faulty.ERROR + OPEN_GROUP + b"\n"),
+    "document, a lone sign": ("document", "$$$", 1, b"", faulty.ERROR + WRONG_SIGNS + b"\n"),
+    "a wrong word": ("inlines", "x", 2, b"", USAGE),
+}
+
+
+def one(number):
+    return faulty.Fault("memory", number, number, 12)
+
+
+def this_and_all_that_follow(number):
+    return faulty.Fault("memory", number, faulty.ALL, 12)
+
+
+WAYS = one, this_and_all_that_follow
+
+
+class Refused(support.Case):
+    """Each case runs a command with requests refused, and judges each outcome."""
+
+    def in_turn(self, words, way, judge, *, marked=False, stdin=b"", before=lambda: None):
+        """Runs the command with each request refused, in this way, until a run makes fewer.
+
+        The judge is told what came of a run, and whether a request was refused in it. `before` is called before each.
+        """
+        for number in itertools.count(1):
+            before()
+            fault = way(number)
+            done, failed = faulty.run_with(words, fault=fault, marked=marked, stdin=stdin)
+            with self.subTest(refused=str(fault) if failed else "none"):
+                judge(done, bool(failed))
+            if not failed:
+                self.assertGreater(number, 1, "no request was refused")
+                return
+
+
+class Library(Refused):
+    """Calls of the library: they answer want of memory, or what they answer with ample memory."""
+
+
+class Program(Refused):
+    """The whole program: what it does with ample memory, or one line that tells want of memory.
+
+    Where that line, or the one that is due, finds no memory itself, there is none.
+    """
+
+    def serves(self, due, done, is_refused, way):
+        status, out, errors = due
+        if (done.returncode, done.stdout, done.stderr) == due:
+            return
+        if not is_refused:
+            self.expect(done, status, out, errors)
+        self.assertEqual(done.stdout, b"")
+        if done.stderr:
+            self.expect(done, 1, b"", faulty.ERROR + NO_MEMORY + b"\n")
+        elif not (errors and done.returncode == status):
+            self.assertEqual((done.returncode, way), (1, this_and_all_that_follow), "no line where memory was left for it")
+
+
+def call(name, text, answer, wanting, way):
+    def case(self):
+        def judge(done, is_refused):
+            self.expect(done, 0, None)
+            may_be = [answer + b"\n"] + [b"refusal: " + wanting + b"\n"] * is_refused
+            self.assertIn(done.stdout, may_be)
+        self.in_turn([support.built("latex2mathml_calls"), name, text], way, judge, marked=True)
+    return case
+
+
+def serve(word, text, status, out, errors, way):
+    def case(self):
+        def judge(done, is_refused):
+            self.serves((status, out, errors), done, is_refused, way)
+        self.in_turn([support.program(), word], way, judge, stdin=text.encode())
+    return case
+
+
+def run_of_each_job(way):
+    """A test of the program's crate, which judges by itself."""
+    def case(self):
+        tests = support.ROOT / "crates/latex2mathml_app/out/latex2mathml_app_tests"
+        self.assertTrue(tests.exists(), f"{tests} is missing, which rt ci and rt test build")
+        self.in_turn([tests, "tests::runs_without_memory"], way, lambda done, _: self.expect(done, 0, None, None), marked=True)
+    return case
+
+
+def walk_of_library(way):
+    """What `convert_html` answers: a line for each member of its list."""
+    def case(self):
+        folder = Folder(self.enterContext(support.scratch()) / "site")
+
+        def judge(done, is_refused):
+            self.expect(done, 0, None)
+            is_wanting = done.stdout == b"refusal: memory allocation failed\n"
+            folder.judge(self, b"" if is_wanting else done.stdout, is_refused, way is one, is_wanting)
+        words = [support.built("latex2mathml_calls"), "convert_html", folder.path]
+        self.in_turn(words, way, judge, marked=True, before=folder.fill)
+    return case
+
+
+def walk_of_program(way):
+    """A line for each member of the list, unless the line itself finds no memory."""
+    def case(self):
+        folder = Folder(self.enterContext(support.scratch()) / "site")
+
+        def judge(done, is_refused):
+            lines = b"".join(line.removeprefix(faulty.ERROR) for line in done.stderr.splitlines(keepends=True))
+            self.assertEqual(done.stdout, b"")
+            if done.returncode or lines or not is_refused:
+                self.assertEqual(done.returncode, 1)
+            is_wanting = lines == NO_MEMORY + b"\n" or (not lines and way is this_and_all_that_follow)
+            folder.judge(self, b"" if is_wanting else lines, is_refused, way is one, is_wanting)
+        self.in_turn([support.program(), "html", folder.path], way, judge, before=folder.fill)
+    return case
+
+
+def add(where, name, case):
+    setattr(where, "test_" + name.replace(" ", "_").replace(",", ""), support.requires("cc")(case))
+
+
+for way in WAYS:
+    for name, given in CALLS.items():
+        add(Library, f"{way.__name__} of {name}", call(*given, way))
+    for name, given in RUNS.items():
+        add(Program, f"{way.__name__} of {name}", serve(*given, way))
+    add(Library, f"{way.__name__} of convert_html", walk_of_library(way))
+    add(Program, f"{way.__name__} of run", run_of_each_job(way))
+    add(Program, f"{way.__name__} of html", walk_of_program(way))
+
+if __name__ == "__main__":
+    unittest.main()

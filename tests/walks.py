@@ -1,0 +1,95 @@
+"""A folder of documents of which some are refused, and what a walk of it may answer where memory is wanting."""
+import pathlib
+
+X = b'<math xmlns="http://www.w3.org/1998/Math/MathML" display="inline"><mi>x</mi></math>'
+
+UNPAIRED = b"The number of dollar sings found is invalid."
+NO_TEXT = b"The input is not UTF-8 text."
+
+# what a request that was refused on a walk may come to
+WANTING = {
+    b"Memory could not be found.",
+    b"The directory could not be listed.",
+    b"The input could not be read.",
+    b"An entry of the directory could not be read.",
+    b"The file could not be created anew.",
+}
+
+# each file, what it holds, and what after a walk with ample memory
+FILES = {
+    ".html": (b"$x$", b"$x$"),
+    "a.html": (b"$x$", X),
+    "b.html": (b"$$$", b"$$$"),
+    "c.htm": (b"$x$", b"$x$"),
+    "d/e.html": (b"no sign", b"no sign"),
+    "f.html": (b"\xff", b"\xff"),
+    "g/h.html": (b"$x$", X),
+    "z.html": (b"$x$", X),
+}
+
+# the names below the folder in the order of the walk, with the folder itself
+WALKED = ["", ".html", "a.html", "b.html", "c.htm", "d", "d/e.html", "f.html", "g", "g/h.html", "z.html"]
+CONVERTED = ["a.html", "g/h.html", "z.html"]
+
+
+class Folder:
+    """The folder at a path. `fill` makes it anew; `judge` looks at what a walk left and told."""
+
+    def __init__(self, path):
+        self.path = pathlib.Path(path)
+        self.due = [("b.html", UNPAIRED), ("f.html", NO_TEXT)]
+
+    def fill(self):
+        for name, (held, _) in FILES.items():
+            file = self.path / name
+            file.parent.mkdir(parents=True, exist_ok=True)
+            file.write_bytes(held)
+
+    def stands(self, name):
+        """Whether the file holds what it is to hold after a walk with ample memory."""
+        return (self.path / name).read_bytes() == FILES[name][1]
+
+    def keeps(self, name):
+        """Whether the file holds what it held."""
+        return (self.path / name).read_bytes() == FILES[name][0]
+
+    def told(self, lines):
+        """The names and the faults of a walk's lines."""
+        prefix = bytes(self.path)
+        for line in lines.splitlines():
+            path, _, fault = line.partition(b": ")
+            assert path.startswith(prefix), line
+            yield path[len(prefix):].lstrip(b"/").decode(), fault
+
+    def judge(self, case, lines, is_refused, is_one, is_wanting):
+        """Checks the lines and the files after a walk in which a request was refused, or one and all that follow it.
+
+        `is_wanting` says that memory for the walk itself was not found; then there are no lines.
+        """
+        case.assertEqual([name for name in FILES if not self.keeps(name) and not self.stands(name)], [], "broken files")
+        if is_wanting:
+            case.assertTrue(is_refused)
+            done = [self.stands(name) for name in CONVERTED]
+            case.assertEqual(done, sorted(done, reverse=True), "a file behind one that was not converted")
+            return
+        told = list(self.told(lines))
+        if not is_refused:
+            case.assertTrue(self.differs_at(told, None), told)
+            return
+        self.judge_faults(case, told)
+        if is_one:
+            case.assertTrue(any(self.differs_at(told, top) for top in WALKED), told)
+
+    def judge_faults(self, case, told):
+        """Each line is of a path of the folder, in the walk's order, with a fault that it may have."""
+        places = [WALKED.index(name) for name, _ in told]
+        case.assertEqual(places, sorted(places))
+        for name, fault in told:
+            case.assertTrue((name, fault) in self.due or fault in WANTING, (name, fault))
+
+    def differs_at(self, told, top):
+        """Whether the lines and files are those of ample memory, but for those of this path and below it."""
+        def outside(name):
+            return top is None or (top != "" and name != top and not name.startswith(top + "/"))
+        lines_stand = [line for line in told if outside(line[0])] == [line for line in self.due if outside(line[0])]
+        return lines_stand and all(self.stands(name) for name in FILES if outside(name))
