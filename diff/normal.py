@@ -1,4 +1,4 @@
-"""The crate's answers brought to this repository's form, by what docs/DIFFERENCES.md lists and by nothing else.
+"""Converts the crate's answers to this repository's form, by what docs/DIFFERENCES.md lists and by nothing else.
 
 Only the crate's side is changed, what it is handed and what it answers, so the program's answer is compared byte by
 byte. Each difference is one function, and its comment says which one it is. Two of the list need none, since no formula
@@ -24,7 +24,7 @@ DERIVED_ESCAPE = re.compile(r"\\(?:u\{([0-9a-f]+)\}|(.))", re.S)
 
 @dataclass
 class Element:
-    """One element: its tags as they are printed, and what stands between them, elements and texts."""
+    """One element: its tags as they are printed, and its contents, elements and texts."""
     start: str
     end: str
     inside: list
@@ -78,7 +78,7 @@ def with_references(text):
 
 
 def plain(derived):
-    """What a derived debug text in quotation marks or apostrophes says."""
+    """The contents of a derived debug text in quotation marks or apostrophes."""
     short = {"n": "\n", "r": "\r", "t": "\t", "0": "\0"}
     return DERIVED_ESCAPE.sub(lambda found: chr(int(found[1], 16)) if found[1] else short.get(found[2], found[2]),
                               derived[1:-1])
@@ -207,7 +207,7 @@ def from_crate(text, handed, answer):
 
 
 def incomparable(text, handed):
-    """Why a listed difference keeps a text from being compared, or nothing."""
+    """Why a text cannot be compared because of a listed difference, or None."""
     if "\0" in text:
         return "a NUL, which the crate reads as the end"
     if has_stand_in(text, handed) and (ITS_CHARACTER in text or STAND_IN in text):
