@@ -216,15 +216,15 @@ def incomparable(text, handed):
 
 
 def sized_behind_middle(formula):
-    """The crate panics where what follows `\\middle` is no bare operator. Here it is refused, and what was found is the
-    token directly behind. So the crate is asked for that token of each `\\middle`, as one that is to have a size."""
+    """The crate panics if what follows `\\middle` is not a lone operator. Here it is refused, and what was found is the
+    token directly behind. So the crate gets that token of each `\\middle` behind a size, to make it name the token."""
     return ["\\bigl" + TOKEN.match(formula, command.end())[0]
             for command in COMMAND.finditer(formula) if command[1] == "middle"]
 
 
 def refusal_of_middle(kind, said):
-    """The refusal's text for a token, by what the crate said to it as one that is to have a size: either it has one,
-    then it is a parenthesis, or it is named in the refusal."""
+    """The refusal's text for a token, from the crate's answer to that token behind a size. If it got the size, it is a
+    parenthesis. Otherwise the refusal names it."""
     if kind == "o":
         token = re.search(r'minsize="1\.2em">(.*)</mro>', said, re.S)
         derived = 'Paren("' + token[1] + '")'
@@ -237,9 +237,9 @@ def refusal_of_middle(kind, said):
 
 def formulas_of(document):
     """The formulas that a document's dollar signs enclose, as pairs of a word and a text, in order, and the word of the
-    one that is left open at its end, or "". Nothing where formulas touch, where one holds a dollar sign, and where
-    three stand in a row: the crate pairs every `$$` first, also overlapping ones, then the single ones of what it
-    made. Here one cut is made from left to right."""
+    one that is left open at its end, or "". None if formulas touch, if one holds a dollar sign, or if
+    three stand in a row: the crate pairs every `$$` first, also overlapping ones, and then the single ones in the
+    result. Here one cut is made from left to right."""
     found, opened, start = [], "", 0
     for run in re.finditer(r"\$+", document):
         word = {1: "inline", 2: "block"}.get(len(run[0]))

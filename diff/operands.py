@@ -59,8 +59,8 @@ def tokens_of(formula):
 
 
 class Reader:
-    """Reads tokens by the rules, and notes where braces belong. A part that is read from one token on is told by the
-    number of the token behind it. A refusal is passed over: what stands behind it decides nothing on either side."""
+    """Reads tokens by the rules, and notes where braces belong. A method reads a part from one token on, and returns the
+    number of the token behind it. It ignores refusals: what stands behind one decides nothing on either side."""
 
     def __init__(self, formula):
         self.tokens = tokens_of(formula)

@@ -43,7 +43,7 @@ enum State {
     End(Node),
 }
 
-/// The next node of the formula, or `None` where no token is left.
+/// Returns the next node of the formula, or `None` if no token is left.
 pub(crate) fn next_node(
     alloc: Global,
     tokens: &mut Tokens,
@@ -145,7 +145,7 @@ fn next(alloc: Global, tokens: &mut Tokens, frames: &mut Frames) -> Result<State
     }
 }
 
-/// What is due where no token is left.
+/// What is due when no token is left: an open group is refused, and any other part is `EOF`, marked as an error.
 fn at_end(alloc: Global, due: Due) -> Result<State, LatexError>
     ensures holds { (input : List Tok) (fs : List Frame) → innermost fs ≡ due
         → Leads (inside (whole input) fs) [] → Answers input fs [] result }
@@ -274,7 +274,7 @@ fn begin(
     }
 }
 
-/// A root, and its degree, where one stands next in square brackets.
+/// A root, and its degree, if one stands next in square brackets.
 fn root(alloc: Global, tokens: &mut Tokens, frames: &mut Frames) -> Result<State, LatexError>
     ensures holds { (input : List Tok)
         → RuleLeads a_root (Made a_core (inside (whole input) frames.old.stack.items)) tokens.old.list
@@ -314,7 +314,7 @@ fn limits(
     Ok(State::Core(operator.bare()))
 }
 
-/// The name of a function, with a limit under it where the sign stands next.
+/// The name of a function, with a limit under it if the sign stands next.
 fn limit(
     alloc: Global,
     name: &'static str,
@@ -459,7 +459,7 @@ fn put_back(frame: Frame, frames: &mut Frames) -> Result<State, LatexError>
     Ok(State::Next)
 }
 
-/// Goes on after a core, with a prime or a script where one follows.
+/// Goes on after a core, with a prime or a script if one follows.
 fn after_core(
     alloc: Global,
     x: Node,
@@ -507,7 +507,7 @@ fn after_prime(
     after_single(alloc, single, tokens, frames)
 }
 
-/// Goes on after a single, with a script where one follows.
+/// Goes on after a single, with a script if one follows.
 fn after_single(
     alloc: Global,
     x: Node,
@@ -531,7 +531,7 @@ fn after_single(
     }
 }
 
-/// Goes on after a single that a sign follows: the sign is taken where a node is due.
+/// Goes on after a single that a sign follows: the sign is taken if a node is due.
 fn after_sign(
     alloc: Global,
     sign: Sign,
@@ -615,7 +615,7 @@ fn deliver(
     }
 }
 
-/// Goes on after the single of a rule that takes a second one where its sign stands next.
+/// Goes on after the single of a rule that takes a second one if its sign stands next.
 fn after_first(
     alloc: Global,
     rule: Pair,

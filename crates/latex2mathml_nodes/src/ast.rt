@@ -25,7 +25,7 @@ pub enum Node {
     /// A letter, or any other character that stands for itself, and its style.
     Letter(char, Variant),
     Operator(char),
-    /// The name of a function, and its argument, where that is known.
+    /// The name of a function, and its argument, if that is known.
     Function(String, Option<Box<Node>>),
     /// A space, in eighteenths of an em.
     Space(i32),
@@ -86,9 +86,9 @@ pub enum Node {
     Text(String),
     /// A table: the cells one after another, each ended by `Ampersand`, each row of the matrix ended by `NewLine`.
     Matrix(Vec<Node>, ColumnAlign),
-    /// The end of a cell, where a matrix has it as a member; elsewhere it is marked as an error.
+    /// The end of a cell, if a matrix has it as a member; elsewhere it is marked as an error.
     Ampersand,
-    /// The end of a row of a matrix, where a matrix has it as a member; elsewhere it is marked as an
+    /// The end of a row of a matrix, if a matrix has it as a member; elsewhere it is marked as an
     /// error.
     NewLine,
     /// A letter or an operator with a slash through it. Any other node shows no slash.

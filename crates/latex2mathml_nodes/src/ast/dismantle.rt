@@ -117,7 +117,7 @@ fn step(parts: Parts, chain: Node) -> Option<(Parts, Node)>
     }
 }
 
-/// The parts of the first of two nodes, whose place the chain takes, or of the second, where the first is a leaf.
+/// The parts of the first of two nodes, whose place the chain takes, or of the second if the first is a leaf.
 fn of_two(mut x: Box<Node>, y: Box<Node>, chain: Node) -> (Parts, Node)
     ensures { held result.0 + hung (tree result.1)
         < weight (tree x.value) + weight (tree y.value) + 2 + hung (tree chain) }

@@ -48,7 +48,7 @@ impl Node {
         }
     }
 
-    /// Gives the node the style, or begins with its members, where it is a row.
+    /// Gives the node the style, or begins with its members if it is a row.
     fn style_one(
         self,
         alloc: Global,
@@ -103,7 +103,7 @@ fn put_back(
     next_member(variant, row, rows)
 }
 
-/// Takes the next member of a row, or closes the row where all have the style.
+/// Takes the next member of a row, or closes the row if all have the style.
 fn next_member(variant: Variant, row: OpenRow, rows: &mut Vec<OpenRow>) -> Result<Turn, AllocError>
     ensures keeps { IfOk result (λ next. within variant rows.new.items (comes_to variant next)
         ≡ within variant rows.old.items (row_tree variant row)) }
