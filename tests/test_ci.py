@@ -67,13 +67,18 @@ class Run(Case):
         self.assertEqual(calls[2:], ["install --no-install-recommends missing", "install --no-install-recommends lost"])
 
     def test_nothing_can_be_installed(self):
+        """What is missing is skipped by name then."""
         with self.subTest("by no root"):
             done, calls = self.run_ci(USER_ID="1000")
-            self.expect(done, stdout=b"skips nothing: 1\n", stderr=None)
+            self.expect(done, stdout=b"skips nothing: \n", stderr=None)
             self.assertEqual(calls, [])
+        with self.subTest("without a network"):
+            done, calls = self.run_ci(NOT_THERE="install")
+            self.expect(done, stdout=b"skips nothing: \n", stderr=None)
+            self.assertEqual(len(calls), 4)
         with self.subTest("without apt-get"):
             (self.folder / "bin/apt-get").unlink()
-            self.expect(self.run_ci()[0], stdout=b"skips nothing: 1\n", stderr=None)
+            self.expect(self.run_ci()[0], stdout=b"skips nothing: \n", stderr=None)
 
     def test_the_status(self):
         self.expect(self.run_ci(STATUS="1")[0], 1, None, None)
