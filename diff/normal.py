@@ -1,6 +1,6 @@
 """Converts the crate's answers to this repository's form, by what docs/DIFFERENCES.md lists and by nothing else.
 
-Only the crate's side is changed, what it is handed and what it answers, so the program's answer is compared byte by
+Only the crate's side is changed, its input and its answer, so the program's answer is compared byte by
 byte. Each difference is one function, and its comment says which one it is. Two of the list need none, since no formula
 shows them: `thick` and the quotes of `columnalign="right"` are printed of nodes that only a caller makes."""
 
@@ -270,7 +270,7 @@ def parts(document):
 
 def document_for_crate(document):
     """A document in which the crate reads each formula as it reads one alone. A backslash takes nothing with it there,
-    so the crate is handed the reference that `\\$` of prose becomes here."""
+    so the crate gets the reference that `\\$` of prose becomes here."""
     handed = ""
     for place, units in enumerate(parts(document)):
         if place % 4 == 0:

@@ -2,7 +2,7 @@
 
 Operands of roots, fractions, binomials, accents, over and under sets and styles are cores here, so scripts and primes
 behind them stay outside. In the crate they belong to the operand. Where one follows the last operand, the crate is
-handed the command with its operands in braces, and where one follows the first of two, it is the second operand here
+given the command with its operands in braces. Where one follows the first of two, it is the second operand here
 and is put in braces. Braces around one node are that node on both sides, so nothing else changes.
 
 Where such braces belong is read from the formula alone, by the rules of docs/LANGUAGE.md."""
