@@ -1,5 +1,5 @@
-/* How many formulas a second of the processor are converted by calls from C: in one call each, into a room that is large
- * enough, and in two, the first with no room. A line for each word: its bytes and both numbers. */
+/* How many formulas per processor second are converted by calls from C: in one call each, into a buffer that is large
+ * enough, and in two, the first without a buffer. One line per argument: its bytes and both numbers. */
 #include "latex2mathml.h"
 
 #include <stdio.h>

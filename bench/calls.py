@@ -1,6 +1,6 @@
 #!/usr/bin/env python3
-"""Measures how many formulas a second of the processor are converted by calls of the library for C, from C, Python and
-Node, and by a process of the program for each. It builds what it needs, with cc."""
+"""Measures how many formulas per processor second are converted by calls of the library for C, from C, Python and
+Node, and by a process of the program for each. It builds what it needs with cc."""
 import importlib.util
 import os
 import pathlib
@@ -28,7 +28,7 @@ for (const latex of process.argv.slice(2)) {
 
 
 def processor():
-    """Seconds of the processor that this process and its children took."""
+    """The processor seconds that this process and its children took."""
     return sum(os.times()[:4])
 
 

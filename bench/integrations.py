@@ -52,7 +52,7 @@ class Entry:
 
 
 class Tools:
-    """What the integrations stand on, built where it is first wanted."""
+    """What the integrations need, built at first use."""
 
     def __init__(self, folder):
         self.folder = folder
@@ -139,7 +139,7 @@ ENTRIES = [
 
 
 def source_of(count):
-    """A document with so many formulas, no two of them the same."""
+    """A document with this many formulas, no two of them the same."""
     return "".join(f"Formula {i} is ${FORMULAS[i % len(FORMULAS)]} + x_{{{i}}}$ here.\n\n" for i in range(count))
 
 
@@ -148,7 +148,7 @@ def is_there(need):
 
 
 def measure(command, times):
-    """The least seconds of the clock, and of the processor, that the command takes."""
+    """The least wall-clock seconds, and the least processor seconds, that the command takes."""
     environment = {**os.environ, "NODE_PATH": str(NODE_PACKAGES)}
     runs = []
     for _ in range(times):

@@ -25,14 +25,14 @@ COUNTED = 300_000
 
 @dataclass(frozen=True)
 class Measure:
-    """One run: seconds of the processor, and the most memory that was held, in megabytes."""
+    """One run: processor seconds, and the peak memory in megabytes."""
     seconds: float
     memory: float
 
 
 def run(command, path):
-    """One run over a file, its output thrown away. GNU time starts it: it is small itself, so the memory of this
-    script is not counted."""
+    """Runs a command over a file, without keeping its output. GNU time starts it, because it is small: a child of this
+    script would be counted with the script's memory."""
     with open(path, "rb") as text:
         ended = subprocess.run(["time", "-q", "-f", "%U %S %M", *command], stdin=text, stdout=subprocess.DEVNULL,
                                stderr=subprocess.PIPE, check=True)
@@ -41,7 +41,7 @@ def run(command, path):
 
 
 def least(command, path, times):
-    """The least of some runs: what else the machine does only adds."""
+    """The least of several runs, because other work of the machine only adds time."""
     measures = [run(command, path) for _ in range(times)]
     return Measure(min(one.seconds for one in measures), min(one.memory for one in measures))
 

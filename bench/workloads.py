@@ -19,7 +19,7 @@ def formulas():
 
 
 def document(size):
-    """Prose and formulas in turn, up to about so many bytes: every fifth formula is a display."""
+    """Prose and formulas in turn, up to about this many bytes: every fifth formula is a display."""
     choice = random.Random(SEED)
     every = formulas()
     pieces, length, place = [], 0, 0
@@ -34,11 +34,11 @@ def document(size):
 
 
 def repeated(formula, size):
-    """One formula that is another one over and over, up to about so many bytes."""
+    """One formula that repeats another one, up to about this many bytes."""
     return formula * (size // len(formula.encode()))
 
 
 def workloads():
-    """What is measured: a word of the program, a name, and the text of a size."""
+    """What is measured: the program's argument, a name, and a function from a size to the text."""
     return [("document", "prose and formulas", document)] + [
         ("inline", formula, lambda size, formula=formula: repeated(formula, size)) for formula in REPEATED]

@@ -22,8 +22,8 @@ KINDS = {"o": "set", "r": "refused", "p": "refused, where the crate panics"}
 
 @dataclass
 class Trial:
-    """A text that the program is asked by a word, what the crate read in its place, and what it said. Where it panics,
-    the refusals are those that name a token behind a `\\middle` of the text."""
+    """A text for the program with the program's argument, the text that the crate got in its place, and the crate's answer.
+    If the crate panics, the refusals are those that name a token behind a `\\middle` of the text."""
     word: str
     text: str
     handed: str
@@ -34,8 +34,8 @@ class Trial:
 
     @cached_property
     def wanted(self):
-        """The answers that the program may give, one where the crate does not panic. A formula's markup has a line feed
-        behind it, a document's text has nothing."""
+        """The answers that the program may give: one, unless the crate panics. The markup of a formula is followed by a line
+        feed, and the text of a document by nothing."""
         if self.kind == "o":
             end = "" if self.word == "document" else "\n"
             return [program.Answer(0, self.from_crate(normal.markup(self.said)) + end, "")]
@@ -46,22 +46,22 @@ class Trial:
         return normal.from_crate(self.text, self.handed, answer)
 
     def is_met_by(self, answer):
-        """Whether the program may answer so. No difference lets it end in any other way than by itself."""
+        """Whether the program may give this answer. In any case it must end by itself."""
         return answer.status in (0, 1) if self.left_out else answer in self.wanted
 
     def fits_into_a_document(self):
-        """Whether the formula is to be set, and dollar signs can enclose it."""
+        """Whether the formula is to be converted, and dollar signs can enclose it."""
         return self.kind == "o" and not self.left_out and normal.is_body(self.text)
 
 
 class Crate:
-    """The crate, asked through its driver."""
+    """The crate, called through its driver."""
 
     def __init__(self, driver):
         self.driver = driver
 
     def trials(self, word, texts):
-        """What the crate says to each text."""
+        """The crate's answer to each text."""
         hand = normal.document_for_crate if word == "document" else normal.for_crate
         trials = [Trial(word, text, hand(text)) for text in texts]
         answers = rust_crate.answers(self.driver, [(word, trial.handed) for trial in trials])
@@ -74,7 +74,7 @@ class Crate:
         return trials
 
     def framed_otherwise(self, trial):
-        """Why a document's dollar signs keep it from being compared, or nothing."""
+        """Why a document cannot be compared because of its dollar signs, or None."""
         if normal.has_escaped_sign(trial.text):
             return "a formula that holds \\$, where the crate ends it"
         framed = normal.formulas_of(trial.handed)
@@ -88,7 +88,8 @@ class Crate:
         return None
 
     def refusals_of_middle(self, trial):
-        """The refusals that may stand where the crate panics. Braces would hide the token behind a `\\middle`."""
+        """The refusals that may stand in place of a panic of the crate. It gets the text without added braces, because they
+        would hide the token behind a `\\middle`."""
         formulas = [(trial.word, normal.with_stand_in(trial.text))]
         if trial.word == "document":
             formulas = [("inline", normal.with_stand_in("".join(units))) for units in normal.parts(trial.text)[2::4]]
@@ -97,7 +98,7 @@ class Crate:
 
 
 class Program:
-    """The program, asked several texts side by side."""
+    """The program, run on several texts in parallel."""
 
     def __init__(self, processes):
         self.path = program.built()
@@ -109,8 +110,8 @@ class Program:
         return self.pool.map(lambda trial: program.ask(self.path, trial.word, trial.text), trials)
 
     def together(self, trials):
-        """The answers to formulas of which nothing but markup is wanted: many are asked as one document. Where its
-        answer is not as wanted, its formulas are asked one by one."""
+        """The answers to formulas that have to be converted: many are given to the program as one document. If its
+        answer is not the expected one, its formulas are given one by one."""
         size = FORMULAS_IN_A_DOCUMENT
         groups = [trials[start:start + size] for start in range(0, len(trials), size)]
         documents = [Trial("document", "".join(f"${trial.text}$\n" for trial in group), "") for group in groups]
@@ -123,7 +124,7 @@ class Program:
 
 
 class Comparison:
-    """Texts of one kind: how many are answered alike, what is left out and why, and where the two differ."""
+    """Texts of one kind: how many have the same answer, what is left out and why, and where the two differ."""
 
     def __init__(self, ours, crate, word, shown):
         self.ours, self.crate, self.word, self.shown = ours, crate, word, shown
@@ -151,14 +152,14 @@ class Comparison:
                 self.in_braces += trial.handed.count("{") > trial.text.count("{")
 
     def show(self, text):
-        """The text, and what is answered to what is left of it once it is shortened."""
+        """Prints the text, and the answers to its shortened form."""
         trial, answer = self.asked(self.shortened(text))
         that_is = f"left out: {trial.left_out}" if trial.left_out else " or ".join(map(str, trial.wanted))
         print(f"MISMATCH\n  {trial.word:10} {text!r}\n  shortened  {trial.text!r}\n"
               f"  the crate  {KINDS[trial.kind]}: {trial.said!r}\n  that is    {that_is}\n  here       {answer}")
 
     def shortened(self, text):
-        """The text without pieces that it does not need to be answered otherwise than it must be."""
+        """The text without the pieces that the wrong answer does not need."""
         before = None
         while text != before:
             before, size = text, len(text) // 2
@@ -179,7 +180,7 @@ class Comparison:
         return text
 
     def asked(self, text):
-        """What the crate and the program say to one text."""
+        """The answers of the crate and of the program to one text."""
         (trial,) = self.crate.trials(self.word, [text])
         (answer,) = self.ours.each([trial])
         return trial, answer
@@ -198,7 +199,7 @@ def arguments():
     parser.add_argument("--formulas", type=int, default=100_000, metavar="N")
     parser.add_argument("--documents", type=int, default=10_000, metavar="N")
     parser.add_argument("--seed", type=int, default=1)
-    parser.add_argument("--processes", type=int, default=2, choices=range(1, 5), help="how many run side by side")
+    parser.add_argument("--processes", type=int, default=2, choices=range(1, 5), help="how many run in parallel")
     parser.add_argument("--show", type=int, default=20, metavar="N", help="how many mismatches are printed")
     return parser.parse_args()
 

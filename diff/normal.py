@@ -1,6 +1,6 @@
-"""The crate's answers brought to this repository's form, by what docs/DIFFERENCES.md lists and by nothing else.
+"""Converts the crate's answers to this repository's form, by what docs/DIFFERENCES.md lists and by nothing else.
 
-Only the crate's side is changed, what it is handed and what it answers, so the program's answer is compared byte by
+Only the crate's side is changed, its input and its answer, so the program's answer is compared byte by
 byte. Each difference is one function, and its comment says which one it is. Two of the list need none, since no formula
 shows them: `thick` and the quotes of `columnalign="right"` are printed of nodes that only a caller makes."""
 
@@ -24,7 +24,7 @@ DERIVED_ESCAPE = re.compile(r"\\(?:u\{([0-9a-f]+)\}|(.))", re.S)
 
 @dataclass
 class Element:
-    """One element: its tags as they are printed, and what stands between them, elements and texts."""
+    """One element: its tags as they are printed, and its contents, elements and texts."""
     start: str
     end: str
     inside: list
@@ -78,7 +78,7 @@ def with_references(text):
 
 
 def plain(derived):
-    """What a derived debug text in quotation marks or apostrophes says."""
+    """The contents of a derived debug text in quotation marks or apostrophes."""
     short = {"n": "\n", "r": "\r", "t": "\t", "0": "\0"}
     return DERIVED_ESCAPE.sub(lambda found: chr(int(found[1], 16)) if found[1] else short.get(found[2], found[2]),
                               derived[1:-1])
@@ -207,7 +207,7 @@ def from_crate(text, handed, answer):
 
 
 def incomparable(text, handed):
-    """Why a listed difference keeps a text from being compared, or nothing."""
+    """Why a text cannot be compared because of a listed difference, or None."""
     if "\0" in text:
         return "a NUL, which the crate reads as the end"
     if has_stand_in(text, handed) and (ITS_CHARACTER in text or STAND_IN in text):
@@ -216,15 +216,15 @@ def incomparable(text, handed):
 
 
 def sized_behind_middle(formula):
-    """The crate panics where what follows `\\middle` is no bare operator. Here it is refused, and what was found is the
-    token directly behind. So the crate is asked for that token of each `\\middle`, as one that is to have a size."""
+    """The crate panics if what follows `\\middle` is not a lone operator. Here it is refused, and what was found is the
+    token directly behind. So the crate gets that token of each `\\middle` behind a size, to make it name the token."""
     return ["\\bigl" + TOKEN.match(formula, command.end())[0]
             for command in COMMAND.finditer(formula) if command[1] == "middle"]
 
 
 def refusal_of_middle(kind, said):
-    """The refusal's text for a token, by what the crate said to it as one that is to have a size: either it has one,
-    then it is a parenthesis, or it is named in the refusal."""
+    """The refusal's text for a token, from the crate's answer to that token behind a size. If it got the size, it is a
+    parenthesis. Otherwise the refusal names it."""
     if kind == "o":
         token = re.search(r'minsize="1\.2em">(.*)</mro>', said, re.S)
         derived = 'Paren("' + token[1] + '")'
@@ -237,9 +237,9 @@ def refusal_of_middle(kind, said):
 
 def formulas_of(document):
     """The formulas that a document's dollar signs enclose, as pairs of a word and a text, in order, and the word of the
-    one that is left open at its end, or "". Nothing where formulas touch, where one holds a dollar sign, and where
-    three stand in a row: the crate pairs every `$$` first, also overlapping ones, then the single ones of what it
-    made. Here one cut is made from left to right."""
+    one that is left open at its end, or "". None if formulas touch, if one holds a dollar sign, or if
+    three stand in a row: the crate pairs every `$$` first, also overlapping ones, and then the single ones in the
+    result. Here one cut is made from left to right."""
     found, opened, start = [], "", 0
     for run in re.finditer(r"\$+", document):
         word = {1: "inline", 2: "block"}.get(len(run[0]))
@@ -270,7 +270,7 @@ def parts(document):
 
 def document_for_crate(document):
     """A document in which the crate reads each formula as it reads one alone. A backslash takes nothing with it there,
-    so the crate is handed the reference that `\\$` of prose becomes here."""
+    so the crate gets the reference that `\\$` of prose becomes here."""
     handed = ""
     for place, units in enumerate(parts(document)):
         if place % 4 == 0:

@@ -2,7 +2,7 @@
 
 Operands of roots, fractions, binomials, accents, over and under sets and styles are cores here, so scripts and primes
 behind them stay outside. In the crate they belong to the operand. Where one follows the last operand, the crate is
-handed the command with its operands in braces, and where one follows the first of two, it is the second operand here
+given the command with its operands in braces. Where one follows the first of two, it is the second operand here
 and is put in braces. Braces around one node are that node on both sides, so nothing else changes.
 
 Where such braces belong is read from the formula alone, by the rules of docs/LANGUAGE.md."""
@@ -59,8 +59,8 @@ def tokens_of(formula):
 
 
 class Reader:
-    """Reads tokens by the rules, and notes where braces belong. A part that is read from one token on is told by the
-    number of the token behind it. A refusal is passed over: what stands behind it decides nothing on either side."""
+    """Reads tokens by the rules, and notes where braces belong. A method reads a part from one token on, and returns the
+    number of the token behind it. It ignores refusals: what stands behind one decides nothing on either side."""
 
     def __init__(self, formula):
         self.tokens = tokens_of(formula)

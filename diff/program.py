@@ -1,4 +1,4 @@
-"""This repository's program: where it is, what it answers, and which of the language's commands it reads."""
+"""This repository's program: where it is, what it prints, and which of the language's commands it reads."""
 
 import re
 import subprocess
@@ -19,7 +19,7 @@ PLAIN = ("Letter", "Operator", "Paren", "Function", "Space", "NewLine")
 
 @dataclass(frozen=True)
 class Answer:
-    """What one run of the program came to."""
+    """The result of one run of the program."""
     status: int
     output: str
     errors: str
@@ -32,13 +32,13 @@ def ask(program, word, text):
 
 
 def built():
-    """The built program. The launcher builds it first where it is missing or older than its sources."""
+    """The built program. The launcher builds it first if it is missing or older than its sources."""
     subprocess.run([LAUNCHER, "inline"], input=b"", stdout=subprocess.DEVNULL, check=True)
     return BINARY
 
 
 def knows(program, word):
-    """Whether the program has this word."""
+    """Whether the program has this argument."""
     return ask(program, word, "").status != WRONG_WORDS
 
 

@@ -7,7 +7,7 @@ OPERATORS = ["=", ";", ",", ".", "'", "+", "-", "*", "/", "!", "<", ">", ":"]
 PARENS = ["(", ")", "[", "]", "|", ":="]
 NUMBERS = ["0", "1", "7", "12", "123", "3.14", "1.", "1.2.3", "0.5", "10"]
 SPACES = [" ", " ", "  ", "\t", "\n", "\r\n"]
-# Characters of one to four bytes in UTF-8, among them such as debug texts escape, and such as only look like white
+# Characters of one to four bytes in UTF-8. Among them are some that debug texts escape, and some that only look like white
 # space, digits or ASCII letters.
 ODD = ['"', "~", "$", "@", "#", "%", "?", "`", "\x01", "\x0b", "\x0c", "\x1b", "\x7f",
        "\u00a0", "\u00ad", "\u00e9", "\u00df", "\u0301", "\u03b1", "\u0661",
@@ -29,7 +29,7 @@ ENDS_OF_PROSE = [" ", " ", " ", "", "\\\\", "\\$", "\\\\\\$", "\\é"]
 
 
 class Formulas:
-    """Random formulas over the commands that it is handed."""
+    """Random formulas over the given commands."""
 
     def __init__(self, random, acting, plain, is_read):
         self.random = random
@@ -59,7 +59,7 @@ class Formulas:
         return "".join(self.random.choices(RAW, k=count))
 
     def pieces(self, count):
-        """Pieces side by side, as they come."""
+        """Pieces side by side, in random order."""
         return self.joined([self.piece() for _ in range(count)])
 
     def joined(self, parts):
@@ -142,13 +142,13 @@ class Formulas:
         return "{" + self.well_formed(count) + "}"
 
     def operand(self, count):
-        """Mostly a group, else what stands next: a letter, a digit, or several of them."""
+        """Mostly a group, otherwise a letter, a digit, or several of them."""
         if count > 1 or self.random.random() < 0.3:
             return self.group(count)
         return self.atom()
 
     def command(self, count):
-        """A command that acts on what follows, with operands of most kinds behind it, fit for it or not."""
+        """A command that acts on what follows, with operands of most kinds behind it, suitable or not."""
         name = self.acting_command()
         share = self.random.randint(0, count)
         if self.random.random() < 0.2:

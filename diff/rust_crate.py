@@ -16,8 +16,9 @@ latex2mathml = {{ path = "{crate}" }}
 [workspace]
 """
 
-# With a word, the whole of standard input is one text, as it is for the program. With `many`, standard input is texts,
-# each with its word's first letter before it and a byte that UTF-8 never has behind it; the answers come likewise.
+# With an argument of the program, all of standard input is one text, as for the program. With `many`, standard input is a
+# list of texts. Each has the first letter of its argument before it, and behind it a byte that never occurs in UTF-8. The
+# answers have the same form.
 MAIN = r"""
 use latex2mathml::{latex_to_mathml, replace, DisplayStyle, LatexError};
 use std::io::{stdin, stdout, BufWriter, Read, Write};
@@ -69,7 +70,7 @@ fn main() {
 
 
 def build(crate, folder):
-    """Builds the driver over the crate's folder in a folder of its own, and gives the program's path."""
+    """Builds the driver over the crate's folder in a folder of its own, and returns the program's path."""
     folder = Path(folder)
     (folder / "src").mkdir(parents=True)
     (folder / "Cargo.toml").write_text(MANIFEST.format(crate=Path(crate).resolve()), encoding="utf-8")

@@ -1,4 +1,4 @@
-"""How far something long is: a line that a terminal renews in place, and what a command prints, kept in a file."""
+"""Progress of long commands: a line that is updated in place on a terminal, and a file with what a command prints."""
 import pathlib
 import shutil
 import subprocess
@@ -6,7 +6,7 @@ import sys
 import threading
 import time
 
-# As many lines of a command's output as are shown where it fails.
+# How many lines of a command's output are shown if it fails.
 SHOWN = 40
 
 
@@ -18,7 +18,7 @@ def clock(seconds):
 
 
 class Screen:
-    """Lines that stay, and below them, on a terminal, one line that is renewed in place."""
+    """Lines that stay, and below them, on a terminal, one line that is updated in place."""
 
     def __init__(self, stream=sys.stdout):
         self.stream = stream
@@ -27,7 +27,7 @@ class Screen:
         self.lock = threading.RLock()
 
     def renew(self, text):
-        """Puts the text in the place of the last line, on a terminal. Elsewhere nothing is printed."""
+        """Replaces the last line by the text, on a terminal. Elsewhere it prints nothing."""
         with self.lock:
             if not self.is_terminal:
                 return
@@ -49,8 +49,8 @@ class Screen:
 
 
 def follow(words, log, *, on_line=lambda line: None, on_second=lambda: None, **how):
-    """Runs a command to its end and returns its status. All that it prints goes to the file `log`; each line of it is handed
-    to `on_line`, and `on_second` is called each second meanwhile."""
+    """Runs a command to its end and returns its status. All that it prints goes to the file `log`. `on_line` is called with
+    each line of it, and `on_second` once a second meanwhile."""
     log = pathlib.Path(log)
     log.parent.mkdir(parents=True, exist_ok=True)
     ended = threading.Event()

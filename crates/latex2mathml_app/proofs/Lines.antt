@@ -1,4 +1,4 @@
--- What putting out a line comes to.
+-- What writing a line results in.
 use Rattle.std.proofs.Common.{◌≡◌, ◌==◌, ◌↔◌, ℕ, suc, ◌+◌, ◌<◌, ◌≤◌, Bool, true, false, IsTrue, List, [], ◌∷◌, ◌++◌, Option, None, Some, Result, Ok, Err, IfErr, OnOk, inl, inr, length, true-eqb, map, take, drop, refl, sym, ap, ◌∙◌, subst, append-nil, append_assoc, arith, take-append-drop, slice_index_or}
 use Rattle.std.proofs.KnownBytes.{Appends-trans}
 use Rattle.std.proofs.Math.Seq.{drop-cons}
@@ -29,7 +29,7 @@ put line errors (Err Entry) taken ready stopped = absurd stopped
 put line errors (Err TooDeep) taken ready stopped = absurd stopped
 put line errors (Err Create) taken ready stopped = absurd stopped
 
--- a line that memory was found for, and that is this one
+-- a line that was allocated, and that is this one
 pub put_same : (line text : List ℕ) (errors : Output) → line ≡ text → IsTaken line errors → IsPut text errors
 put_same line text errors same is = Found (subst (λ l. IsTaken l errors) same is)
 
@@ -40,7 +40,7 @@ halted TookNothing errors (_, ended) (_, unended) = let k : true ≡ false = sym
 not_told : (told : Bool) (P : Type 0) → told ≡ false → IsTrue told → P
 not_told told P is also = absurd (let k : true ≡ false = sym also ∙ is in cc)
 
--- a writing tells whether the stream can take more
+-- a writing reports whether the stream can take more
 pub can_go_on : (line : List ℕ) (errors : Output) (result : Result Unit FileFault) (told : Bool)
     → told ≡ is_ok result
     → OnOk result (CanGoOn errors)
@@ -57,7 +57,7 @@ can_go_on line errors (Err Entry) told is ready stopped = absurd stopped
 can_go_on line errors (Err TooDeep) told is ready stopped = absurd stopped
 can_go_on line errors (Err Create) told is ready stopped = absurd stopped
 
--- a line more is said, or left out
+-- one more line is written, or left out
 said_more : (lines : List (List ℕ)) (line text : List ℕ) → AreSaid lines text → AreSaid (lines ++ (line ∷ [])) (text ++ line)
 said_more [] line text is = inr ([], ap (λ t. t ++ line) is ∙ sym (append-nil line), refl)
 said_more (first ∷ lines) line text (inl is) = inl (said_more lines line text is)
@@ -84,7 +84,7 @@ next_said old errors lines line text said so_far (LeftOut (ready, keeps)) can =
     (text, said_less lines line text said, appends_kept old errors.old errors.new text so_far keeps)
 next_said old errors lines line text said so_far (Found (Stopped written cause is)) can = absurd (halted cause errors is.2 can)
 
--- one line more was put, and the stream can take more
+-- one more line was written, and the stream can take more
 pub put_next : (old : Option (List ℕ)) (errors : Output) (all : List Unconverted) (index : ℕ) (one : Unconverted) (text : List ℕ)
     → index < length all
     → one ≡ slice_index_or all index one
@@ -121,7 +121,7 @@ two (a ∷ []) first second least most is also = absurd (omega arith)
 two (a ∷ b ∷ []) first second least most is also = cc
 two (a ∷ b ∷ c ∷ all) first second least most is also = absurd (omega arith)
 
--- what is told of nothing, and of something
+-- what is reported of nothing, and of something
 pub none_told : (all : List Unconverted) (errors : Output) → true ≡ (length all == 0) → IsSilent errors → AreTold all errors done
 none_told [] errors is silent = (refl, silent)
 none_told (one ∷ more) errors is silent = absurd (let k : suc (length more) ≡ 0 = true-eqb _ _ is in cc)

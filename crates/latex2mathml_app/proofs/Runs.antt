@@ -1,4 +1,4 @@
--- Where nothing was made of the bytes read, the output was not asked.
+-- Where the bytes read were not converted, the output was not called.
 use Rattle.std.proofs.Common.{◌≡◌, ℕ, List, Result, Ok, Err, sym, subst}
 use Rattle.std.proofs.KnownBytes.{Keeps-refl}
 use Rattle.std.specs.Io.KnownBytes.{Keeps}
@@ -21,7 +21,7 @@ missed job bytes input output Entry is ready keeps = absurd is
 missed job bytes input output TooDeep is ready keeps = absurd is
 missed job bytes input output Create is ready keeps = absurd is
 
--- and that holds of the fault that a `?` passes on
+-- this holds of the fault that a `?` passes on
 pub missed_by : (job : Job) (bytes : List ℕ) (input : Input) (output : Output) (fault : FileFault)
     (result : Result Unit FileFault) → IsErrAnd result (λ e. e ≡ fault)
     → IsMissed (conversion_of job) bytes input fault → CanGoOn output → output.new ≡ output.old

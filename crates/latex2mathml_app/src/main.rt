@@ -13,7 +13,7 @@ use std::io::{ErrorKind, Write};
 use std::process::ExitCode;
 use std::{env, io};
 
-/// The words after the program's name. Where one of them is no text there are none.
+/// Returns the arguments after the program's name, or none of them if one is not UTF-8.
 fn words(rt: &HostRuntime) -> io::Result<Vec<String>>
     ensures { IfErr result (λ fault. error_kind fault ≡ ErrorKind.OutOfMemory) }
 {

@@ -10,7 +10,7 @@ use std::io::{Read, Write};
 use std::test::Fail;
 use std::{env, fs, io, process};
 
-/// Gives so many bytes a call, and fails with such an error after so many calls.
+/// A reader that returns `step` bytes a call, and fails with `error` after `calls_left` calls.
 #[derive(Drop)]
 struct Reader<'a> {
     bytes: &'a [u8],
@@ -32,7 +32,7 @@ impl Read for Reader<'_> {
     }
 }
 
-/// Takes one byte a call, and after so many calls fails with such an error, or takes none where there is no error.
+/// A writer that takes one byte a call. After `calls_left` calls it fails with `error`, or takes nothing if that is `None`.
 #[derive(Drop)]
 struct Writer {
     held: Vec<u8>,
@@ -59,7 +59,7 @@ impl Write for Writer {
     }
 }
 
-/// A writer that fails after so many bytes.
+/// A writer that fails after this many calls, and so after as many bytes.
 fn failing(alloc: Global, calls: usize) -> Writer {
     Writer {
         held: Vec::new(alloc),
@@ -68,7 +68,7 @@ fn failing(alloc: Global, calls: usize) -> Writer {
     }
 }
 
-/// A reader that gives one byte a call and fails after so many calls.
+/// A reader that returns one byte a call and fails after this many calls.
 fn by_bytes(bytes: &[u8], calls: usize) -> Reader<'_> {
     Reader {
         bytes,
@@ -102,8 +102,8 @@ const ANSWER: &str =
 
 const LONG_AGO: usize = 1000;
 
-/// What the output holds after a run whose input gives one byte a call and fails after so many calls, and how the run
-/// ended.
+/// Runs a job whose input returns one byte a call and fails after this many calls. Returns what the output then holds, and
+/// how the run ended.
 fn read_by_bytes(
     alloc: Global,
     job: Job,
@@ -116,8 +116,8 @@ fn read_by_bytes(
     (output.inner, ended)
 }
 
-/// What the output holds after a run whose output takes one byte a call and fails after so many calls, and how the run
-/// ended.
+/// Runs a job whose output takes one byte a call and fails after this many calls. Returns what the output then holds, and
+/// how the run ended.
 fn written_by_bytes(
     alloc: Global,
     job: Job,
@@ -140,7 +140,7 @@ fn runs(rt: HostRuntime) -> Result<(), Fail> {
     Ok(())
 }
 
-/// The answer of a document is all that is written: no line feed stands behind it that the document has not.
+/// The answer to a document is all that is written: no line feed is added behind it.
 #[test]
 fn runs_documents(rt: HostRuntime) -> Result<(), Fail> {
     for (document, answer) in [
@@ -160,7 +160,7 @@ fn runs_documents(rt: HostRuntime) -> Result<(), Fail> {
     Ok(())
 }
 
-/// Nothing is written where the dollar signs do not pair, and nothing of what stands before a refused formula.
+/// Nothing is written if the dollar signs do not pair, and nothing of what stands before a refused formula.
 #[test]
 fn refuses_documents(rt: HostRuntime) -> Result<(), Fail> {
     let (held, ended) = read_by_bytes(rt.alloc(), Job::Document, b"$$$", LONG_AGO);
@@ -176,7 +176,7 @@ fn refuses_documents(rt: HostRuntime) -> Result<(), Fail> {
     Ok(())
 }
 
-/// Whether the bytes are no text to the job, and nothing is written.
+/// Whether the job reports that the bytes are not UTF-8, and writes nothing.
 fn are_no_text(alloc: Global, job: Job, bytes: &[u8]) -> bool {
     let (held, ended) = read_by_bytes(alloc, job, bytes, LONG_AGO);
     ended == Err(FileFault::NotText) && held.is_empty()
@@ -195,7 +195,7 @@ fn refuses_what_is_no_text(rt: HostRuntime) -> Result<(), Fail> {
     Ok(())
 }
 
-/// Nothing is written where the input fails, at whichever call.
+/// Nothing is written if the input fails, at any call.
 #[test]
 fn input_fails(rt: HostRuntime) -> Result<(), Fail> {
     for calls in 0..4 {
@@ -206,7 +206,7 @@ fn input_fails(rt: HostRuntime) -> Result<(), Fail> {
     Ok(())
 }
 
-/// Nothing is written where the input fails, at whichever call; the last of them would have told the end.
+/// Nothing is written if the input fails, at any call, also at the last one, which would have reported the end.
 #[test]
 fn input_of_a_document_fails(rt: HostRuntime) -> Result<(), Fail> {
     for calls in 0..15 {
@@ -219,7 +219,7 @@ fn input_of_a_document_fails(rt: HostRuntime) -> Result<(), Fail> {
     Ok(())
 }
 
-/// The beginning of the line is written where the output fails, at whichever call.
+/// The beginning of the line is written if the output fails, at any call.
 #[test]
 fn output_fails(rt: HostRuntime) -> Result<(), Fail> {
     for written in 0..INLINE.len() {
@@ -237,8 +237,8 @@ fn output_fails(rt: HostRuntime) -> Result<(), Fail> {
     Ok(())
 }
 
-/// Whether a run over a document, whose output stops so after so many bytes, tells this cause and put out the beginning
-/// of the answer.
+/// Whether a run over a document reports this cause and wrote the beginning of the answer. Its output stops in this way
+/// after `written` bytes.
 fn document_stops(
     alloc: Global,
     error: Option<io::ErrorKind>,
@@ -272,7 +272,7 @@ fn output_of_a_document_stops(rt: HostRuntime) -> Result<(), Fail> {
     Ok(())
 }
 
-/// The words, each of them a text.
+/// The arguments, each as a `String`.
 fn texts(alloc: Global, words: &[&str]) -> Result<Vec<String>, AllocError> {
     let mut texts = Vec::new(alloc);
     for word in words {
@@ -281,7 +281,7 @@ fn texts(alloc: Global, words: &[&str]) -> Result<Vec<String>, AllocError> {
     Ok(texts)
 }
 
-/// The status of these words over these bytes, and what the output and the errors hold.
+/// Serves these arguments over these bytes. Returns the status, and what the output and the errors then hold.
 fn served(
     rt: &HostRuntime,
     words: &[&str],
@@ -303,7 +303,7 @@ fn served(
     Ok((status, output.inner, errors.inner))
 }
 
-/// The status of these words over these streams. All three are then as `serve` left them.
+/// Serves these arguments over these streams and returns the status. All three streams are then as `serve` left them.
 fn served_over(
     rt: &HostRuntime,
     words: &[&str],
@@ -324,7 +324,7 @@ fn served_over(
 
 const USAGE: &[u8] = b"usage: latex2mathml inline | block | document | html PATH\n";
 
-/// Whether these words are wrong: the usage line alone is put out, as an error.
+/// Whether these arguments are wrong: the usage line alone is written, as an error.
 fn are_wrong(rt: &HostRuntime, words: &[&str]) -> Result<bool, AllocError> {
     let (status, output, errors) = served(rt, words, b"x")?;
     Ok(status == 2 && output.is_empty() && errors.as_slice() == USAGE)
@@ -415,8 +415,8 @@ fn serves_an_open_group(rt: HostRuntime) -> Result<(), Fail> {
     Ok(())
 }
 
-/// Whether wrong words leave the input and the output as they were, and `errors`, which fails after so many bytes, with
-/// the first bytes of the usage line.
+/// Whether wrong arguments leave the input and the output as they were, and `errors` with the first bytes of the usage
+/// line. `errors` fails after this many bytes.
 fn touches_nothing(rt: &HostRuntime, calls: usize) -> Result<bool, AllocError> {
     let mut input = stream(by_bytes(b"x", LONG_AGO));
     let mut output = stream(failing(rt.alloc(), LONG_AGO));
@@ -440,8 +440,8 @@ fn wrong_words_touch_nothing(rt: HostRuntime) -> Result<(), Fail> {
 
 const UNREAD: &[u8] = b"LaTeX2MathML Error: The input could not be read.\n";
 
-/// Whether an input that fails so after so many calls is told by its line and status, and nothing is put out. The stream
-/// of errors fails after so many bytes.
+/// Whether an input that fails in this way after this many calls is reported by its line and status, and nothing is
+/// written. The stream of errors fails after this many bytes.
 fn tells_a_failed_input(
     rt: &HostRuntime,
     word: &str,
@@ -488,8 +488,8 @@ fn serves_a_failing_input(rt: HostRuntime) -> Result<(), Fail> {
     Ok(())
 }
 
-/// Whether an output that stops so after so many bytes is told by its line and status. The stream of errors fails after
-/// so many bytes.
+/// Whether an output that stops in this way after this many bytes is reported by its line and status. The stream of errors
+/// fails after this many bytes.
 fn tells_a_stopped_output(
     rt: &HostRuntime,
     error: Option<io::ErrorKind>,
@@ -532,7 +532,7 @@ fn serves_a_stopped_output(rt: HostRuntime) -> Result<(), Fail> {
     Ok(())
 }
 
-/// Whether an output that stops so after so many bytes of a document's answer is told by its line and status.
+/// Whether an output that stops in this way after this many bytes of a document's answer is reported by its line and status.
 fn tells_a_stopped_document(
     rt: &HostRuntime,
     error: Option<io::ErrorKind>,
@@ -567,7 +567,7 @@ fn serves_a_stopped_document(rt: HostRuntime) -> Result<(), Fail> {
     Ok(())
 }
 
-/// Whether a run over a number of so many digits puts out all of its line.
+/// Whether a run over a number with this many digits writes all of its line.
 fn runs_at(alloc: Global, size: usize) -> Result<bool, AllocError> {
     let mut digits = String::new(alloc);
     for _ in 0..size {
@@ -583,7 +583,7 @@ fn runs_at(alloc: Global, size: usize) -> Result<bool, AllocError> {
     Ok(ended == Ok(()) && output.inner.as_slice() == line.as_bytes())
 }
 
-/// Whether a run over a document of so many digits puts out the document.
+/// Whether a run over a document of this many digits writes the document.
 fn keeps_at(alloc: Global, size: usize) -> Result<bool, AllocError> {
     let mut digits = String::new(alloc);
     for _ in 0..size {
@@ -595,13 +595,13 @@ fn keeps_at(alloc: Global, size: usize) -> Result<bool, AllocError> {
     Ok(ended == Ok(()) && output.inner.as_slice() == digits.as_bytes())
 }
 
-/// Requests so many bytes, which tells `tests/test_memory.py` where a run begins and ends.
+/// Requests this many bytes, which marks the beginning and the end of a run for `tests/test_memory.py`.
 fn mark(alloc: Global, size: usize) -> Result<(), AllocError> {
     let _mark: Vec<u8> = Vec::with_capacity(alloc, size)?;
     Ok(())
 }
 
-/// Whether a run puts out this answer, or tells want of memory and puts out nothing.
+/// Whether a run writes this answer, or reports out of memory and writes nothing.
 fn answers_or_wants(
     alloc: Global,
     job: Job,
@@ -621,7 +621,7 @@ fn answers_or_wants(
     })
 }
 
-/// The output's own memory is found before a run, so that what a run asks for is all that can be refused.
+/// The output's memory is allocated before a run, so that only the requests of the run itself can be refused.
 const ROOM: usize = 1 << 10;
 
 /// `tests/test_memory.py` refuses the requests of these runs.
@@ -637,7 +637,7 @@ fn runs_without_memory(rt: HostRuntime) -> Result<(), Fail> {
     Ok(())
 }
 
-/// Around the room that is asked for at once, and far past it.
+/// Sizes around that of one read, and far above it.
 #[test]
 fn runs_at_each_size(rt: HostRuntime) -> Result<(), Fail> {
     for size in [1, 4095, 4096, 4097, 8 << 20] {
@@ -663,7 +663,7 @@ fn new_folder(rt: &HostRuntime, name: &str) -> Result<String, Fail> {
     Ok(folder)
 }
 
-/// The lines that tell of the two.
+/// The lines that report the two.
 fn refusals_of(alloc: Global, folder: &str) -> Result<String, AllocError> {
     format!(in alloc;
         "LaTeX2MathML Error: {folder}/b.html: The number of dollar sings found is invalid.\nLaTeX2MathML Error: {folder}/c.html: The token \"RBrace\" is expected, but the token \"EOF\" is found.\"\n"
@@ -684,8 +684,8 @@ fn serves_files(rt: HostRuntime) -> Result<(), Fail> {
     Ok(())
 }
 
-/// Whether the lines of the folder are put out up to so many bytes, after which the stream of errors fails. The input and
-/// the output would fail at once if they were asked.
+/// Whether the lines of the folder are written up to this many bytes, after which the stream of errors fails. The input
+/// and the output would fail at their first call.
 fn tells_of_files(rt: &HostRuntime, folder: &str, told: usize) -> Result<bool, AllocError> {
     let alloc = rt.alloc();
     let mut input = stream(by_bytes(b"x<y", 0));

@@ -15,7 +15,8 @@ use latex2mathml_nodes::ast::Node;
 use latex2mathml_tokens::{DisplayStyle, LatexError};
 use std::alloc::{AllocError, Global};
 
-/// Appends the `math` element of the tokens that are left. Each node is printed and dropped before the next is read.
+/// Appends the `math` element of the tokens that are left. Each node is printed and dropped before the next is read, so
+/// memory for one node is enough.
 pub(crate) fn append_math(
     alloc: Global,
     display: DisplayStyle,
@@ -42,7 +43,7 @@ pub(crate) fn append_math(
     Ok(())
 }
 
-/// The `math` element of the tokens that are left.
+/// Returns the `math` element of the tokens that are left.
 pub(crate) fn math(
     alloc: Global,
     display: DisplayStyle,
@@ -68,7 +69,7 @@ fn append_node(alloc: Global, node: Node, markup: &mut String) -> Result<(), All
     node.append_markup(alloc, markup)
 }
 
-/// Puts the markup of a formula behind the text.
+/// Appends the markup of a formula to the text.
 pub fn append_formula(
     alloc: Global,
     text: &mut String,

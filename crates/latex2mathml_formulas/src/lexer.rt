@@ -23,7 +23,7 @@ use latex2mathml_tokens::token::Token;
 use std::alloc::{AllocError, Global};
 use std::marker::Model;
 
-/// What is left of a text, which is taken token by token.
+/// The rest of a text, which is taken token by token.
 #[derive(Drop)]
 pub struct Lexer<'a> {
     rest: &'a str,
@@ -71,7 +71,7 @@ impl<'a> Lexer<'a> {
         }
     }
 
-    /// Takes the next token from the text and counts it. Nothing else does either.
+    /// Takes the next token from the text and counts it. No other function takes or counts a token.
     pub fn next(&mut self, alloc: Global) -> Result<Option<Token>, AllocError>
         ensures taken { IfOk result (λ found. MatchOption found
             ((self.old.slices ≡ []) × (self.new ≡ self.old))
@@ -90,20 +90,21 @@ impl<'a> Lexer<'a> {
             }
             Ok(None) => Ok(None),
             Err(error) => {
+                // The token stays in the text, so its comparisons are counted apart from those of taken tokens.
                 self.refused = compared;
                 Err(error)
             }
         }
     }
 
-    /// How many tokens were taken.
+    /// Returns the number of tokens that were taken.
     pub fn tokens(&self) -> u128
         ensures { result ≡ self.now.tokens }
     {
         self.tokens
     }
 
-    /// How many names were compared, also for a token that no memory was found for.
+    /// Returns the number of names that were compared, also for a token that was refused memory.
     pub fn comparisons(&self) -> u128
         ensures at_least { self.now.comparisons ≤ result }
         ensures at_most { result ≤ self.now.comparisons + 9 * backslashes self.now.slices }
@@ -122,8 +123,8 @@ fn takes_digit(token: &Token) -> bool
     }
 }
 
-/// The next token of the text and what follows it, or that only white space is left. `takes` says that a digit that
-/// directly follows is a number of its own. How many names were compared is told also where there is an `Err`.
+/// Returns the next token of the text and what follows it, or `None` where only white space is left. `takes` says that a
+/// digit that follows directly is a number of its own. The number of names compared is reported also for an `Err`.
 fn next_token<'a>(
     alloc: Global,
     text: &'a str,
@@ -148,8 +149,8 @@ fn next_token<'a>(
     }
 }
 
-/// The token at the start of the text and what follows it, where the text is c and after. `alone` says that a digit is
-/// a number of its own.
+/// Returns the token at the start of the text and what follows it, where the text is `c` and then `after`. `alone` says
+/// that a digit is a number of its own.
 fn token_at<'a>(
     alloc: Global,
     text: &'a str,
@@ -185,7 +186,7 @@ fn token_at<'a>(
     Ok((character(c), after))
 }
 
-/// The token of a colon and what follows it, where the text stands behind the colon.
+/// The token of a colon and what follows it. The text begins behind the colon.
 fn colon(text: &str) -> (Token, &str)
     ensures token { (alone : Bool) →
         BeginsWith alone (byte ":" ∷ chars text.now) (tok result.0) (chars result.1.now) }
@@ -251,7 +252,7 @@ fn number(alloc: Global, text: &str) -> Result<(Token, &str), AllocError>
     }
 }
 
-/// The command whose backslash stands before the text, and what follows it.
+/// The command and what follows it. The text begins behind the backslash.
 fn command<'a>(
     alloc: Global,
     text: &'a str,

@@ -1,5 +1,5 @@
 //! Tokens to trees: one loop over a stack of frames. Each step is proved to lead to what the grammar
-//! says of the tokens that were left before it.
+//! says about the tokens that were left before it.
 ghost use Rattle.std.specs.Prelude.{◌≡◌, ◌≢◌, ◌∷◌, ◌++◌, ◌+◌, ◌*◌, ◌<◌, ◌≤◌, [], IfOk, IsTrue, List, MatchOption, MatchResult, None, OnOk, Some, length, map, string_bytes, sum_by, vec_len};
 ghost use Rattle.latex2mathml_formulas.specs.Openers.{OpensFor, opens};
 ghost use Rattle.latex2mathml_formulas.specs.Frames.{Answers, Holds, after_first, awaits, enter, innermost, inside, rest_of_work, script as a_script, state_weight, weight, whole, with_limits, work};
@@ -43,7 +43,7 @@ enum State {
     End(Node),
 }
 
-/// The next node of the formula, or `None` where no token is left.
+/// Returns the next node of the formula, or `None` if no token is left.
 pub(crate) fn next_node(
     alloc: Global,
     tokens: &mut Tokens,
@@ -61,7 +61,7 @@ pub(crate) fn next_node(
     let Some(token) = tokens.take(alloc)? else {
         return Ok(None);
     };
-    // Most nodes are one token, and open no frame.
+    // `symbol` comes first, to save time: most nodes are one such token without a script, and need no frame and no step.
     match symbol(token) {
         Ok(x) => {
             if tokens.mark(alloc)?.is_none() {
@@ -145,7 +145,7 @@ fn next(alloc: Global, tokens: &mut Tokens, frames: &mut Frames) -> Result<State
     }
 }
 
-/// What is due where no token is left.
+/// What is due when no token is left: an open group is refused, and any other part is `EOF`, marked as an error.
 fn at_end(alloc: Global, due: Due) -> Result<State, LatexError>
     ensures holds { (input : List Tok) (fs : List Frame) → innermost fs ≡ due
         → Leads (inside (whole input) fs) [] → Answers input fs [] result }
@@ -274,7 +274,7 @@ fn begin(
     }
 }
 
-/// A root, and its degree, where one stands next in square brackets.
+/// A root, and its degree, if one stands next in square brackets.
 fn root(alloc: Global, tokens: &mut Tokens, frames: &mut Frames) -> Result<State, LatexError>
     ensures holds { (input : List Tok)
         → RuleLeads a_root (Made a_core (inside (whole input) frames.old.stack.items)) tokens.old.list
@@ -314,7 +314,7 @@ fn limits(
     Ok(State::Core(operator.bare()))
 }
 
-/// The name of a function, with a limit under it where the sign stands next.
+/// The name of a function, with a limit under it if the sign stands next.
 fn limit(
     alloc: Global,
     name: &'static str,
@@ -335,7 +335,7 @@ fn limit(
     Ok(State::Core(function(alloc, name)?))
 }
 
-/// A parenthesis of this size, which must stand next.
+/// A parenthesis of this size. It must stand next.
 fn sized(alloc: Global, size: &'static str, tokens: &mut Tokens) -> Result<State, LatexError>
     ensures holds { (input : List Tok) (fs : List Frame)
         → RuleLeads (takes_token (sized size.now)) (Made a_core (inside (whole input) fs)) tokens.old.list
@@ -354,7 +354,7 @@ fn sized(alloc: Global, size: &'static str, tokens: &mut Tokens) -> Result<State
     }
 }
 
-/// A slash, behind which a token is passed over.
+/// A slash. The token behind it is skipped.
 fn slash(alloc: Global, tokens: &mut Tokens, frames: &mut Frames) -> Result<State, LatexError>
     ensures holds { (input : List Tok)
         → RuleLeads (rule Slashed) (Made a_core (inside (whole input) frames.old.stack.items)) tokens.old.list
@@ -368,7 +368,7 @@ fn slash(alloc: Global, tokens: &mut Tokens, frames: &mut Frames) -> Result<Stat
     open(Frame::Slashed, frames)
 }
 
-/// A fence, which must stand next, and members behind it.
+/// A fence, which must stand next, and the members behind it.
 fn open_fence(alloc: Global, tokens: &mut Tokens, frames: &mut Frames) -> Result<State, LatexError>
     ensures holds { (input : List Tok)
         → RuleLeads (rule Left) (Made a_core (inside (whole input) frames.old.stack.items)) tokens.old.list
@@ -388,7 +388,7 @@ fn open_fence(alloc: Global, tokens: &mut Tokens, frames: &mut Frames) -> Result
     open(Frame::Fence(opening, Vec::new(alloc)), frames)
 }
 
-/// What a token prints as a fence, where it is one: a period prints nothing.
+/// What a token prints as a fence, if it is one: a period prints nothing.
 fn fence_of(token: &Token) -> Option<&'static str>
     ensures { MatchOption result (fence_of (tok token.now) ≡ None)
         (λ text. fence_of (tok token.now) ≡ Some text.now) }
@@ -400,7 +400,7 @@ fn fence_of(token: &Token) -> Option<&'static str>
     }
 }
 
-/// An operator that is to be stretched. The token that stands next is kept for the refusal.
+/// An operator that is to be stretched. The token that stands next is kept, because a refusal names it.
 fn stretch(alloc: Global, tokens: &mut Tokens, frames: &mut Frames) -> Result<State, LatexError>
     ensures holds { (input : List Tok)
         → RuleLeads (rule Middle) (Made a_core (inside (whole input) frames.old.stack.items)) tokens.old.list
@@ -414,7 +414,7 @@ fn stretch(alloc: Global, tokens: &mut Tokens, frames: &mut Frames) -> Result<St
     open(Frame::Stretch(got), frames)
 }
 
-/// An environment: its name, and members behind it.
+/// An environment: its name, and the members behind it.
 fn begin_environment(
     alloc: Global,
     tokens: &mut Tokens,
@@ -432,7 +432,7 @@ fn begin_environment(
     open(Frame::Environment(name, Vec::new(alloc)), frames)
 }
 
-/// Opens a frame, whose next part is due then.
+/// Opens a frame. Its next part is due then.
 fn open(frame: Frame, frames: &mut Frames) -> Result<State, LatexError>
     ensures holds { (input place : List Tok)
         → Leads (enter frame (inside (whole input) frames.old.stack.items)) place
@@ -445,7 +445,7 @@ fn open(frame: Frame, frames: &mut Frames) -> Result<State, LatexError>
     Ok(State::Next)
 }
 
-/// Puts a frame back that was taken off, whose next part is due then.
+/// Puts a frame back that was taken off. Its next part is due then. This is no opening: the frame was counted before.
 fn put_back(frame: Frame, frames: &mut Frames) -> Result<State, LatexError>
     requires { vec_len frames.old.stack < frames.old.greatest }
     ensures holds { (input place : List Tok)
@@ -459,7 +459,7 @@ fn put_back(frame: Frame, frames: &mut Frames) -> Result<State, LatexError>
     Ok(State::Next)
 }
 
-/// Goes on after a core, with a prime or a script where one follows.
+/// Goes on after a core, with a prime or a script if one follows.
 fn after_core(
     alloc: Global,
     x: Node,
@@ -507,7 +507,7 @@ fn after_prime(
     after_single(alloc, single, tokens, frames)
 }
 
-/// Goes on after a single, with a script where one follows.
+/// Goes on after a single, with a script if one follows.
 fn after_single(
     alloc: Global,
     x: Node,
@@ -531,7 +531,7 @@ fn after_single(
     }
 }
 
-/// Goes on after a single that a sign follows: the sign is taken where a node is due.
+/// Goes on after a single that a sign follows: the sign is taken if a node is due.
 fn after_sign(
     alloc: Global,
     sign: Sign,
@@ -615,7 +615,7 @@ fn deliver(
     }
 }
 
-/// Goes on after the single of a rule that takes a second one where its sign stands next.
+/// Goes on after the single of a rule that takes a second one if its sign stands next.
 fn after_first(
     alloc: Global,
     rule: Pair,
@@ -638,7 +638,7 @@ fn after_first(
     Ok(State::Core(rule.one(alloc, x)?))
 }
 
-/// A node with a slash, behind which a token is passed over.
+/// A node with a slash. The token behind it is skipped.
 fn slashed(alloc: Global, x: Node, tokens: &mut Tokens) -> Result<State, LatexError>
     ensures holds { (input : List Tok) (fs : List Frame)
         → RuleLeads (under_slash (tree x)) (Made a_core (inside (whole input) fs)) tokens.old.list
@@ -690,7 +690,7 @@ fn with(mut members: Vec<Node>, x: Node) -> Result<Vec<Node>, AllocError>
     Ok(members)
 }
 
-/// What carries a script, with its script.
+/// A base with its script.
 fn script(alloc: Global, sign: Sign, target: Node, x: Node) -> Result<Node, AllocError>
     ensures { IfOk result (λ whole. tree whole ≡ a_script sign (tree target) (tree x)) }
 {
@@ -700,7 +700,7 @@ fn script(alloc: Global, sign: Sign, target: Node, x: Node) -> Result<Node, Allo
     }
 }
 
-/// The node of a token of the kinds that there are most of, or the token itself.
+/// The node of a token of the most frequent kinds, or the token itself.
 fn symbol(token: Token) -> Result<Node, Token>
     ensures { MatchResult result (λ x. rule (tok token) ≡ gives (tree x)) (λ other. tok other ≡ tok token) }
 {

@@ -1,4 +1,4 @@
--- Trees can be told apart: of any two it is known whether they are one value.
+-- Equality of trees is decidable.
 use Rattle.std.specs.Prelude.{Bool}
 use mathlib.Core.Bool.{Bool-discrete}
 use mathlib.Core.HLevel.{Discrete}
@@ -12,6 +12,6 @@ use Rattle.latex2mathml_nodes.specs.Tree.{Tree, Tree-discrete}
 pub tree-discrete : Discrete Tree
 tree-discrete = Tree-discrete (List-discrete ℕ_discrete) ℕ_discrete variant-discrete ℤ_discrete accent-discrete thickness-discrete Bool-discrete align-discrete (optional display-discrete)
 
--- whether two trees are one
+-- whether two trees are equal
 abbrev pub same_tree : Tree → Tree → Bool
 same_tree = same tree-discrete

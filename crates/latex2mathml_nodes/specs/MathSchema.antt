@@ -10,7 +10,7 @@ pub data Holding : Type 0 where
   text : Holding
   -- nothing at all
   nothing : Holding
-  -- so many elements
+  -- this many elements
   exactly : ℕ → Holding
   -- any number of elements
   elements : Holding
@@ -41,7 +41,7 @@ holding_table =
     (codes "mtr", all_of (codes "mtd")) ∷
     []
 
--- what an element of this name may hold, where there is one
+-- what an element of this name may hold, if there is one
 abbrev pub holding : List (Name × Holding) → Name → Option Holding
 holding [] name = None
 holding (entry ∷ entries) name = if same_name entry.0 name then Some entry.1 else holding entries name

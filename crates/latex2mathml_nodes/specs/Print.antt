@@ -9,7 +9,7 @@ use Rattle.latex2mathml_tokens.specs.declared.DisplayStyle.TheVariants.{Block, I
 use Rattle.latex2mathml_tokens.specs.declared.attribute.Variant.{Variant}
 use Rattle.latex2mathml_tokens.specs.declared.attribute.Variant.TheVariants.{Italic}
 
--- a letter; italic is what a browser does by itself
+-- a letter; italic is the browser's default
 abbrev pub letter_print : ℕ → Variant → List ℕ
 letter_print c Italic = codes "<mi>" ++ (content_char c ++ codes "</mi>")
 letter_print c variant = codes "<mi mathvariant=\"" ++ (variant_text variant ++ (codes "\">" ++ (content_char c ++ codes "</mi>")))

@@ -1,4 +1,4 @@
--- Trees that a rule of the grammar makes of its parts, where they are more than one node of the parts, and the texts of
+-- Trees that a rule of the grammar makes of its parts, if they are more than one node of the parts, and the texts of
 -- fences.
 use Rattle.std.specs.Prelude.{ℕ, ◌==◌, List, [], true, Option, Some, None, if◌then◌else◌, codes, ◌∷◌}
 use Rattle.std.specs.Char.{encode_utf8}
@@ -49,18 +49,18 @@ fence_of (Paren text) = Some text
 fence_of (Operator c) = if c == byte "." then Some [] else None
 fence_of t = None
 
--- the operator that grows with what stands around it, where the tree is an operator
+-- the operator that grows with what stands around it, if the tree is an operator
 abbrev pub stretched_of : Tree → Option Tree
 stretched_of (operator c) = Some (stretched true (encode_utf8 c))
 stretched_of (other_operator text) = Some (stretched true text)
 stretched_of x = None
 
--- the members, where a tree is a row
+-- the members, if a tree is a row
 abbrev pub members_of : Tree → Option Trees
 members_of (row members) = Some members
 members_of x = None
 
--- what a group gives to a matrix: the members where it is a row, otherwise itself as the one member
+-- what a group gives to a matrix: the members if it is a row, otherwise itself as the one member
 abbrev pub spread : Tree → Trees
 spread (row members) = members
 spread x = more_trees x no_trees
@@ -72,7 +72,7 @@ matrix_of align group = matrix (spread group) align
 abbrev pub fenced_matrix : List ℕ → List ℕ → Tree → Tree
 fenced_matrix opening close group = fenced opening close (matrix_of Center group)
 
--- an environment of this name around a group, where there is one of the name
+-- an environment of this name around a group, if there is one of this name
 abbrev pub environment_tree : List ℕ → Tree → Option Tree
 environment_tree name group =
     if bytes_eq name (codes "matrix") then Some (matrix_of Center group) else

@@ -1,4 +1,4 @@
--- What rows stand for whose members are given a style, the last one first, and how much is left to do. These words
+-- What rows stand for whose members are given a style, the last one first, and how much is left to do. These definitions
 -- serve the contracts of the functions that give a style without recursion.
 use Rattle.std.specs.Prelude.{ℕ, ◌+◌, List, [], ◌∷◌, ◌++◌, map, reverse}
 use Rattle.latex2mathml_nodes.specs.Style.{styled}

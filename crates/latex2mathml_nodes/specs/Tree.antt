@@ -14,24 +14,24 @@ mutual
     number : List ℕ → Tree
     letter : ℕ → Variant → Tree
     operator : ℕ → Tree
-    -- the name of a function, alone and with what it is applied to
+    -- the name of a function, alone and with its argument
     function : List ℕ → Tree
     applied : List ℕ → Tree → Tree
     -- in eighteenths of an em
     space : ℤ → Tree
-    -- what carries a script, and then the script
+    -- the base, and then the script
     subscript : Tree → Tree → Tree
     superscript : Tree → Tree → Tree
     sub_sup : Tree → Tree → Tree → Tree
     over_op : ℕ → Accent → Tree → Tree
     under_op : ℕ → Accent → Tree → Tree
-    -- what stands over or under, and then what it stands at
+    -- what stands over or under, and then the base
     overset : Tree → Tree → Tree
     underset : Tree → Tree → Tree
-    -- what carries limits, then the one under it, then the one over it
+    -- the base, then the limit under it, then the limit over it
     under : Tree → Tree → Tree
     under_over : Tree → Tree → Tree → Tree
-    -- the degree, and then what the root is of
+    -- the degree, and then the radicand
     root : Tree → Tree → Tree
     sqrt : Tree → Tree
     frac : Tree → Tree → LineThickness → Tree
@@ -60,7 +60,7 @@ abbrev pub trees_of : List Tree → Trees
 trees_of [] = no_trees
 trees_of (x ∷ xs) = more_trees x (trees_of xs)
 
--- a function, where what it is applied to may be missing
+-- a function, where its argument may be missing
 abbrev pub function_tree : List ℕ → Option Tree → Tree
 function_tree name None = function name
 function_tree name (Some x) = applied name x

@@ -1,4 +1,4 @@
--- How many nodes and lists there are to let go.
+-- How many nodes and lists there are to drop.
 use Rattle.std.specs.Prelude.{ℕ, ◌+◌}
 use Rattle.latex2mathml_nodes.specs.Tree.{Tree, Trees, applied, subscript, superscript, sub_sup, over_op, under_op, overset, underset, under, under_over, root, sqrt, frac, row, fenced, matrix, slashed, style, no_trees, more_trees}
 

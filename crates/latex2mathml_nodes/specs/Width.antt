@@ -23,7 +23,7 @@ digit n = byte "0" + n
 abbrev pub three_digits : ℕ → List ℕ
 three_digits n = digit (n / 100 % 10) ∷ digit (n / 10 % 10) ∷ digit (n % 10) ∷ []
 
--- a digit before the digits that were kept, where a zero before none is dropped
+-- a digit before the digits that were kept; a zero before none is dropped
 abbrev pub keep : ℕ → List ℕ → List ℕ
 keep d [] = if d == byte "0" then [] else d ∷ []
 keep d (next ∷ kept) = d ∷ next ∷ kept
@@ -33,7 +33,7 @@ abbrev pub trimmed : List ℕ → List ℕ
 trimmed [] = []
 trimmed (d ∷ digits) = keep d (trimmed digits)
 
--- a period and the digits, or nothing where there are no digits
+-- a period and the digits, or nothing if there are no digits
 abbrev pub after_point : List ℕ → List ℕ
 after_point [] = []
 after_point (d ∷ digits) = byte "." ∷ d ∷ digits
@@ -42,7 +42,7 @@ after_point (d ∷ digits) = byte "." ∷ d ∷ digits
 abbrev pub thousandths_text : ℕ → List ℕ
 thousandths_text t = decimal (t / 1000) ++ after_point (trimmed (three_digits (t % 1000)))
 
--- the width, with a minus sign where it is negative
+-- the width, with a minus sign if it is negative
 abbrev pub width_text : ℤ → List ℕ
 width_text (pos n) = thousandths_text (thousandths n)
 width_text (negsuc n) = byte "-" ∷ thousandths_text (thousandths (suc n))

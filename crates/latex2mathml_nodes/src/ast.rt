@@ -16,24 +16,24 @@ use std::alloc::{AllocError, Global};
 
 /// A part of a formula. Its `Display` prints the markup, and escapes texts and characters there.
 ///
-/// `Display`, copying, comparing and [`Node::set_variant`] recurse as deep as it is nested; [`Node::append_markup`] and
-/// [`Node::styled`] do not, and take memory in place of that. Dropping is a loop and takes no memory, however deep it is. As
-/// it has a `drop` of its own, match on a reference to it: only its methods take it apart.
+/// `Display`, copying, comparing and [`Node::set_variant`] recurse to the node's depth. [`Node::append_markup`] and
+/// [`Node::styled`] do not: they allocate instead. Dropping is a loop that allocates nothing, at any depth. A `Node` has a
+/// `drop` of its own, so match on a reference to it: only its methods take it apart by value.
 #[derive(Debug)]
 pub enum Node {
     Number(String),
     /// A letter, or any other character that stands for itself, and its style.
     Letter(char, Variant),
     Operator(char),
-    /// The name of a function, and what it is applied to, where that is known.
+    /// The name of a function, and its argument, if that is known.
     Function(String, Option<Box<Node>>),
     /// A space, in eighteenths of an em.
     Space(i32),
-    /// What carries the script, and the script under it.
+    /// A base and its subscript.
     Subscript(Box<Node>, Box<Node>),
-    /// What carries the script, and the script over it.
+    /// A base and its superscript.
     Superscript(Box<Node>, Box<Node>),
-    /// What carries the scripts, the script under it and the script over it.
+    /// A base, its subscript and its superscript.
     SubSup {
         target: Box<Node>,
         sub: Box<Node>,
@@ -53,15 +53,15 @@ pub enum Node {
         under: Box<Node>,
         target: Box<Node>,
     },
-    /// What carries the limit, and the limit under it.
+    /// A base and the limit under it.
     Under(Box<Node>, Box<Node>),
-    /// What carries the limits, the limit under it and the limit over it.
+    /// A base, the limit under it and the limit over it.
     UnderOver {
         target: Box<Node>,
         under: Box<Node>,
         over: Box<Node>,
     },
-    /// The degree of a root, where it has one, and what the root is of.
+    /// The degree of a root, if it has one, and the radicand.
     Sqrt(Option<Box<Node>>, Box<Node>),
     /// The numerator, the denominator, and the line between them.
     Frac(Box<Node>, Box<Node>, LineThickness),
@@ -86,14 +86,14 @@ pub enum Node {
     Text(String),
     /// A table: the cells one after another, each ended by `Ampersand`, each row of the matrix ended by `NewLine`.
     Matrix(Vec<Node>, ColumnAlign),
-    /// The end of a cell, where a matrix has it as a member; elsewhere it is marked as an error.
+    /// The end of a cell, if a matrix has it as a member; elsewhere it is marked as an error.
     Ampersand,
-    /// The end of a row of a matrix, where a matrix has it as a member; elsewhere it is marked as an
+    /// The end of a row of a matrix, if a matrix has it as a member; elsewhere it is marked as an
     /// error.
     NewLine,
     /// A letter or an operator with a slash through it. Any other node shows no slash.
     Slashed(Box<Node>),
-    /// A node set as in a block or as in a line of text, where that is known.
+    /// A node set as in a block or as in a line of text, if one of the two is given.
     Style(Option<DisplayStyle>, Box<Node>),
     /// The text of a token that has no meaning where it stands. It is marked as an error.
     Undefined(String),
@@ -102,7 +102,7 @@ pub enum Node {
 impl Drop for Node {
     #[inline]
     fn drop(self) {
-        // leaves go at once
+        // A leaf needs no loop. Most nodes are leaves.
         match self {
             Node::Letter(_, _)
             | Node::Operator(_)
@@ -118,7 +118,7 @@ impl Drop for Node {
 }
 
 impl Node {
-    /// A node with the same contents, or an `Err` where memory for its parts is not found.
+    /// Returns a node with the same contents, or an `Err` when out of memory for its parts.
     #[cycle(clone)]
     pub fn clone(&self, alloc: Global) -> Result<Node, AllocError>
         ensures { IfOk result (λ copy. tree copy ≡ tree self.now) }

@@ -1,6 +1,6 @@
 //! The trees of formulas and their markup.
 //!
-//! The crate `latex2mathml` hands on what its callers need of this one.
+//! The crate `latex2mathml` re-exports what its callers need from this one.
 #![tactic(auto)]
 
 pub mod ast;

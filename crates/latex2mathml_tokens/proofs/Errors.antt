@@ -1,10 +1,10 @@
--- Errors that a call hands on, and the refusals that they tell.
+-- Errors that a call passes on, and the refusals that they report.
 use Rattle.std.proofs.Common.{◌≡◌, Option, Some, None, Result, Ok, Err, sym, subst}
 use Rattle.std.specs.Prelude.{IfSome, IsErrAnd}
 use Rattle.latex2mathml_tokens.specs.Refusal.{IfRefused, Refusal, refusal_of}
 use Rattle.latex2mathml_tokens.specs.declared.error.LatexError.{LatexError}
 
--- a refusal has another fact
+-- a fact about a refusal gives another one
 weaker : (P Q : Refusal → Type 0) (o : Option Refusal) → ((r : Refusal) → P r → Q r) → IfSome o P → IfSome o Q
 weaker P Q None f d = tt
 weaker P Q (Some r) f d = f r d

@@ -1,4 +1,4 @@
--- What one comparison in a table in order tells of a look-up.
+-- What one comparison in a sorted table says about a look-up.
 use Rattle.std.proofs.Common.{◌≡◌, ℕ, ◌+◌, ◌*◌, ◌^◌, ◌<◌, ◌≤◌, Bool, true, false, ◌&&◌, List, [], ◌∷◌, ◌++◌, refl, sym, ap, subst, ◌∙◌, arith, map, take, drop, get_or, ◌/◌, ◌==◌, take-append-drop, drop-cons, add-one, Some, None, length}
 use Rattle.std.specs.declared.cmp.Ordering.{Ordering}
 use Rattle.std.specs.declared.cmp.Ordering.TheVariants.{Less, Equal, Greater}
@@ -105,7 +105,7 @@ pub InOrder-right : (xs ys : Entries) → InOrder (xs ++ ys) → InOrder ys
 InOrder-right [] ys a = a
 InOrder-right (z ∷ xs) ys a = InOrder-right xs ys a.1
 
--- what the search keeps: the entries that are left decide the look-up, and n comparisons have left so few
+-- the invariant of the search: the entries that are left decide the look-up, and n comparisons bound their number
 pub record Narrowed (table entries : List Entry) (name : List ℕ) (n : ℕ) : Type 0 where
   pub same : entry_token (map entry_of table) name ≡ entry_token (map entry_of entries) name
   pub ordered : InOrder (map entry_of entries)
@@ -142,7 +142,7 @@ drop_half entries h = simp length-drop (omega arith)
 nonempty : (entries : List Entry) → (length entries == 0) ≡ false → 0 < length entries
 nonempty entries h = grind (arith, nat_tests)
 
--- the left half is left where the name is less than the middle entry's
+-- the left half remains if the name is less than the middle entry's
 half_left : (table entries : List Entry) (name : List ℕ) (n : ℕ) (d : Entry) → Narrowed table entries name n → 0 < length entries → slice_cmp nat_cmp name (get_or entries (length entries / 2) d).name.now ≡ Less → Narrowed table (take (length entries / 2) entries) name (n + 1)
 half_left table entries name n d inv h less =
     let m : ℕ = length entries / 2 in
@@ -157,7 +157,7 @@ half_left table entries name n d inv h less =
       some = λ _. omega arith;
     }
 
--- and the right half where it is greater
+-- and the right half if it is greater
 half_right : (table entries : List Entry) (name : List ℕ) (n : ℕ) (d : Entry) → Narrowed table entries name n → 0 < length entries → slice_cmp nat_cmp name (get_or entries (length entries / 2) d).name.now ≡ Greater → Narrowed table (drop (length entries / 2 + 1) entries) name (n + 1)
 half_right table entries name n d inv h greater =
     let m : ℕ = length entries / 2 in
@@ -174,7 +174,7 @@ half_right table entries name n d inv h greater =
       some = λ _. omega arith;
     }
 
--- the middle entry is the answer where its name is equal
+-- the middle entry is the result if its name is equal
 pub found : (table entries : List Entry) (name : List ℕ) (n : ℕ) (d : Entry) (o : Ordering) → Narrowed table entries name n → (length entries == 0) ≡ false → o ≡ slice_cmp nat_cmp name (get_or entries (length entries / 2) d).name.now → o ≡ Equal → entry_token (map entry_of table) name ≡ Some (entry_of (get_or entries (length entries / 2) d)).1
 found table entries name n d o inv h' cmp is =
     let h : 0 < length entries = nonempty entries h' in
@@ -185,7 +185,7 @@ found table entries name n d o inv h' cmp is =
     let a : InOrder (map entry_of (take m entries) ++ entry_of (get_or entries m d) ∷ map entry_of (drop (m + 1) entries)) = subst InOrder split inv.ordered in
     inv.same ∙ ap (λ r. entry_token r name) split ∙ stands_here name _ (entry_of (get_or entries m d)) _ a (equal_names name (get_or entries m d).name.now equal)
 
--- no entry is, where none is left
+-- no entry is the result if none is left
 pub none_left : (table entries : List Entry) (name : List ℕ) (n : ℕ) → Narrowed table entries name n → length entries ≡ 0 → entry_token (map entry_of table) name ≡ None
 none_left table [] name n inv h = inv.same
 none_left table (r ∷ entries) name n inv h = absurd (omega arith)

@@ -1,4 +1,4 @@
--- The command table is in order, has 474 entries, and none of them has the empty name. All of it is computed.
+-- The command table is sorted and has 474 entries, none of them with the empty name. All of this is computed.
 use Rattle.std.proofs.Common.{◌≡◌, [], true, refl, length}
 use Rattle.latex2mathml_tokens.specs.Commands.{command_entries, command_token}
 use Rattle.latex2mathml_tokens.specs.Ordered.{ascending}

@@ -487,7 +487,7 @@ command_entries =
     (codes "}", Paren (codes "}")) ∷
     []
 
--- the token of the entry with this name, where there is one
+-- the token of the entry with this name, if there is one
 abbrev pub entry_token : List (List ℕ × Tok) → List ℕ → Option Tok
 entry_token [] name = None
 entry_token (entry ∷ entries) name = cond (pointwise nat_eq entry.0 name) (Some entry.1) (entry_token entries name)

@@ -1,5 +1,5 @@
--- Attributes, tokens and refusals can be told apart: of any two it is known whether they are one value. The numbers of
--- the attributes serve that proof alone, and say nothing of the language.
+-- Equality of attributes, tokens and refusals is decidable. The numbers of the attributes serve that proof alone, and say
+-- nothing about the language.
 use Rattle.std.specs.Prelude.{◌≡◌, ℕ, zero, suc, ◌==◌, Bool, Option, refl, if◌then◌else◌}
 use mathlib.Core.HLevel.{Discrete}
 use mathlib.Core.List.{List-discrete}
@@ -151,7 +151,7 @@ refusal-discrete = Refusal-discrete tok-discrete (List-discrete ℕ_discrete)
 pub optional_refusal-discrete : Discrete (Option Refusal)
 optional_refusal-discrete = optional refusal-discrete
 
--- whether two tokens, two refusals are one
+-- whether two tokens are equal, and whether two refusals are
 abbrev pub same_tok : Tok → Tok → Bool
 same_tok = same tok-discrete
 

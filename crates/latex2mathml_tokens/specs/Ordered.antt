@@ -1,10 +1,10 @@
--- Entries in the order of their names' bytes.
+-- Entries that are sorted by their names' bytes.
 use Rattle.std.specs.Prelude.{ℕ, List, [], ◌∷◌, Bool, true, ◌&&◌}
 use Rattle.std.specs.Cmp.Lexicographic.{slice_cmp}
 use Rattle.std.specs.Ordering.{nat_cmp, is_lt}
 use Rattle.latex2mathml_tokens.specs.Tok.{Tok}
 
--- the name is less than the first entry's, where there is one
+-- the name is less than the first entry's, if there is one
 abbrev pub before_first : List ℕ → List (List ℕ × Tok) → Bool
 before_first name [] = true
 before_first name (entry ∷ entries) = is_lt (slice_cmp nat_cmp name entry.0)

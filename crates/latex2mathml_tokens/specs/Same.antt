@@ -1,4 +1,4 @@
--- Equality as a test that answers true or false, of any values that can be told apart.
+-- Equality as a test that returns true or false, for values whose equality is decidable.
 use Rattle.std.specs.Prelude.{◌≡◌, Bool, true, false, Option, Some, None, unwrap_or, refl}
 use Rattle.std.specs.Bool.{Decides}
 use Rattle.std.specs.Cmp.{IsPartialEquivalence}
@@ -9,7 +9,7 @@ abbrev pub is_yes : {P : Type 0} → Dec P → Bool
 is_yes (yes p) = true
 is_yes (no q) = false
 
--- whether the two are one value
+-- whether the two values are equal
 abbrev pub same : {A : Type 0} → Discrete A → A → A → Bool
 same decide x y = is_yes (decide x y)
 
@@ -36,7 +36,7 @@ same_laws decide f = record {
   trans = λ x y z h k. (same-Decides decide (f x) (f z)).1 ((same-Decides decide (f x) (f y)).0 h ∙ (same-Decides decide (f y) (f z)).0 k);
 }
 
--- two values are told apart by a number of each from which the value comes back
+-- equality is decidable where each value has a number from which the value can be recovered
 pub told_apart_by : {A B : Type 0} (number : A → B) (back : B → A) → ((a : A) → back (number a) ≡ a) → Discrete B → Discrete A
 told_apart_by number back again decide x y = apart (decide (number x) (number y))
   where
@@ -48,7 +48,7 @@ abbrev IsMissing : {A : Type 0} → Option A → Type 0
 IsMissing None = Unit {0}
 IsMissing (Some x) = ⊥
 
--- and so are values that may be missing
+-- and so is that of values that may be missing
 pub optional : {A : Type 0} → Discrete A → Discrete (Option A)
 optional decide None None = yes refl
 optional decide None (Some y) = no (λ e. subst IsMissing e tt)

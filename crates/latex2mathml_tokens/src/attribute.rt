@@ -72,12 +72,12 @@ pub enum LineThickness {
     Thin,
     Medium,
     Thick,
-    /// A number without a unit: so many times the medium thickness. At 0 there is no line.
+    /// A number without a unit: a multiple of the medium thickness. At 0 there is no line.
     Length(u8),
 }
 
-/// Prints the whole attribute with a space before it, such as ` linethickness="thick"`; `Medium`, which is what a
-/// browser does by itself, prints nothing.
+/// Prints the whole attribute with a space before it, such as ` linethickness="thick"`. `Medium` is the browser's default
+/// and prints nothing.
 impl fmt::Display for LineThickness {
     ghost output = { λ thickness. Some (thickness_text thickness) };
 
@@ -91,7 +91,7 @@ impl fmt::Display for LineThickness {
     }
 }
 
-/// On which side the columns of a table stand.
+/// How the columns of a table are aligned.
 #[derive(Debug, Clone, Copy, PartialEq, Eq)]
 pub enum ColumnAlign {
     Center,
@@ -99,8 +99,8 @@ pub enum ColumnAlign {
     Right,
 }
 
-/// Prints the whole attribute with a space before it, such as ` columnalign="left"`; `Center`, which is what a browser
-/// does by itself, prints nothing.
+/// Prints the whole attribute with a space before it, such as ` columnalign="left"`. `Center` is the browser's default and
+/// prints nothing.
 impl fmt::Display for ColumnAlign {
     ghost output = { λ align. Some (align_text align) };
 

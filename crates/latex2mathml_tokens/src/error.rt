@@ -14,20 +14,20 @@ use std::fmt;
 /// Why a formula is refused.
 #[derive(Debug, Drop)]
 pub enum LatexError {
-    /// A token is expected, and another is found: a group is still open where the formula ends.
+    /// A token is expected and another one is found, such as the end of the formula in an open group.
     UnexpectedToken { expected: Token, got: Token },
     /// A parenthesis is missing after a token, and another token is found.
     MissingParensethis { location: Token, got: Token },
-    /// The name of an environment that there is not.
+    /// No environment has this name.
     UnknownEnvironment(String),
-    /// The dollar signs of a document do not mark off formulas.
+    /// The dollar signs of a document do not pair up into formulas.
     InvalidNumberOfDollarSigns,
-    /// Memory could not be found. It may stand in place of any other answer.
+    /// Out of memory. A call that allocates may return it in place of any other result.
     OutOfMemory,
 }
 
 impl LatexError {
-    /// An error with the same contents, or an `Err` where memory for the texts of its tokens is not found.
+    /// Returns an error with the same contents, or an `Err` when out of memory for the texts of its tokens.
     pub fn clone(&self, alloc: Global) -> Result<LatexError, AllocError>
         ensures { IfOk result (λ copy. refusal_of copy ≡ refusal_of self.now) }
     {
@@ -51,7 +51,7 @@ impl LatexError {
     }
 }
 
-/// Two errors are equal where their contents are.
+/// Two errors are equal if their contents are.
 impl PartialEq for LatexError {
     ghost eq = { λ a b. same_refusal (refusal_of a) (refusal_of b) };
 

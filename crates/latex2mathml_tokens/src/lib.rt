@@ -1,6 +1,6 @@
 //! Tokens of formulas, with the command table, the attributes of markup, and refusals.
 //!
-//! The crate `latex2mathml` hands on what its callers need of this one.
+//! The crate `latex2mathml` re-exports what its callers need from this one.
 #![tactic(auto)]
 
 ghost use Rattle.std.specs.Prelude.{Some};

@@ -18,10 +18,10 @@ use std::alloc::{AllocError, Global};
 /// What a slice of a formula stands for.
 #[derive(Debug, Drop)]
 pub enum Token {
-    /// A character that stands for nothing, which is the NUL.
+    /// A character without a meaning: the NUL.
     Illegal(char),
-    /// The end of the formula. No slice of a text is this token: it stands in refusals and marked
-    /// errors.
+    /// The end of the formula. No slice of a text is this token: it appears in refusals and marked
+    /// errors only.
     EOF,
     /// The beginning of an environment.
     Begin,
@@ -49,11 +49,11 @@ pub enum Token {
     Underscore,
     /// `^`
     Circumflex,
-    /// A binomial, and how it is set, where that is said.
+    /// A binomial coefficient, and the style in which it is set, if the command names one.
     Binom(Option<DisplayStyle>),
-    /// Before what stands over, and what it stands over.
+    /// Before two operands: the first is set over the second.
     Overset,
-    /// Before what stands under, and what it stands under.
+    /// Before two operands: the first is set under the second.
     Underset,
     /// A brace over what follows.
     Overbrace(char),
@@ -91,16 +91,15 @@ pub enum Token {
     Slashed,
     /// Before words.
     Text,
-    /// A command that the table does not have, by its name without the backslash.
+    /// A command that is not in the command table, by its name without the backslash.
     Command(String),
 }
 
 impl Token {
-    /// The token that the command with this name stands for, where a name is written without its
-    /// backslash.
+    /// Returns the token of the command with this name, which is given without its backslash.
     ///
-    /// A name that the command table has takes no memory and is always `Ok`. Any other is a
-    /// [`Token::Command`] of itself, and an `Err` where memory for that name is not found, which leaves nothing behind.
+    /// A name in the command table needs no memory and is always `Ok`. Any other name becomes a
+    /// [`Token::Command`] of itself, or an `Err` when out of memory. An `Err` leaves nothing allocated.
     pub fn from_command(alloc: Global, command: &str) -> Result<Token, AllocError>
         ensures token { IfOk result (λ token. tok token ≡ command_token command.now) }
         ensures in_table { IsSome (entry_token command_entries command.now) → IsOk result }
@@ -109,7 +108,7 @@ impl Token {
         Token::from_command_counted(alloc, command, &mut compared)
     }
 
-    /// The same, with how many names of the command table were compared, also where there is an `Err`.
+    /// The same, with the number of names of the command table that were compared, also for an `Err`.
     #[tactic(auto, unfolding(crate::specs::Commands::command_token))]
     pub fn from_command_counted(
         alloc: Global,
@@ -129,7 +128,7 @@ impl Token {
         }
     }
 
-    /// A token with the same contents, or an `Err` where memory for its text is not found.
+    /// Returns a token with the same contents, or an `Err` when out of memory for its text.
     pub fn clone(&self, alloc: Global) -> Result<Token, AllocError>
         ensures { IfOk result (λ copy. tok copy ≡ tok self.now) }
     {
@@ -175,7 +174,7 @@ impl Token {
     }
 }
 
-/// Two tokens are equal where their contents are. Written out, and not derived, so that the contract says so.
+/// Two tokens are equal if their contents are. Written out and not derived, so that the contract says so.
 impl PartialEq for Token {
     ghost eq = { λ a b. same_tok (tok a) (tok b) };
 

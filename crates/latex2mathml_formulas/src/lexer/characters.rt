@@ -39,7 +39,7 @@ pub(crate) fn first_char(text: &str) -> Option<(char, &str)>
     Some((first, characters.as_str()))
 }
 
-/// What follows this character, where the text begins with it.
+/// What follows this character, if the text begins with it.
 pub(crate) fn after_char(text: &str, c: char) -> Option<&str>
     ensures first { MatchOption result (Stops (λ x. x == c) (head (chars text.now)))
         (λ rest. chars text.now ≡ c ∷ chars rest.now) }

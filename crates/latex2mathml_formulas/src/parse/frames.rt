@@ -1,4 +1,4 @@
-//! The parser's stack: rules that were begun, with the parts read so far.
+//! The parser's stack of frames: rules that were begun, with the parts read so far.
 ghost use Rattle.std.specs.Prelude.{◌≡◌, ◌≢◌, ◌⊎◌, ◌∷◌, ◌++◌, ◌+◌, ◌<◌, ◌≤◌, ◌↔◌, [], IsTrue, List, MatchBool, max, vec_len, MatchOption, OnOk};
 ghost use Rattle.latex2mathml_formulas.specs.Frames.{awaits, innermost};
 ghost use Rattle.latex2mathml_formulas.specs.Levels.{MayBegin, end_token};
@@ -129,7 +129,7 @@ pub(crate) enum Frame {
     Stretch(Token),
     /// The name of an environment, and its members.
     Environment(String, Vec<Node>),
-    /// What carries a script.
+    /// The base of a script.
     Script(Sign, Node),
 }
 
@@ -151,7 +151,7 @@ impl Frame {
     }
 }
 
-/// The frames, the innermost last, and the greatest number of them that there was at once.
+/// The frames, the innermost last, and the greatest number of them at any time.
 #[derive(Drop)]
 pub(crate) struct Frames {
     pub(crate) stack: Vec<Frame>,
@@ -180,7 +180,7 @@ impl Frames {
         Ok(())
     }
 
-    /// Puts a frame back that was taken off, with one more part.
+    /// Puts a frame back that was taken off, with one more part. This is no opening, so it leaves the greatest number.
     pub(crate) fn put_back(&mut self, frame: Frame) -> Result<(), AllocError>
         requires { vec_len self.old.stack < self.old.greatest }
         ensures stack { OnOk result (self.new.stack.items ≡ self.old.stack.items ++ frame ∷ []) }

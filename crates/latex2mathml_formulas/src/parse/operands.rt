@@ -99,12 +99,12 @@ impl Limited {
     }
 }
 
-/// A rule of a single, and of a second one where a sign stands between them.
+/// A rule of a single, and of a second one if a sign stands between them.
 #[derive(Debug, Clone, Copy)]
 pub(crate) enum Pair {
     Overbrace(char),
     Underbrace(char),
-    /// The limits of an operator, where this sign stood before the first.
+    /// The limits of an operator. This sign stood before the first.
     Limits(Limited, Sign),
 }
 

@@ -1,4 +1,4 @@
-//! The tokens of a text, one ahead.
+//! The tokens of a text, with one token of lookahead.
 ghost use Rattle.std.specs.Prelude.{◌≡◌, ◌≢◌, ◌+◌, ◌*◌, ◌≤◌, ◌∷◌, [], true, false, Some, IfOk, IfSome, MatchBool, MatchOption, OnErr, OnOk, length, string_bytes};
 ghost use Rattle.std.specs.Str.{chars};
 ghost use Rattle.latex2mathml_formulas.specs.Counts.{backslashes};
@@ -15,7 +15,7 @@ use latex2mathml_tokens::token::Token;
 use std::alloc::{AllocError, Global};
 use std::marker::Model;
 
-/// The tokens that are left of a text, of which the next may have been looked at. Contracts see their list, and the
+/// The tokens that are left of a text. The next one may have been looked at. Contracts see the list of tokens, and the
 /// counts that go with it.
 #[derive(Drop)]
 pub(crate) struct Tokens<'a> {
@@ -50,7 +50,7 @@ impl<'a> Tokens<'a> {
         }
     }
 
-    /// Looks at the next token, and answers whether there is one. It is left where it is.
+    /// Looks at the next token without taking it, and returns whether there is one.
     pub(crate) fn look(&mut self, alloc: Global) -> Result<bool, AllocError>
         ensures list { self.new.list ≡ self.old.list }
         ensures looked { IfOk result (λ found.
@@ -63,7 +63,7 @@ impl<'a> Tokens<'a> {
         Ok(self.next.is_some())
     }
 
-    /// The next token, where it was looked at.
+    /// The next token, if it was looked at.
     pub(crate) fn ahead(&self) -> Option<&Token>
         ensures { MatchOption result (self.now.looked ≡ false)
             (λ token. first self.now.list ≡ Some (tok token.now)) }
@@ -71,7 +71,7 @@ impl<'a> Tokens<'a> {
         self.next.as_ref()
     }
 
-    /// Takes the next token, where one is left.
+    /// Takes the next token, if one is left.
     pub(crate) fn take(&mut self, alloc: Global) -> Result<Option<Token>, AllocError>
         ensures list { IfOk result (λ found. MatchOption found
             ((self.old.list ≡ []) × (self.new.list ≡ []))
@@ -85,7 +85,7 @@ impl<'a> Tokens<'a> {
         }
     }
 
-    /// Takes the next token, or gives `EOF` where none is left.
+    /// Takes the next token, or returns `EOF` if none is left.
     pub(crate) fn take_or_end(&mut self, alloc: Global) -> Result<Token, AllocError>
         ensures token { IfOk result (λ token. tok token ≡ first_or_end self.old.list) }
         ensures list { OnOk result (self.new.list ≡ rest_of self.old.list) }
@@ -98,7 +98,7 @@ impl<'a> Tokens<'a> {
         Ok(token)
     }
 
-    /// Takes the next token, where it is this one, and answers whether it was.
+    /// Takes the next token if it is this one, and returns whether it was.
     pub(crate) fn take_if(&mut self, alloc: Global, sign: &Token) -> Result<bool, AllocError>
         ensures list { IfOk result (λ stood. MatchBool stood
             (self.old.list ≡ tok sign.now ∷ self.new.list)
@@ -117,7 +117,7 @@ impl<'a> Tokens<'a> {
         Ok(stands)
     }
 
-    /// Passes over the next token, where one is left.
+    /// Skips the next token, if one is left.
     pub(crate) fn skip(&mut self, alloc: Global) -> Result<(), AllocError>
         ensures list { OnOk result (self.new.list ≡ rest_of self.old.list) }
         ensures kept { OnErr result (self.new.list ≡ self.old.list) }
@@ -127,7 +127,7 @@ impl<'a> Tokens<'a> {
         Ok(())
     }
 
-    /// The mark that stands next, where one does. It is left where it is.
+    /// Returns the mark that stands next, if one does, without taking it.
     pub(crate) fn mark(&mut self, alloc: Global) -> Result<Option<Mark>, AllocError>
         ensures mark { IfOk result (λ mark. MarkStands mark (first self.old.list)) }
         ensures list { self.new.list ≡ self.old.list }
@@ -142,7 +142,7 @@ impl<'a> Tokens<'a> {
         }
     }
 
-    /// A copy of the next token, or `EOF` where none is left. It is left where it is.
+    /// Returns a copy of the next token, or `EOF` if none is left, without taking it.
     pub(crate) fn seen(&mut self, alloc: Global) -> Result<Token, AllocError>
         ensures token { IfOk result (λ token. tok token ≡ first_or_end self.old.list) }
         ensures list { self.new.list ≡ self.old.list }
@@ -157,7 +157,7 @@ impl<'a> Tokens<'a> {
         }
     }
 
-    /// A name: a token, whatever it is, letters, and another token.
+    /// Takes a name: any token, letters, and any token.
     pub(crate) fn name(&mut self, alloc: Global) -> Result<String, AllocError>
         ensures name { IfOk result (λ name. NameStands (string_bytes name) self.old.list self.new.list) }
         ensures shorter { length self.new.list ≤ length self.old.list }
@@ -170,7 +170,7 @@ impl<'a> Tokens<'a> {
         Ok(name)
     }
 
-    /// The letters that stand next, as many as there are, of any variant.
+    /// Takes all letters that stand next, of any variant.
     fn letters(&mut self, alloc: Global) -> Result<String, AllocError>
         ensures letters { IfOk result (λ text. LettersStand (string_bytes text) self.old.list self.new.list) }
         ensures shorter { length self.new.list ≤ length self.old.list }
@@ -184,7 +184,7 @@ impl<'a> Tokens<'a> {
         Ok(letters)
     }
 
-    /// Takes the next token, where it is a letter, and answers its character.
+    /// Takes the next token if it is a letter, and returns its character.
     fn take_letter(&mut self, alloc: Global) -> Result<Option<char>, AllocError>
         ensures letter { IfOk result (λ letter. letter ≡ first_letter self.old.list) }
         ensures list { IfOk result (λ letter. MatchOption letter
@@ -215,7 +215,7 @@ impl<'a> Tokens<'a> {
         Ok(!found)
     }
 
-    /// How many tokens were taken from the text, with the one that was looked at.
+    /// Returns the number of tokens that were taken from the text, with the one that was looked at.
     pub(crate) fn tokens(&self) -> u128
         ensures at_least { self.now.tokens ≤ result }
         ensures at_most { result ≤ self.now.tokens + length self.now.list }
@@ -223,7 +223,7 @@ impl<'a> Tokens<'a> {
         self.lexer.tokens()
     }
 
-    /// How many names were compared, also for a token that no memory was found for.
+    /// Returns the number of names that were compared, also for a token that was refused memory.
     #[tactic(auto, using(crate::proofs::Accounts::no_backslashes))]
     pub(crate) fn comparisons(&self) -> u128
         ensures fewer { self.now.backslashes ≤ length self.now.list }
@@ -235,7 +235,7 @@ impl<'a> Tokens<'a> {
     }
 }
 
-/// The mark that a token is.
+/// The mark that a token is, if it is one.
 fn mark_of(token: &Token) -> Option<Mark>
     ensures { MarkStands result (Some (tok token.now)) }
 {

@@ -1,4 +1,4 @@
-//! Letting nodes go, however deep they are.
+//! Dropping nodes of any depth.
 ghost use Rattle.std.specs.Prelude.{◌≡◌, ◌+◌, ◌<◌, IfSome, IsTrue};
 ghost use Rattle.latex2mathml_nodes.specs.Tree.{tree, trees};
 ghost use Rattle.latex2mathml_nodes.specs.Weight.{hung, hung_in, weight, weights};
@@ -27,7 +27,7 @@ impl Node {
         )
     }
 
-    /// What the node was made of. All else in it goes.
+    /// The nodes that the node was made of. Everything else in it is dropped.
     #[inline(always)]
     fn parts(self) -> Parts
         ensures weight { weight (tree self) ≡ held result }
@@ -84,10 +84,12 @@ impl Node {
     }
 }
 
-/// Lets a node go with all that is in it, without recursion and without memory.
+/// Drops a node with all that is in it. It does not recurse, because the author of a text chooses the depth, and allocates
+/// nothing, because there may be no memory left.
 ///
-/// What is still whole hangs on a chain of the boxes and lists that held it: each link has the chain before it in place
-/// of its first part. An `Ampersand` is the end of the chain.
+/// What is not yet dropped hangs on a chain that reuses the boxes and lists that held it: each link holds the chain before
+/// it in place of its first part. A link with two parts is a `Subscript` whatever its node was, because only the number of
+/// parts matters. The chain ends in an `Ampersand`, because that node has no parts and frees nothing.
 #[inline(never)]
 pub(crate) fn dismantle(node: Node) {
     let mut current = node.parts();
@@ -115,7 +117,7 @@ fn step(parts: Parts, chain: Node) -> Option<(Parts, Node)>
     }
 }
 
-/// The parts of the first of two nodes, whose place the chain takes, or of the second, where the first is a leaf.
+/// The parts of the first of two nodes, whose place the chain takes, or of the second if the first is a leaf.
 fn of_two(mut x: Box<Node>, y: Box<Node>, chain: Node) -> (Parts, Node)
     ensures { held result.0 + hung (tree result.1)
         < weight (tree x.value) + weight (tree y.value) + 2 + hung (tree chain) }
@@ -128,7 +130,7 @@ fn of_two(mut x: Box<Node>, y: Box<Node>, chain: Node) -> (Parts, Node)
     (first.parts(), Node::Subscript(x, y))
 }
 
-/// Lets a leaf go.
+/// Drops a leaf.
 fn let_go(leaf: Node)
     requires { weight (tree leaf) ≡ 0 }
 {

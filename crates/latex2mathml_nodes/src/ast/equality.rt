@@ -6,7 +6,7 @@ ghost use Rattle.latex2mathml_nodes.specs.Tree.{tree, trees};
 
 use crate::ast::Node;
 
-/// Two nodes are equal where their contents are. Written out, and not derived, so that the contract
+/// Two nodes are equal if their contents are. Written out and not derived, so that the contract
 /// says so.
 impl PartialEq for Node {
     ghost eq = { λ a b. same_tree (tree a) (tree b) };

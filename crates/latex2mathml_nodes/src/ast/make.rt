@@ -10,7 +10,7 @@ use latex2mathml_tokens::attribute::{Accent, ColumnAlign, LineThickness};
 use std::alloc::{AllocError, Global};
 
 impl Node {
-    /// The members of a group as one node: one member is itself, none or several are a row.
+    /// Makes the members of a group one node: one member is itself, and none or several are a row.
     pub fn of_group(mut members: Vec<Node>) -> Node
         ensures { tree result ≡ grouped (map tree members.items) }
     {
@@ -223,7 +223,7 @@ impl Node {
         between(alloc, opening, close, Node::of_group(members))
     }
 
-    /// An operator that grows, where the node is an operator.
+    /// The operator that grows, if the node is an operator.
     pub fn stretched(alloc: Global, node: Node) -> Result<Option<Node>, AllocError>
         ensures { IfOk result (λ made. option_map tree made ≡ stretched_of (tree node)) }
     {
@@ -248,7 +248,7 @@ impl Node {
         Ok(Node::Slashed(Box::new(alloc, x)?))
     }
 
-    /// The members, where the node is a row.
+    /// The members, if the node is a row.
     fn into_members(self) -> Option<Vec<Node>>
         ensures { option_map (λ members. trees members.items) result ≡ members_of (tree self) }
     {
@@ -265,7 +265,7 @@ impl Node {
         Node::Matrix(spread_members(members), align)
     }
 
-    /// The environment of this name around a group's members, where there is one of the name.
+    /// The environment of this name around a group's members, if there is one of this name.
     pub fn environment(
         alloc: Global,
         name: &str,
@@ -338,7 +338,7 @@ fn stretched_text(alloc: Global, text: &str) -> Result<Option<Node>, AllocError>
     Ok(Some(Node::StrechedOp(true, String::from_str(alloc, text)?)))
 }
 
-/// The members that a group gives to a matrix: those of its one member, where that is a row.
+/// The members that a group gives to a matrix: those of its one member, if that is a row.
 fn spread_members(mut members: Vec<Node>) -> Vec<Node>
     ensures { trees result.items ≡ spread (grouped (map tree members.items)) }
 {

@@ -1,4 +1,4 @@
-//! Nodes to markup. Each part is written where it belongs; no text is made on the way.
+//! Nodes to markup. Each part is written directly to the output, without a text in between.
 ghost use Rattle.std.specs.Prelude.{◌≡◌, ◌<◌, Some, OnOk, ◌++◌, codes, string_bytes, unsigned_abs};
 ghost use Rattle.std.specs.Char.{encode_utf8};
 ghost use Rattle.std.specs.Fmt.{WritesOnOk};
@@ -30,7 +30,7 @@ enum Layout<'a> {
     Compound(Compound<'a>),
 }
 
-/// How a node is printed that has no nodes.
+/// How a node without nodes in it is printed.
 #[derive(Clone, Copy)]
 enum Leaf<'a> {
     /// Markup as it stands.
@@ -48,7 +48,7 @@ enum Leaf<'a> {
     Undefined(&'a str),
 }
 
-/// How a node is printed that has nodes: those, and what stands around them.
+/// How a node with nodes in it is printed: those nodes, and what stands around them.
 #[derive(Clone, Copy)]
 enum Compound<'a> {
     /// A node as it is printed by itself.
@@ -64,7 +64,7 @@ enum Compound<'a> {
     Fraction(&'a Node, &'a Node, LineThickness),
     /// A node between two fences.
     Fenced(&'static str, &'a Node, &'static str),
-    /// The name of a function, and what it is applied to.
+    /// The name of a function, and its argument.
     Applied(&'a str, &'a Node),
     Row(&'a [Node]),
     Matrix(&'a [Node], ColumnAlign),
@@ -164,7 +164,7 @@ fn slashed_layout<'a>(x: &'a Node) -> Layout<'a>
 enum Depth {
     /// As deep as the tree is nested.
     Whole,
-    /// So many levels. What is nested deeper is printed in turn, with memory for a list.
+    /// This many levels. Deeper nodes are printed in turn, with memory for a list.
     Levels(u32, Global),
 }
 
@@ -179,10 +179,12 @@ impl Depth {
     }
 }
 
-/// More than formulas that people write are nested, and little of any stack.
+/// How many levels [`Node::append_markup`] recurses. Recursion is faster than the list and allocates nothing. 32 levels
+/// are more than the formulas that people write have, and they take little of any stack.
 const LEVELS: u32 = 32;
 
-/// Prints the markup of the node. It takes no memory, and recurses as deep as the node is nested; see [`Node::append_markup`].
+/// Prints the markup of the node. It recurses to the node's depth, because a `Formatter` has no allocator for a list; see
+/// [`Node::append_markup`].
 impl fmt::Display for Node {
     ghost output = { λ node. Some (print (tree node)) };
 
@@ -191,7 +193,7 @@ impl fmt::Display for Node {
     }
 }
 
-/// A node that may be nested to any depth, and where the memory is taken that its print then needs.
+/// A node of any depth, and the allocator for the list that a deep one needs.
 #[derive(Drop)]
 struct Bounded<'a> {
     node: &'a Node,
@@ -207,10 +209,10 @@ impl fmt::Display for Bounded<'_> {
 }
 
 impl Node {
-    /// Puts the markup of the node behind the text, however deep the node is nested.
+    /// Appends the markup of the node to the text, for a node of any depth.
     ///
-    /// It takes a bounded part of the machine's stack. A node that is nested deeper than 32 levels needs memory for a list
-    /// of what is still to be printed. Want of memory, for the list or for the text, is the only `Err`.
+    /// It uses a bounded part of the machine's stack. A node that is nested deeper than 32 levels needs memory for a list
+    /// of what is still to be printed. The only `Err` is out of memory, for the list or for the text.
     pub fn append_markup(&self, alloc: Global, text: &mut String) -> Result<(), AllocError>
         ensures { OnOk result (string_bytes text.new
             ≡ string_bytes text.old ++ print (tree self.now)) }
@@ -229,7 +231,8 @@ fn append_bounded(alloc: Global, node: &Node, text: &mut String) -> Result<(), A
     write!(text, "{}", Bounded { node, alloc })
 }
 
-/// Puts a character as contents, between two tags, behind the text. Most nodes are such characters.
+/// Appends a character as contents, between two tags, to the text. It goes past the `Formatter`, to save time: most nodes
+/// are such characters.
 fn append_char(before: &str, c: char, after: &str, text: &mut String) -> Result<(), AllocError>
     ensures { OnOk result (string_bytes text.new
         ≡ string_bytes text.old ++ (before.now ++ (content_char c ++ after.now))) }
@@ -429,7 +432,7 @@ fn write_fenced<W: fmt::Write>(
     )
 }
 
-/// Writes the name of a function and what it is applied to.
+/// Writes the name of a function and its argument.
 #[cycle(print)]
 fn write_applied<W: fmt::Write>(
     name: &str,
@@ -648,7 +651,7 @@ fn write_quoted_char<W: fmt::Write>(c: char, f: &mut fmt::Formatter<W>) -> fmt::
     }
 }
 
-/// Writes a text as contents: whole where no character of it is escaped.
+/// Writes a text as contents. A text in which nothing is escaped is written whole.
 fn write_content<W: fmt::Write>(text: &str, f: &mut fmt::Formatter<W>) -> fmt::Result
     ensures { WritesOnOk W.write_str_gives f.old result (content text.now) f.new }
 {

@@ -7,9 +7,9 @@ use crate::ast::Node;
 use latex2mathml_tokens::attribute::Variant;
 
 impl Node {
-    /// Gives the style to a letter, and to each member of a row likewise. Nothing else changes, and no memory is taken.
+    /// Gives the style to a letter, and to each member of a row likewise. Nothing else changes, and nothing is allocated.
     ///
-    /// It recurses as deep as rows stand one in the other; [`Node::styled`] does not.
+    /// It recurses as deep as rows are nested; [`Node::styled`] does not.
     #[cycle(style)]
     pub fn set_variant(&mut self, variant: Variant)
         ensures { tree self.new ≡ styled variant (tree self.old) }

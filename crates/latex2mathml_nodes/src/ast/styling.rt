@@ -1,4 +1,4 @@
-//! A node in a style, however deep its rows are. What was begun waits in a list, so nothing recurses.
+//! A node in a style, with rows of any depth. Rows that were begun wait in a list, so nothing recurses.
 ghost use Rattle.std.specs.Prelude.{◌≡◌, ◌+◌, ◌<◌, ◌≤◌, IfOk, sum_by};
 ghost use Rattle.latex2mathml_nodes.specs.Style.{all_styled, styled};
 ghost use Rattle.latex2mathml_nodes.specs.Styling.{comes_to, row_load, row_tree, row_with, turn_load, within};
@@ -28,8 +28,8 @@ enum Turn {
 }
 
 impl Node {
-    /// The node in a style, as [`Node::set_variant`] gives it. It takes memory for rows in place of recursing, and its
-    /// `Err` says that none was found; the node is gone then.
+    /// Returns the node in a style, as [`Node::set_variant`] gives it. It allocates for rows instead of recursing. `Err`
+    /// means out of memory; the node is dropped then.
     pub fn styled(alloc: Global, variant: Variant, node: Node) -> Result<Node, AllocError>
         ensures { IfOk result (λ x. tree x ≡ styled variant (tree node)) }
     {
@@ -48,7 +48,7 @@ impl Node {
         }
     }
 
-    /// Gives the node the style, or begins with its members, where it is a row.
+    /// Gives the node the style, or begins with its members if it is a row.
     fn style_one(
         self,
         alloc: Global,
@@ -103,7 +103,7 @@ fn put_back(
     next_member(variant, row, rows)
 }
 
-/// Takes the next member of a row, or closes the row where all have the style.
+/// Takes the next member of a row, or closes the row if all have the style.
 fn next_member(variant: Variant, row: OpenRow, rows: &mut Vec<OpenRow>) -> Result<Turn, AllocError>
     ensures keeps { IfOk result (λ next. within variant rows.new.items (comes_to variant next)
         ≡ within variant rows.old.items (row_tree variant row)) }

@@ -1,5 +1,5 @@
-//! What an entry of the command table stands for, without any memory of its own. An entry holds no text but its name: other
-//! texts are named by enums, since a table with two texts an entry is too large for the prover.
+//! What an entry of the command table stands for, without allocated memory. An entry holds no text but its name. Enums
+//! name the other texts, because a table with two texts per entry is too large for the prover.
 ghost use Rattle.std.specs.Prelude.{◌≡◌};
 ghost use Rattle.latex2mathml_tokens.specs.Entries.{bare_token, bracket_text, function_text, limit_text, meaning_token, size_text};
 ghost use Rattle.latex2mathml_tokens.specs.Tok.{tok};
@@ -39,7 +39,7 @@ pub(crate) enum Meaning {
     Function(FunctionName),
 }
 
-/// A token that holds nothing.
+/// A token without contents.
 #[derive(Clone, Copy)]
 pub(crate) enum Bare {
     Begin,
@@ -230,7 +230,7 @@ impl Bare {
 }
 
 impl Meaning {
-    /// The token of a command that stands for this.
+    /// Returns the token of a command with this meaning.
     pub(crate) fn token(self) -> Token
         ensures { tok result ≡ meaning_token self }
     {

@@ -10,7 +10,7 @@ use crate::token::meaning::Entry;
 use crate::token::table::table;
 use std::cmp::Ordering;
 
-/// The entry of the command with this name, where it has one, and how many names were compared.
+/// Returns the entry of the command with this name, if there is one, and the number of names that were compared.
 pub(crate) fn look_up(name: &str) -> (Option<Entry>, u128)
     ensures entry { MatchOption result.0 (entry_token command_entries name.now ≡ None)
         (λ entry. entry_token command_entries name.now ≡ Some (entry_of entry).1) }
@@ -30,8 +30,8 @@ fn entries() -> &'static [Entry]
     table()
 }
 
-/// The entry with this name among entries in order, and how many names were compared. The entries that are
-/// left are halved by each comparison, until one is equal or none is left.
+/// Returns the entry with this name among sorted entries, and the number of names that were compared. Each comparison
+/// halves the entries that are left, until one is equal or none is left.
 fn search(table: &[Entry], name: &str) -> (Option<Entry>, u128)
     requires ordered { IsTrue (ascending (map entry_of table.now)) }
     requires few { length table.now < 512 }
@@ -54,7 +54,7 @@ fn search(table: &[Entry], name: &str) -> (Option<Entry>, u128)
     (None, comparisons)
 }
 
-/// How the name stands to the entry's name. It counts the comparison, and nothing else of the look-up
+/// Compares the name with the entry's name, and counts the comparison. Nothing else in the look-up
 /// reads an entry's name.
 fn compare(name: &str, entry: &Entry, comparisons: &mut u128) -> Ordering
     requires { comparisons.old + 1 < 2 ^ 128 }

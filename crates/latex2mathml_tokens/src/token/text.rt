@@ -36,7 +36,7 @@ impl fmt::Display for Quoted<'_> {
 
     fn fmt<W: fmt::Write>(&self, f: &mut fmt::Formatter<W>) -> fmt::Result {
         let text = self.0;
-        // Its contract says that the text is UTF-8, which the proof of the loop needs.
+        // The contract of this call says that the text is UTF-8, which the proof of the loop needs.
         let _ = text.as_bytes();
         f.write_str("\"")?;
         for c in text.chars() {

@@ -1,4 +1,4 @@
--- so much of the lines was put, and the stream can take more
+-- this much of the lines was written, and the stream can take more
 use Rattle.std.proofs.Common.{ℕ, List, IsFalse, map, take}
 use Rattle.std.specs.Io.KnownBytes.{Appends}
 use Rattle.latex2mathml_app.specs.Serving.{AreSaid, unconverted_line}

@@ -1,4 +1,4 @@
-//! Nodes to markup without recursion: a list has what is still to be printed.
+//! Nodes to markup without recursion: a list holds what is still to be printed.
 ghost use Rattle.std.specs.Prelude.{◌≡◌, ℕ, List, ◌+◌, ◌<◌, ◌≤◌, ◌++◌, IfSome, IsOk, OnOk, reverse, sum_by};
 ghost use Rattle.std.specs.Fmt.{HasWritten, IsPlainFormatter, WritesOnOk};
 ghost use Rattle.std.specs.List.{flat_map};
@@ -26,7 +26,7 @@ enum Piece<'a> {
     Cells(&'a [Node]),
 }
 
-/// A piece that has no nodes.
+/// A piece without nodes in it.
 #[derive(Clone, Copy)]
 enum Mark<'a> {
     Nothing,
@@ -56,7 +56,7 @@ struct Pieces<'a> {
     fifth: Piece<'a>,
 }
 
-/// Writes a node, however deep it is nested.
+/// Writes a node of any depth.
 #[inline(never)]
 pub(super) fn write_in_turn<'a, W: fmt::Write>(
     alloc: Global,
@@ -197,7 +197,7 @@ fn markup<'a>(text: &'static str) -> Piece<'a>
     Piece::Mark(Mark::Markup(text))
 }
 
-/// Puts the pieces on the list, the first of them uppermost.
+/// Puts the pieces on the list, the first of them on top.
 fn push_pieces<'a>(pieces: Pieces<'a>, todo: &mut Vec<Piece<'a>>) -> Result<(), AllocError>
     ensures print { OnOk result (due todo.new.items
         ≡ pieces_print pieces.entry ++ due todo.old.items) }
@@ -224,7 +224,7 @@ fn push<'a>(piece: Piece<'a>, todo: &mut Vec<Piece<'a>>) -> Result<(), AllocErro
     }
 }
 
-/// Puts the first of the nodes on the list, over the others.
+/// Puts the first of the nodes on the list, on top of the others.
 fn push_parts<'a>(nodes: &'a [Node], todo: &mut Vec<Piece<'a>>) -> Result<(), AllocError>
     ensures print { OnOk result (due todo.new.items
         ≡ prints (trees nodes.now) ++ due todo.old.items) }
@@ -238,7 +238,7 @@ fn push_parts<'a>(nodes: &'a [Node], todo: &mut Vec<Piece<'a>>) -> Result<(), Al
     Ok(())
 }
 
-/// Puts the first of the members on the list, over the others.
+/// Puts the first of the members on the list, on top of the others.
 fn push_cells<'a>(members: &'a [Node], todo: &mut Vec<Piece<'a>>) -> Result<(), AllocError>
     ensures print { OnOk result (due todo.new.items
         ≡ members_print (trees members.now) ++ due todo.old.items) }

@@ -1,4 +1,4 @@
--- What is begun comes to the node in its style.
+-- The rows that were begun give the node in its style.
 use Rattle.std.proofs.Common.{◌≡◌, ◌+◌, sum_by}
 use Rattle.latex2mathml_nodes.specs.Style.{styled}
 use Rattle.latex2mathml_nodes.specs.Styling.{comes_to, row_load, turn_load, within}

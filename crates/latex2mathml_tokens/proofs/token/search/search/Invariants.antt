@@ -1,4 +1,4 @@
--- The entries that are left decide the look-up; there are ever fewer.
+-- The entries that are left decide the look-up, and their number falls.
 use Rattle.std.proofs.Common.{length}
 use Rattle.latex2mathml_tokens.proofs.Lookups.{Narrowed}
 use Rattle.latex2mathml_tokens.proofs.token.search.search.Given as goal
