@@ -86,10 +86,16 @@ def quoted(document):
 
 
 def public_calls():
-    """The names of the library's public functions that have a contract, those of traits left out."""
+    """The names of the functions that the library's callers reach: those of the lexer and of the loop over a formula's text are
+    public only between the library's own crates."""
     names = set()
+    for source in sources():
+        names.update(re.findall(r"^ *pub (?:const )?fn (\w+)", source.read_text(), re.M))
+    return sorted(names)
+
+
+def sources():
     for crate in LIBRARY:
         for source in sorted((ROOT / "crates" / crate / "src").rglob("*.rt")):
-            for found in re.finditer(r"^ *pub (?:const )?fn (\w+)", source.read_text(), re.M):
-                names.add(found[1])
-    return sorted(names)
+            if source.relative_to(ROOT / "crates").parts[:3:2] != ("latex2mathml_formulas", "lexer") and source.name not in ("lexer.rt", "formula.rt"):
+                yield source
