@@ -13,7 +13,7 @@ from tests.productions import MISSING, PRODUCTIONS, WIDE
 LIMIT = 1800
 
 # the most that such a formula may take
-MOST_MEMORY = 500 << 20
+MOST_MEMORY = 600 << 20
 
 OPEN = 'The token "{}" is expected, but the token "EOF" is found."'
 NO_MEMORY = "Memory could not be found."
@@ -93,14 +93,14 @@ class Cut(Depth):
 
 @support.requires("cc")
 class WithoutMemory(Depth):
-    """A request for memory is refused: the one in the middle, while the tree is half as deep."""
+    """A request for memory is refused while the tree is deep, or wide: the one behind three quarters of them."""
     nodes = Depth.nodes // 4
     stack = Depth.stack // 4
 
     def judge(self, kind):
-        levels = kind.levels(self.nodes)
-        _, counts = faulty.counts_of([support.program(), "inline"], stdin=kind.nested(levels // 10).encode())
-        self.wants_memory(kind.nested(levels), counts["requests"] * 5)
+        formula = kind.nested(kind.levels(self.nodes))
+        _, counts = faulty.counts_of([support.program(), "inline"], stdin=formula.encode())
+        self.wants_memory(formula, counts["requests"] * 3 // 4)
 
 
 def add_cases():

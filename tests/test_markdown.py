@@ -121,6 +121,8 @@ class Formulas(unittest.TestCase):
             "$$\na\n=\nb\n---\nc\n$$": "[[a=b---c]]",
             "$$\n    a\n$$": "[[a]]",
             "- a\n\n    $$\n    x\n    $$\n\n- b": "<ul>\n<li>\n<p>a</p>\n[[x]]\n</li>\n<li>\n<p>b</p>\n</li>\n</ul>",
+            "- a\n  $$x$$\n- b": "<ul>\n<li>a[[x]]\n</li>\n<li>b</li>\n</ul>",
+            "1. a\n$$x$$\n2. b": "<ol>\n<li>a[[x]]\n</li>\n<li>b</li>\n</ol>",
             "- a\n- b $$x$$\n- c": "<ul>\n<li>a</li>\n<li>b [[x]]</li>\n<li>c</li>\n</ul>",
             "> $$\n> x\n> $$\n>\n> y": "<blockquote>\n[[x]]\n<p>y</p>\n</blockquote>",
             "$$\na\n\nb\n$$": "<p>$$\na</p>\n<p>b\n$$</p>",
