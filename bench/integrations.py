@@ -13,8 +13,10 @@ import tempfile
 import time
 from collections.abc import Callable
 
+import workloads
+
 HOUSE = pathlib.Path(__file__).resolve().parent.parent
-FORMULAS = [line for line in HOUSE.joinpath("bench/formulas.txt").read_text(encoding="utf-8").splitlines() if line and "$" not in line]
+FORMULAS = [formula for formula in workloads.formulas() if "$" not in formula]
 PAGE_SCRIPT = HOUSE / "page/latex2mathml.js"
 
 SYSTEM_PYTHON, SYSTEM_PACKAGES = "/usr/bin/python3", pathlib.Path("/usr/lib/python3/dist-packages")
