@@ -4,35 +4,33 @@ use Rattle.std.proofs.lemmas.List.{take_all, take_more}
 use Rattle.std.specs.declared.alloc.Global.{Global}
 use Rattle.latex2mathml.specs.Files.{Ascend, AreWalks, IsListed, IsReadingFault, IsWalk, IsWritingFault, Listed, NoMore, Next, entry_path}
 use Rattle.latex2mathml.specs.Inputs.{IsReadingOf}
-use Rattle.latex2mathml.specs.Streams.{IsStopped, Output}
+use Rattle.latex2mathml.specs.Streams.{IsStopped, StreamState}
 use Rattle.latex2mathml.specs.declared.error.FileFault.{FileFault}
 use Rattle.latex2mathml.specs.declared.error.FileFault.TheVariants.{List as Unlisted, Entry, TooDeep, Read, NotText, Refused, Create, Write}
 use Rattle.latex2mathml.specs.declared.files.Unconverted.{Unconverted}
 use Rattle.latex2mathml.specs.declared.input.Reading.{Reading}
-use Rattle.latex2mathml.specs.declared.input.Reading.TheVariants.{Changed, Unchanged}
 
-pub reading_fault : (bytes : List ℕ) (failed ended : Bool) (result : Result Reading FileFault) → IsReadingOf bytes failed ended result → IfErr result IsReadingFault
-reading_fault bytes failed ended (Ok (Changed answer)) is = tt
-reading_fault bytes failed ended (Ok (Unchanged text)) is = tt
-reading_fault bytes failed ended (Err Read) is = tt
-reading_fault bytes failed ended (Err NotText) is = tt
-reading_fault bytes failed ended (Err (Refused error)) is = tt
-reading_fault bytes failed ended (Err Unlisted) is = absurd is
-reading_fault bytes failed ended (Err Entry) is = absurd is
-reading_fault bytes failed ended (Err TooDeep) is = absurd is
-reading_fault bytes failed ended (Err Create) is = absurd is
-reading_fault bytes failed ended (Err (Write written cause)) is = absurd is
+pub reading_fault : (bytes : List ℕ) (state : StreamState) (result : Result Reading FileFault) → IsReadingOf bytes state result → IfErr result IsReadingFault
+reading_fault bytes state (Ok reading) is = tt
+reading_fault bytes state (Err Read) is = tt
+reading_fault bytes state (Err NotText) is = tt
+reading_fault bytes state (Err (Refused error)) is = tt
+reading_fault bytes state (Err Unlisted) is = absurd is.0
+reading_fault bytes state (Err Entry) is = absurd is.0
+reading_fault bytes state (Err TooDeep) is = absurd is.0
+reading_fault bytes state (Err Create) is = absurd is.0
+reading_fault bytes state (Err (Write written cause)) is = absurd is.0
 
-pub writing_fault : (text : List ℕ) (output : Output) (result : Result Unit FileFault) → IfErr result (λ fault. IsStopped fault text output) → IfErr result IsWritingFault
-writing_fault text output (Ok _) is = tt
-writing_fault text output (Err (Write written cause)) is = tt
-writing_fault text output (Err Unlisted) is = absurd is
-writing_fault text output (Err Entry) is = absurd is
-writing_fault text output (Err TooDeep) is = absurd is
-writing_fault text output (Err Read) is = absurd is
-writing_fault text output (Err NotText) is = absurd is
-writing_fault text output (Err (Refused error)) is = absurd is
-writing_fault text output (Err Create) is = absurd is
+pub writing_fault : (text : List ℕ) (old new : StreamState) (result : Result Unit FileFault) → IfErr result (λ fault. IsStopped fault text old new) → IfErr result IsWritingFault
+writing_fault text old new (Ok _) is = tt
+writing_fault text old new (Err (Write written cause)) is = tt
+writing_fault text old new (Err Unlisted) is = absurd is
+writing_fault text old new (Err Entry) is = absurd is
+writing_fault text old new (Err TooDeep) is = absurd is
+writing_fault text old new (Err Read) is = absurd is
+writing_fault text old new (Err NotText) is = absurd is
+writing_fault text old new (Err (Refused error)) is = absurd is
+writing_fault text old new (Err Create) is = absurd is
 
 -- one entry more was walked
 one_more : (levels : ℕ) (path : List ℕ) (names : List (String Global)) (name : String Global) (walked here : List Unconverted)

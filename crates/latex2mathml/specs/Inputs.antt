@@ -1,7 +1,9 @@
--- What is made of the bytes that a call read. In each definition the last two but one say whether the source has failed
--- and whether it has ended.
-use Rattle.std.specs.Prelude.{◌≡◌, ◌≢◌, ℕ, List, Bool, None, Result, Ok, Err, IfSome, IsFalse, IsTrue, IsUtf8, string_bytes}
-use Rattle.latex2mathml.specs.Documents.{IsAnswer, IsRefusal}
+-- What is made of the bytes that a source gave, where `state` says what is known of it then.
+use Rattle.std.specs.Prelude.{◌≡◌, ◌≢◌, ℕ, List, None, Result, Ok, Err, String, IfSome, IsFalse, IsTrue, IsUtf8, string_bytes, ⊤}
+use Rattle.std.specs.declared.alloc.Global.{Global}
+use Rattle.latex2mathml.specs.Conversions.{Conversion, document, IsConverted, IsRefusedAs}
+use Rattle.latex2mathml.specs.Documents.{IsAnswer}
+use Rattle.latex2mathml.specs.Streams.{StreamState, IsWhole}
 use Rattle.latex2mathml_formulas.specs.Dollars.{IsDollarFree}
 use Rattle.latex2mathml_tokens.specs.Refusal.{refusal_of}
 use Rattle.latex2mathml.specs.declared.error.FileFault.{FileFault}
@@ -10,37 +12,43 @@ use Rattle.latex2mathml.specs.declared.input.Reading.{Reading}
 use Rattle.latex2mathml.specs.declared.input.Reading.TheVariants.{Changed, Unchanged}
 
 -- the bytes are all that the source gives, and are a text
-pub record IsWholeText (bytes : List ℕ) (failed ended : Bool) : Type 0 where
-  pub is_unfailed : IsFalse failed
-  pub is_ended : IsTrue ended
+pub record IsWholeText (bytes : List ℕ) (state : StreamState) : Type 0 where
+  pub is_unfailed : IsFalse state.failed
+  pub is_ended : IsTrue state.ended
   pub is_text : IsUtf8 bytes
 
--- why the bytes are no text
-abbrev pub IsReadFault : List ℕ → Bool → Bool → FileFault → Type 0
-IsReadFault bytes failed ended Read = IsTrue failed
-IsReadFault bytes failed ended NotText = IsFalse failed × IsTrue ended × (¬ IsUtf8 bytes)
--- memory was not found for them
-IsReadFault bytes failed ended (Refused error) = IsFalse failed × (refusal_of error ≡ None)
-IsReadFault bytes failed ended _ = ⊥
+-- why no text was read
+abbrev pub IsReadFault : List ℕ → StreamState → FileFault → Type 0
+IsReadFault bytes state Read = IsTrue state.failed
+IsReadFault bytes state NotText = IsWhole state × (¬ IsUtf8 bytes)
+-- memory was not found for it
+IsReadFault bytes state (Refused error) = IsFalse state.failed × (refusal_of error ≡ None)
+IsReadFault bytes state _ = ⊥
 
--- What is read of a document. It is unchanged where the text holds no dollar sign, and nowhere else; where memory is
--- wanting, that may stand in place of any answer.
-abbrev pub IsReadingOf : List ℕ → Bool → Bool → Result Reading FileFault → Type 0
-IsReadingOf bytes failed ended (Ok (Changed answer)) =
-    IsWholeText bytes failed ended
+-- why nothing was made of the bytes; where memory is wanting, that may stand in place of anything
+abbrev pub IsMissed : Conversion → List ℕ → StreamState → FileFault → Type 0
+IsMissed conversion bytes state Read = IsTrue state.failed
+IsMissed conversion bytes state NotText = IsWhole state × (¬ IsUtf8 bytes)
+IsMissed conversion bytes state (Refused error) =
+    IsFalse state.failed
+    × IfSome (refusal_of error) (λ refusal. IsWholeText bytes state × IsRefusedAs conversion bytes refusal)
+IsMissed conversion bytes state _ = ⊥
+
+-- the fault tells no refusal
+abbrev pub IsNoRefusal : FileFault → Type 0
+IsNoRefusal (Refused error) = refusal_of error ≡ None
+IsNoRefusal fault = ⊤
+
+-- What is read of a document. It is unchanged where the text holds no dollar sign, and nowhere else.
+abbrev pub IsReadingOf : List ℕ → StreamState → Result Reading FileFault → Type 0
+IsReadingOf bytes state (Ok (Changed answer)) =
+    IsWholeText bytes state
     × (¬ IsDollarFree bytes)
-    × IsAnswer bytes (string_bytes answer)
-    × IsDollarFree (string_bytes answer)
+    × IsConverted document bytes (string_bytes answer)
     × (string_bytes answer ≢ bytes)
-IsReadingOf bytes failed ended (Ok (Unchanged text)) =
-    IsWholeText bytes failed ended
+IsReadingOf bytes state (Ok (Unchanged text)) =
+    IsWholeText bytes state
     × IsDollarFree bytes
     × IsAnswer bytes bytes
     × (string_bytes text ≡ bytes)
-IsReadingOf bytes failed ended (Err Read) = IsTrue failed
-IsReadingOf bytes failed ended (Err NotText) = IsFalse failed × IsTrue ended × (¬ IsUtf8 bytes)
-IsReadingOf bytes failed ended (Err (Refused error)) =
-    IsFalse failed
-    × IfSome (refusal_of error) (λ refusal.
-    IsWholeText bytes failed ended × (¬ IsDollarFree bytes) × IsRefusal bytes refusal)
-IsReadingOf bytes failed ended (Err _) = ⊥
+IsReadingOf bytes state (Err fault) = IsMissed document bytes state fault × (IsDollarFree bytes → IsNoRefusal fault)

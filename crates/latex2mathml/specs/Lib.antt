@@ -1,10 +1,25 @@
 pub mod Conversions
+pub mod Counting
 pub mod DocumentLaws
 pub mod Documents
+pub mod Elements
 pub mod Faults
 pub mod Files
+pub mod Formulas
 pub mod Inputs
 pub mod Pieces
 pub mod Streams
 pub mod Surroundings
+-- texts without a dollar sign
 pub use Rattle.latex2mathml_formulas.specs.Dollars
+-- tokens, the command table, nodes, and their texts
+pub use Rattle.latex2mathml_tokens.specs.Attributes
+pub use Rattle.latex2mathml_tokens.specs.Commands
+pub use Rattle.latex2mathml_tokens.specs.Escape
+pub use Rattle.latex2mathml_tokens.specs.Tok
+pub use Rattle.latex2mathml_tokens.specs.TokenText
+pub use Rattle.latex2mathml_nodes.specs.Arguments
+pub use Rattle.latex2mathml_nodes.specs.Print
+pub use Rattle.latex2mathml_nodes.specs.Style
+pub use Rattle.latex2mathml_nodes.specs.Tree
+pub use Rattle.latex2mathml_nodes.specs.Width

@@ -1,6 +1,6 @@
--- How a call of a source or a sink may end, and how a writing may stop.
+-- What is known of a source or a sink, how a call of either may end, and how a writing may stop.
 use Rattle.std.specs.Prelude.{ℕ, ◌<◌, ◌==◌, ◌&&◌, nat_lt, List, Bool, false, Option, None, Some, length, take, IsFalse, IsTrue}
-use Rattle.std.specs.Io.KnownBytes.{Appends}
+use Rattle.std.specs.Io.KnownBytes.{Appends, Consumes}
 use Rattle.latex2mathml.specs.declared.error.FileFault.{FileFault}
 use Rattle.latex2mathml.specs.declared.error.FileFault.TheVariants.{Write}
 use Rattle.latex2mathml.specs.declared.error.WriteCause.{WriteCause}
@@ -11,33 +11,40 @@ abbrev pub meets_end : Option ℕ → ℕ → Bool
 meets_end None due = false
 meets_end (Some moved) due = (moved == 0) && nat_lt 0 due
 
--- what a source is known to give before a call and after it, and what it tells then
-pub record Input : Type 0 where
-  pub old : Option (List ℕ)
-  pub new : Option (List ℕ)
+-- what is known of a source or a sink between two calls
+pub record StreamState : Type 0 where
+  -- the bytes that the source gives from here on, or that the sink took, where they are known
+  pub bytes : Option (List ℕ)
+  -- whether a call has answered `None`
   pub failed : Bool
+  -- whether a call has moved no byte, though some were due
   pub ended : Bool
 
--- what a sink is known to have taken before a call and after it, and what it tells then
-pub record Output : Type 0 where
-  pub old : Option (List ℕ)
-  pub new : Option (List ℕ)
-  pub failed : Bool
-  pub ended : Bool
+-- it has neither failed nor ended, and may be asked
+abbrev pub CanGoOn : StreamState → Type 0
+CanGoOn state = IsFalse state.failed × IsFalse state.ended
 
--- the sink may be asked again
-abbrev pub CanGoOn : Output → Type 0
-CanGoOn output = IsFalse output.failed × IsFalse output.ended
+-- it has not failed, and has ended: all was moved
+abbrev pub IsWhole : StreamState → Type 0
+IsWhole state = IsFalse state.failed × IsTrue state.ended
+
+-- between the two states the source gave these bytes
+abbrev pub Gives : StreamState → StreamState → List ℕ → Type 0
+Gives old new bytes = Consumes old.bytes new.bytes bytes
+
+-- between the two states the sink took these bytes
+abbrev pub Takes : StreamState → StreamState → List ℕ → Type 0
+Takes old new bytes = Appends old.bytes new.bytes bytes
 
 -- the sink tells this cause, and not the other
-abbrev pub IsCause : WriteCause → Output → Type 0
-IsCause Failed output = IsTrue output.failed × IsFalse output.ended
-IsCause TookNothing output = IsFalse output.failed × IsTrue output.ended
+abbrev pub IsCause : WriteCause → StreamState → Type 0
+IsCause Failed state = IsTrue state.failed × IsFalse state.ended
+IsCause TookNothing state = IsWhole state
 
 -- the sink took the first bytes of the text, as many as the fault says and not all of them, and no more
-abbrev pub IsStopped : FileFault → List ℕ → Output → Type 0
-IsStopped (Write written cause) text output =
+abbrev pub IsStopped : FileFault → List ℕ → StreamState → StreamState → Type 0
+IsStopped (Write written cause) text old new =
     (written < length text)
-    × Appends output.old output.new (take written text)
-    × IsCause cause output
-IsStopped _ text output = ⊥
+    × Takes old new (take written text)
+    × IsCause cause new
+IsStopped _ text old new = ⊥

@@ -6,7 +6,7 @@ ghost use Rattle.latex2mathml.specs.declared.files.Kind.TheVariants.{Document};
 
 use crate::error::FileFault;
 use crate::input::{Reading, read_document};
-use crate::stream::{Stream, write_document};
+use crate::stream::{Stream, write_text};
 use std::alloc::{AllocError, Global};
 use std::fs;
 use std::fs::ReadDir;
@@ -193,12 +193,7 @@ fn read<R: Files>(rt: &R, alloc: Global, path: &str) -> Result<Reading, FileFaul
     let Ok(inner) = fs::open(rt, path) else {
         return Err(FileFault::Read);
     };
-    let mut source = Stream {
-        inner,
-        failed: false,
-        ended: false,
-    };
-    read_document(alloc, &mut source)
+    read_document(alloc, &mut Stream::new(inner))
 }
 
 /// Empties the file and writes the text to it.
@@ -208,10 +203,5 @@ fn write_anew<R: Files>(rt: &R, path: &str, text: &str) -> Result<(), FileFault>
     let Ok(inner) = fs::create(rt, path) else {
         return Err(FileFault::Create);
     };
-    let mut sink = Stream {
-        inner,
-        failed: false,
-        ended: false,
-    };
-    write_document(&mut sink, text)
+    write_text(&mut Stream::new(inner), text)
 }

@@ -1,7 +1,8 @@
 //! Texts and documents from sources.
-ghost use Rattle.std.specs.Prelude.{◌≡◌, ℕ, List, IfErr, IfOk, IsFalse, IsTrue, string_bytes};
-ghost use Rattle.std.specs.Io.KnownBytes.{Consumes, IsAtEnd};
+ghost use Rattle.std.specs.Prelude.{ℕ, List, IfErr, IfOk, IsTrue, string_bytes};
+ghost use Rattle.std.specs.Io.KnownBytes.{IsAtEnd};
 ghost use Rattle.latex2mathml.specs.Inputs.{IsReadFault, IsReadingOf};
+ghost use Rattle.latex2mathml.specs.Streams.{CanGoOn, Gives, IsWhole};
 
 use crate::error::FileFault;
 use crate::replace;
@@ -28,12 +29,11 @@ const ROOM: usize = 4096;
 /// [`FileFault::Refused`] where the document is refused or memory is not found, also for a source that never ends. A
 /// source that failed or ended is not asked again.
 pub fn read_document<S: Source>(alloc: Global, source: &mut S) -> Result<Reading, FileFault>
-    requires unfailed { IsFalse (S.has_failed source.old) }
-    requires unended { IsFalse (S.has_ended source.old) }
+    requires { CanGoOn (S.state source.old) }
     ensures reading { (bytes : List ℕ)
-        × Consumes (S.remaining source.old) (S.remaining source.new) bytes
-        × IsReadingOf bytes (S.has_failed source.new) (S.has_ended source.new) result }
-    ensures all_read { IsTrue (S.has_ended source.new) → IsAtEnd (S.remaining source.new) }
+        × Gives (S.state source.old) (S.state source.new) bytes
+        × IsReadingOf bytes (S.state source.new) result }
+    ensures all_read { IsTrue (S.state source.new).ended → IsAtEnd (S.state source.new).bytes }
 {
     let text = read_text(alloc, source)?;
     match replace(alloc, text.as_str()) {
@@ -43,17 +43,19 @@ pub fn read_document<S: Source>(alloc: Global, source: &mut S) -> Result<Reading
     }
 }
 
-/// All that the source gives, as text.
-fn read_text<S: Source>(alloc: Global, source: &mut S) -> Result<String, FileFault>
-    requires unfailed { IsFalse (S.has_failed source.old) }
-    requires unended { IsFalse (S.has_ended source.old) }
+/// Reads a text to its end, whatever it is.
+///
+/// It is [`FileFault::Read`] where the source failed, [`FileFault::NotText`] where its bytes are not UTF-8, and
+/// [`FileFault::Refused`] with [`LatexError::OutOfMemory`] where memory is not found, also for a source that never ends.
+/// A source that failed or ended is not asked again.
+pub fn read_text<S: Source>(alloc: Global, source: &mut S) -> Result<String, FileFault>
+    requires { CanGoOn (S.state source.old) }
     ensures whole { IfOk result (λ text.
-        Consumes (S.remaining source.old) (S.remaining source.new) (string_bytes text)
-        × IsFalse (S.has_failed source.new) × IsTrue (S.has_ended source.new)) }
+        Gives (S.state source.old) (S.state source.new) (string_bytes text) × IsWhole (S.state source.new)) }
     ensures fault { IfErr result (λ fault. (bytes : List ℕ)
-        × Consumes (S.remaining source.old) (S.remaining source.new) bytes
-        × IsReadFault bytes (S.has_failed source.new) (S.has_ended source.new) fault) }
-    ensures all_read { IsTrue (S.has_ended source.new) → IsAtEnd (S.remaining source.new) }
+        × Gives (S.state source.old) (S.state source.new) bytes
+        × IsReadFault bytes (S.state source.new) fault) }
+    ensures all_read { IsTrue (S.state source.new).ended → IsAtEnd (S.state source.new).bytes }
 {
     match String::from_utf8(read_whole(alloc, source)?) {
         Ok(text) => Ok(text),
@@ -63,15 +65,13 @@ fn read_text<S: Source>(alloc: Global, source: &mut S) -> Result<String, FileFau
 
 /// All that the source gives.
 fn read_whole<S: Source>(alloc: Global, source: &mut S) -> Result<Vec<u8>, FileFault>
-    requires unfailed { IsFalse (S.has_failed source.old) }
-    requires unended { IsFalse (S.has_ended source.old) }
+    requires { CanGoOn (S.state source.old) }
     ensures whole { IfOk result (λ bytes.
-        Consumes (S.remaining source.old) (S.remaining source.new) bytes.items
-        × IsFalse (S.has_failed source.new) × IsTrue (S.has_ended source.new)) }
+        Gives (S.state source.old) (S.state source.new) bytes.items × IsWhole (S.state source.new)) }
     ensures fault { IfErr result (λ fault. (bytes : List ℕ)
-        × Consumes (S.remaining source.old) (S.remaining source.new) bytes
-        × IsReadFault bytes (S.has_failed source.new) (S.has_ended source.new) fault) }
-    ensures all_read { IsTrue (S.has_ended source.new) → IsAtEnd (S.remaining source.new) }
+        × Gives (S.state source.old) (S.state source.new) bytes
+        × IsReadFault bytes (S.state source.new) fault) }
+    ensures all_read { IsTrue (S.state source.new).ended → IsAtEnd (S.state source.new).bytes }
 {
     let mut bytes = Vec::new(alloc);
     let mut room = [0u8; ROOM];

@@ -19,12 +19,12 @@ mod stream;
 
 pub use error::{FileFault, WriteCause};
 pub use files::{Unconverted, convert_html};
-pub use input::{Reading, read_document};
+pub use input::{Reading, read_document, read_text};
 pub use latex2mathml_formulas::{Steps, latex_to_mathml, latex_to_mathml_counted};
 pub use latex2mathml_nodes::ast;
 pub use latex2mathml_tokens::{DisplayStyle, LatexError, attribute, token};
 use std::alloc::Global;
-pub use stream::{Sink, Source, Stream, write_document};
+pub use stream::{Sink, Source, Stream, write_document, write_text};
 
 /// The document with the `math` element of each formula in the formula's place.
 ///

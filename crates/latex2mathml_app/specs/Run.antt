@@ -1,99 +1,61 @@
 -- What a run of the program makes of the bytes that it read, and what it may come to.
-use Rattle.std.specs.Prelude.{◌≡◌, ℕ, List, ◌++◌, Bool, None, Result, Ok, Err, IfSome, IsFalse, IsTrue, IsUtf8, String, codes, string_bytes}
-use Rattle.std.specs.Io.KnownBytes.{Appends, Consumes, Keeps}
+use Rattle.std.specs.Prelude.{◌≡◌, ℕ, List, ◌++◌, Result, Ok, Err, String, codes, string_bytes}
+use Rattle.std.specs.Io.KnownBytes.{Keeps}
 use Rattle.std.specs.declared.alloc.Global.{Global}
-use Rattle.latex2mathml.specs.Documents.{IsAnswer, IsRefusal}
-use Rattle.latex2mathml_tokens.specs.Refusal.{Refusal, refusal_of}
-use Rattle.latex2mathml_formulas.specs.Rendering.{IsFormulaRefusal, IsRendering}
-use Rattle.latex2mathml.specs.Streams.{CanGoOn, Input, IsStopped, Output}
-use Rattle.latex2mathml_tokens.specs.declared.DisplayStyle.{DisplayStyle}
-use Rattle.latex2mathml_tokens.specs.declared.DisplayStyle.TheVariants as display
+use Rattle.latex2mathml.specs.Conversions.{Conversion, IsConverted, formula, document}
+use Rattle.latex2mathml.specs.Formulas as display
+use Rattle.latex2mathml.specs.Inputs.{IsMissed, IsWholeText}
+use Rattle.latex2mathml.specs.Streams.{CanGoOn, Gives, IsStopped, StreamState, Takes}
 use Rattle.latex2mathml.specs.declared.error.FileFault.{FileFault}
-use Rattle.latex2mathml.specs.declared.error.FileFault.TheVariants.{Read, NotText, Refused, Write}
+use Rattle.latex2mathml.specs.declared.error.FileFault.TheVariants.{Write}
 use Rattle.latex2mathml_app.specs.declared.job.Job.{Job}
 use Rattle.latex2mathml_app.specs.declared.job.Job.TheVariants.{Inline, Block, Document}
 
--- the markup of the formula, and a line feed
-abbrev pub IsLine : DisplayStyle → List ℕ → List ℕ → Type 0
-IsLine display text line =
-    (markup : List ℕ)
-    × IsRendering text display markup
-    × (line ≡ markup ++ codes "\n")
-
--- what is made of a text, and how a text is refused
-pub record Conversion : Type 1 where
-  pub makes : List ℕ → List ℕ → Type 0
-  pub refuses : List ℕ → Refusal → Type 0
-
--- a formula is set so, in a line
-abbrev pub formula_conversion : DisplayStyle → Conversion
-formula_conversion display = record { makes = IsLine display; refuses = IsFormulaRefusal }
-
--- a document becomes its answer, and nothing is added
-abbrev pub document_conversion : Conversion
-document_conversion = record { makes = IsAnswer; refuses = IsRefusal }
-
+-- as what the job converts its input
 abbrev pub conversion_of : Job → Conversion
-conversion_of Inline = formula_conversion display.Inline
-conversion_of Block = formula_conversion display.Block
-conversion_of Document = document_conversion
+conversion_of Inline = formula display.Inline
+conversion_of Block = formula display.Block
+conversion_of Document = document
 
--- what the job makes of the bytes read, which are a text
-abbrev pub IsProduct : Job → List ℕ → List ℕ → Type 0
-IsProduct job bytes answer = IsUtf8 bytes × (conversion_of job).makes bytes answer
+-- what is put out for the markup: that of a formula is a line, and to that of a document nothing is added
+abbrev pub printed : Conversion → List ℕ → List ℕ
+printed (formula display) markup = markup ++ codes "\n"
+printed document markup = markup
 
--- the input gave all that it has
-abbrev pub IsWhole : Input → Type 0
-IsWhole input = IsFalse input.failed × IsTrue input.ended
-
--- why the input was not read to its end, where the input tells whether it has failed
-abbrev pub IsReadFault : FileFault → Bool → Type 0
-IsReadFault Read failed = IsTrue failed
-IsReadFault (Refused error) failed = IsFalse failed × (refusal_of error ≡ None)
-IsReadFault _ failed = ⊥
-
--- why nothing was made of the bytes read
-abbrev pub IsMissed : Conversion → List ℕ → Input → FileFault → Type 0
-IsMissed conversion bytes input Read = IsTrue input.failed
-IsMissed conversion bytes input NotText = IsWhole input × (¬ IsUtf8 bytes)
-IsMissed conversion bytes input (Refused error) =
-    IsFalse input.failed
-    × IfSome (refusal_of error) (λ refusal.
-    IsWhole input × IsUtf8 bytes × conversion.refuses bytes refusal)
-IsMissed conversion bytes input _ = ⊥
+-- what is put out for a text
+abbrev pub IsProduct : Conversion → List ℕ → List ℕ → Type 0
+IsProduct conversion text product =
+    (markup : List ℕ) × IsConverted conversion text markup × (product ≡ printed conversion markup)
 
 -- what was made of the bytes read, or why nothing was
-abbrev pub IsMadeOf : Conversion → List ℕ → Input → Result (String Global) FileFault → Type 0
-IsMadeOf conversion bytes input (Ok answer) =
-    IsWhole input
-    × IsUtf8 bytes
-    × conversion.makes bytes (string_bytes answer)
-IsMadeOf conversion bytes input (Err fault) = IsMissed conversion bytes input fault
+abbrev pub IsMadeOf : Conversion → List ℕ → StreamState → Result (String Global) FileFault → Type 0
+IsMadeOf conversion bytes state (Ok product) = IsWholeText bytes state × IsProduct conversion bytes (string_bytes product)
+IsMadeOf conversion bytes state (Err fault) = IsMissed conversion bytes state fault
 
--- what was made of the input, or why nothing was
-abbrev pub IsMade : Conversion → Input → Result (String Global) FileFault → Type 0
-IsMade conversion input result =
+-- what was made of all that the input gave, or why nothing was
+abbrev pub IsMade : Conversion → StreamState → StreamState → Result (String Global) FileFault → Type 0
+IsMade conversion old new result =
     (bytes : List ℕ)
-    × Consumes input.old input.new bytes
-    × IsMadeOf conversion bytes input result
+    × Gives old new bytes
+    × IsMadeOf conversion bytes new result
 
--- what a run of the job on the bytes read may come to
-abbrev pub IsOutcomeOn : List ℕ → Job → Input → Output → Result Unit FileFault → Type 0
-IsOutcomeOn bytes job input output (Ok _) =
-    IsWhole input
-    × CanGoOn output
-    × ((answer : List ℕ) × IsProduct job bytes answer × Appends output.old output.new answer)
-IsOutcomeOn bytes job input output (Err (Write written cause)) =
-    IsWhole input
-    × ((answer : List ℕ) × IsProduct job bytes answer × IsStopped (Write written cause) answer output)
-IsOutcomeOn bytes job input output (Err fault) =
-    IsMissed (conversion_of job) bytes input fault
-    × CanGoOn output
-    × Keeps output.old output.new
+-- what a run on the bytes read may come to, by what is known of the input then, and of the output before and then
+abbrev pub IsOutcomeOn : List ℕ → Conversion → StreamState → StreamState → StreamState → Result Unit FileFault → Type 0
+IsOutcomeOn bytes conversion input old new (Ok _) =
+    IsWholeText bytes input
+    × CanGoOn new
+    × ((product : List ℕ) × IsProduct conversion bytes product × Takes old new product)
+IsOutcomeOn bytes conversion input old new (Err (Write written cause)) =
+    IsWholeText bytes input
+    × ((product : List ℕ) × IsProduct conversion bytes product × IsStopped (Write written cause) product old new)
+IsOutcomeOn bytes conversion input old new (Err fault) =
+    IsMissed conversion bytes input fault
+    × CanGoOn new
+    × Keeps old.bytes new.bytes
 
--- what a run of the job may come to
-abbrev pub IsOutcome : Job → Input → Output → Result Unit FileFault → Type 0
-IsOutcome job input output result =
+-- what a run of the job may come to, by what is known of the input before and after it, and of the output
+abbrev pub IsOutcome : Job → StreamState → StreamState → StreamState → StreamState → Result Unit FileFault → Type 0
+IsOutcome job input_old input_new output_old output_new result =
     (bytes : List ℕ)
-    × Consumes input.old input.new bytes
-    × IsOutcomeOn bytes job input output result
+    × Gives input_old input_new bytes
+    × IsOutcomeOn bytes (conversion_of job) input_new output_old output_new result

@@ -1,14 +1,14 @@
 -- What the words of the command line ask for, and the lines and the status that answer them.
-use Rattle.std.specs.Prelude.{◌≡◌, ◌⊎◌, ℕ, List, [], ◌∷◌, ◌++◌, Option, Result, Ok, Err, codes, map, string_bytes}
-use Rattle.std.specs.Io.KnownBytes.{Appends, Keeps}
+use Rattle.std.specs.Prelude.{◌≡◌, ◌⊎◌, ℕ, List, [], ◌∷◌, ◌++◌, Result, Ok, Err, codes, map, string_bytes}
+use Rattle.std.specs.Io.KnownBytes.{Keeps}
 use Rattle.latex2mathml.specs.Faults.{fault_text}
 use Rattle.latex2mathml.specs.Files.{IsWalk, levels_read}
-use Rattle.latex2mathml.specs.Streams.{CanGoOn, Input, IsStopped, Output}
+use Rattle.latex2mathml.specs.Streams.{CanGoOn, IsStopped, StreamState, Takes}
 use Rattle.latex2mathml.specs.declared.error.FileFault.{FileFault}
 use Rattle.latex2mathml.specs.declared.error.FileFault.TheVariants.{Refused, Write}
 use Rattle.latex2mathml.specs.declared.error.WriteCause.{WriteCause}
 use Rattle.latex2mathml.specs.declared.files.Unconverted.{Unconverted}
-use Rattle.latex2mathml_tokens.specs.declared.error.LatexError.TheVariants.{OutOfMemory}
+use Rattle.latex2mathml.specs.Formulas.{OutOfMemory}
 use Rattle.latex2mathml_app.specs.Run.{IsOutcome}
 use Rattle.latex2mathml_app.specs.declared.job.Job.{Job}
 use Rattle.latex2mathml_app.specs.declared.job.Job.TheVariants.{Inline, Block, Document}
@@ -48,27 +48,29 @@ abbrev pub unconverted_line : Unconverted → List ℕ
 unconverted_line unconverted =
     codes "LaTeX2MathML Error: " ++ (string_bytes unconverted.path ++ (codes ": " ++ (fault_text unconverted.fault ++ codes "\n")))
 
+-- In what follows the first state says what is known of the stream of errors before, and the second what is known then.
+
 -- the stream took nothing
-abbrev pub IsSilent : Output → Type 0
-IsSilent errors = CanGoOn errors × Keeps errors.old errors.new
+abbrev pub IsSilent : StreamState → StreamState → Type 0
+IsSilent old new = CanGoOn new × Keeps old.bytes new.bytes
 
 -- what putting a line on a stream may come to, where the line is at hand
-pub data IsTaken (line : List ℕ) (errors : Output) : Type 0 where
+pub data IsTaken (line : List ℕ) (old new : StreamState) : Type 0 where
   -- the stream took the line
-  Whole : CanGoOn errors
-      → Appends errors.old errors.new line
-      → IsTaken line errors
+  Whole : CanGoOn new
+      → Takes old new line
+      → IsTaken line old new
   -- the stream took the first bytes of the line, and failed or took no more
   Stopped : (written : ℕ) (cause : WriteCause)
-      → IsStopped (Write written cause) line errors
-      → IsTaken line errors
+      → IsStopped (Write written cause) line old new
+      → IsTaken line old new
 
 -- what putting a line on a stream may come to, where memory is asked for the line
-pub data IsPut (line : List ℕ) (errors : Output) : Type 0 where
+pub data IsPut (line : List ℕ) (old new : StreamState) : Type 0 where
   -- memory was found
-  Found : IsTaken line errors → IsPut line errors
+  Found : IsTaken line old new → IsPut line old new
   -- no memory was found for the line
-  LeftOut : IsSilent errors → IsPut line errors
+  LeftOut : IsSilent old new → IsPut line old new
 
 -- the text is the lines in their order, some of them left out
 abbrev pub AreSaid : List (List ℕ) → List ℕ → Type 0
@@ -78,22 +80,22 @@ AreSaid (line ∷ lines) text =
     ⊎ ((rest : List ℕ) × (text ≡ line ++ rest) × AreSaid lines rest)
 
 -- what putting lines on a stream may come to
-pub data ArePut (lines : List (List ℕ)) (errors : Output) : Type 0 where
+pub data ArePut (lines : List (List ℕ)) (old new : StreamState) : Type 0 where
   -- the stream took each line for which memory was found
-  AllPut : CanGoOn errors
+  AllPut : CanGoOn new
       → (text : List ℕ)
       → AreSaid lines text
-      → Appends errors.old errors.new text
-      → ArePut lines errors
+      → Takes old new text
+      → ArePut lines old new
   -- the stream took so much of the lines before one of them, then the first bytes of that one, and failed or took no more
   StoppedAt : (before : List (List ℕ)) (line : List ℕ) (after : List (List ℕ))
       → lines ≡ before ++ (line ∷ after)
-      → (text : List ℕ) (middle : Option (List ℕ))
+      → (text : List ℕ) (middle : StreamState)
       → AreSaid before text
-      → Appends errors.old middle text
+      → Takes old middle text
       → (written : ℕ) (cause : WriteCause)
-      → IsStopped (Write written cause) line (record { old = middle; new = errors.new; failed = errors.failed; ended = errors.ended })
-      → ArePut lines errors
+      → IsStopped (Write written cause) line middle new
+      → ArePut lines old new
 
 -- the status where a run is done, where it is not, and where the words are wrong
 abbrev pub done : ℕ
@@ -106,44 +108,45 @@ abbrev pub wrong_words : ℕ
 wrong_words = 2
 
 -- the status and the stream of errors tell what a run came to
-abbrev pub IsTold : Result Unit FileFault → Output → ℕ → Type 0
-IsTold (Ok _) errors status = (status ≡ done) × IsSilent errors
-IsTold (Err fault) errors status = (status ≡ not_done) × IsPut (fault_line fault) errors
+abbrev pub IsTold : Result Unit FileFault → StreamState → StreamState → ℕ → Type 0
+IsTold (Ok _) old new status = (status ≡ done) × IsSilent old new
+IsTold (Err fault) old new status = (status ≡ not_done) × IsPut (fault_line fault) old new
 
 -- the status and the stream of errors tell what was not converted
-abbrev pub AreTold : List Unconverted → Output → ℕ → Type 0
-AreTold [] errors status = (status ≡ done) × IsSilent errors
-AreTold (one ∷ more) errors status = (status ≡ not_done) × ArePut (map unconverted_line (one ∷ more)) errors
+abbrev pub AreTold : List Unconverted → StreamState → StreamState → ℕ → Type 0
+AreTold [] old new status = (status ≡ done) × IsSilent old new
+AreTold (one ∷ more) old new status = (status ≡ not_done) × ArePut (map unconverted_line (one ∷ more)) old new
 
 -- the status and the stream of errors tell what converting the files under a path came to
-pub data AreFilesTold (path : List ℕ) (errors : Output) (status : ℕ) : Type 0 where
+pub data AreFilesTold (path : List ℕ) (old new : StreamState) (status : ℕ) : Type 0 where
   -- the files were walked, and these were not converted
   Told : (unconverted : List Unconverted)
       → IsWalk levels_read path unconverted
-      → AreTold unconverted errors status
-      → AreFilesTold path errors status
+      → AreTold unconverted old new status
+      → AreFilesTold path old new status
   -- no memory was found to walk on
   NoMemory : status ≡ not_done
-      → IsTaken (fault_line (Refused OutOfMemory)) errors
-      → AreFilesTold path errors status
+      → IsTaken (fault_line (Refused OutOfMemory)) old new
+      → AreFilesTold path old new status
 
--- what serving the words may come to
-pub data IsServed (words : List (List ℕ)) (input : Input) (output errors : Output) (status : ℕ) : Type 0 where
+-- what serving the words may come to, by what is known of the input, the output and the stream of errors before, and of
+-- each of them then
+pub data IsServed (words : List (List ℕ)) (input_old input_new output_old output_new errors_old errors_new : StreamState) (status : ℕ) : Type 0 where
   -- the words are wrong. A line was put out: which one is not said, since a derived `Display` tells no text.
   WrongWords : AreWrong words
       → status ≡ wrong_words
       → (usage : List ℕ)
-      → IsPut usage errors
-      → IsServed words input output errors status
+      → IsPut usage errors_old errors_new
+      → IsServed words input_old input_new output_old output_new errors_old errors_new status
   -- the job that the words ask for was run
   Ran : (job : Job)
       → AskFor job words
       → (result : Result Unit FileFault)
-      → IsOutcome job input output result
-      → IsTold result errors status
-      → IsServed words input output errors status
+      → IsOutcome job input_old input_new output_old output_new result
+      → IsTold result errors_old errors_new status
+      → IsServed words input_old input_new output_old output_new errors_old errors_new status
   -- the files under the path that the words name were converted
   Walked : (path : List ℕ)
       → AskForFiles path words
-      → AreFilesTold path errors status
-      → IsServed words input output errors status
+      → AreFilesTold path errors_old errors_new status
+      → IsServed words input_old input_new output_old output_new errors_old errors_new status

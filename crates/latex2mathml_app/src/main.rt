@@ -30,21 +30,9 @@ fn main(rt: HostRuntime) -> ExitCode {
         let _ = eprintln!(rt; "LaTeX2MathML Error: {}", LatexError::OutOfMemory);
         return ExitCode::from(1);
     };
-    let mut input = Stream {
-        inner: rt.stdin(),
-        failed: false,
-        ended: false,
-    };
-    let mut output = Stream {
-        inner: rt.stdout(),
-        failed: false,
-        ended: false,
-    };
-    let mut errors = Stream {
-        inner: rt.stderr(),
-        failed: false,
-        ended: false,
-    };
+    let mut input = Stream::new(rt.stdin());
+    let mut output = Stream::new(rt.stdout());
+    let mut errors = Stream::new(rt.stderr());
     let status = serve::serve(
         &rt,
         rt.alloc(),

@@ -1,11 +1,11 @@
 //! The words of the command line, the lines on standard error, and the status.
-ghost use Rattle.std.specs.Prelude.{◌≡◌, ◌↔◌, ℕ, List, IfNone, IfSome, IsFalse, IsTrue, map, string_bytes};
+ghost use Rattle.std.specs.Prelude.{◌≡◌, ◌↔◌, ℕ, List, IfNone, IfSome, IsTrue, map, string_bytes};
 ghost use Rattle.std.specs.Io.KnownBytes.{IsAtEnd};
 ghost use Rattle.latex2mathml.specs.Streams.{CanGoOn};
 ghost use Rattle.latex2mathml_app.specs.Serving.{AreFilesTold, ArePut, AreTold, AskFor, AskForFiles, AskForNoFiles, AskForNoJob, IsPut, IsServed, IsTaken, fault_line, unconverted_line, word_of, wrong_words};
 
 use crate::job::{Job, run};
-use latex2mathml::{FileFault, Sink, Source, Unconverted, convert_html, write_document};
+use latex2mathml::{FileFault, Sink, Source, Unconverted, convert_html, write_text};
 use std::alloc::Global;
 use std::rt::Files;
 use thiserror::Error;
@@ -38,37 +38,18 @@ pub fn serve<F: Files + Alloc + Clone + Drop, R: Source, W: Sink, E: Sink>(
     output: &mut W,
     errors: &mut E,
 ) -> u8
-    requires input_unfailed { IsFalse (R.has_failed input.old) }
-    requires input_unended { IsFalse (R.has_ended input.old) }
-    requires output_unfailed { IsFalse (W.has_failed output.old) }
-    requires output_unended { IsFalse (W.has_ended output.old) }
-    requires errors_unfailed { IsFalse (E.has_failed errors.old) }
-    requires errors_unended { IsFalse (E.has_ended errors.old) }
+    requires input { CanGoOn (R.state input.old) }
+    requires output { CanGoOn (W.state output.old) }
+    requires errors { CanGoOn (E.state errors.old) }
     ensures served { IsServed (map string_bytes words.now)
-        (record {
-          old = R.remaining input.old;
-          new = R.remaining input.new;
-          failed = R.has_failed input.new;
-          ended = R.has_ended input.new;
-        })
-        (record {
-          old = W.taken output.old;
-          new = W.taken output.new;
-          failed = W.has_failed output.new;
-          ended = W.has_ended output.new;
-        })
-        (record {
-          old = E.taken errors.old;
-          new = E.taken errors.new;
-          failed = E.has_failed errors.new;
-          ended = E.has_ended errors.new;
-        })
-        result }
+        (R.state input.old) (R.state input.new)
+        (W.state output.old) (W.state output.new)
+        (E.state errors.old) (E.state errors.new) result }
     ensures untouched { result ≡ wrong_words
         → (input.new ≡ input.old) × (output.new ≡ output.old) }
     ensures files_alone { (path : List ℕ) → AskForFiles path (map string_bytes words.now)
         → (input.new ≡ input.old) × (output.new ≡ output.old) }
-    ensures all_read { IsTrue (R.has_ended input.new) → IsAtEnd (R.remaining input.new) }
+    ensures all_read { IsTrue (R.state input.new).ended → IsAtEnd (R.state input.new).bytes }
 {
     if let Some(path) = path_asked(words) {
         return convert(rt, alloc, path, errors);
@@ -128,16 +109,9 @@ fn convert<F: Files + Alloc + Clone + Drop, E: Sink>(
     path: &str,
     errors: &mut E,
 ) -> u8
-    requires unfailed { IsFalse (E.has_failed errors.old) }
-    requires unended { IsFalse (E.has_ended errors.old) }
+    requires { CanGoOn (E.state errors.old) }
     ensures told { AreFilesTold path.now
-        (record {
-          old = E.taken errors.old;
-          new = E.taken errors.new;
-          failed = E.has_failed errors.new;
-          ended = E.has_ended errors.new;
-        })
-        result }
+        (E.state errors.old) (E.state errors.new) result }
 {
     let Ok(unconverted) = convert_html(rt, alloc, path) else {
         put_line(errors, OUT_OF_MEMORY);
@@ -148,16 +122,9 @@ fn convert<F: Files + Alloc + Clone + Drop, E: Sink>(
 
 /// Puts out a line for each of these, and answers the status: they were not converted.
 fn tell<E: Sink>(alloc: Global, errors: &mut E, all: &[Unconverted]) -> u8
-    requires unfailed { IsFalse (E.has_failed errors.old) }
-    requires unended { IsFalse (E.has_ended errors.old) }
+    requires { CanGoOn (E.state errors.old) }
     ensures told { AreTold all.now
-        (record {
-          old = E.taken errors.old;
-          new = E.taken errors.new;
-          failed = E.has_failed errors.new;
-          ended = E.has_ended errors.new;
-        })
-        result }
+        (E.state errors.old) (E.state errors.new) result }
 {
     if all.is_empty() {
         return DONE;
@@ -168,15 +135,8 @@ fn tell<E: Sink>(alloc: Global, errors: &mut E, all: &[Unconverted]) -> u8
 
 /// Puts out a line for each of these, up to one that the stream does not take whole.
 fn put_all_unconverted<E: Sink>(alloc: Global, errors: &mut E, all: &[Unconverted])
-    requires unfailed { IsFalse (E.has_failed errors.old) }
-    requires unended { IsFalse (E.has_ended errors.old) }
-    ensures put { ArePut (map unconverted_line all.now)
-        (record {
-          old = E.taken errors.old;
-          new = E.taken errors.new;
-          failed = E.has_failed errors.new;
-          ended = E.has_ended errors.new;
-        }) }
+    requires { CanGoOn (E.state errors.old) }
+    ensures put { ArePut (map unconverted_line all.now) (E.state errors.old) (E.state errors.new) }
 {
     for unconverted in all {
         if !put_unconverted(alloc, errors, unconverted) {
@@ -188,22 +148,9 @@ fn put_all_unconverted<E: Sink>(alloc: Global, errors: &mut E, all: &[Unconverte
 /// Puts out the line that tells why something was not converted, where memory is found for it, and answers whether the
 /// stream can take more.
 fn put_unconverted<E: Sink>(alloc: Global, errors: &mut E, unconverted: &Unconverted) -> bool
-    requires unfailed { IsFalse (E.has_failed errors.old) }
-    requires unended { IsFalse (E.has_ended errors.old) }
-    ensures put { IsPut (unconverted_line unconverted.now)
-        (record {
-          old = E.taken errors.old;
-          new = E.taken errors.new;
-          failed = E.has_failed errors.new;
-          ended = E.has_ended errors.new;
-        }) }
-    ensures ready { IsTrue result ↔ CanGoOn
-        (record {
-          old = E.taken errors.old;
-          new = E.taken errors.new;
-          failed = E.has_failed errors.new;
-          ended = E.has_ended errors.new;
-        }) }
+    requires { CanGoOn (E.state errors.old) }
+    ensures put { IsPut (unconverted_line unconverted.now) (E.state errors.old) (E.state errors.new) }
+    ensures ready { IsTrue result ↔ CanGoOn (E.state errors.new) }
 {
     let path = unconverted.path.as_str();
     let fault = &unconverted.fault;
@@ -215,16 +162,9 @@ fn put_unconverted<E: Sink>(alloc: Global, errors: &mut E, unconverted: &Unconve
 
 /// Puts out the usage line, where memory is found for it.
 fn put_usage<E: Sink>(alloc: Global, errors: &mut E)
-    requires unfailed { IsFalse (E.has_failed errors.old) }
-    requires unended { IsFalse (E.has_ended errors.old) }
+    requires { CanGoOn (E.state errors.old) }
     // what is derived for `Usage` says nothing of its text
-    ensures put { (line : List ℕ) × IsPut line
-        (record {
-          old = E.taken errors.old;
-          new = E.taken errors.new;
-          failed = E.has_failed errors.new;
-          ended = E.has_ended errors.new;
-        }) }
+    ensures put { (line : List ℕ) × IsPut line (E.state errors.old) (E.state errors.new) }
 {
     if let Ok(line) = format!(in alloc; "{}\n", Usage) {
         put_line(errors, line.as_str());
@@ -233,15 +173,8 @@ fn put_usage<E: Sink>(alloc: Global, errors: &mut E)
 
 /// Puts out the line that tells the fault, where memory is found for it.
 fn put_fault<E: Sink>(alloc: Global, errors: &mut E, fault: &FileFault)
-    requires unfailed { IsFalse (E.has_failed errors.old) }
-    requires unended { IsFalse (E.has_ended errors.old) }
-    ensures put { IsPut (fault_line fault.now)
-        (record {
-          old = E.taken errors.old;
-          new = E.taken errors.new;
-          failed = E.has_failed errors.new;
-          ended = E.has_ended errors.new;
-        }) }
+    requires { CanGoOn (E.state errors.old) }
+    ensures put { IsPut (fault_line fault.now) (E.state errors.old) (E.state errors.new) }
 {
     if let Ok(line) = format!(in alloc; "LaTeX2MathML Error: {fault}\n") {
         put_line(errors, line.as_str());
@@ -250,22 +183,9 @@ fn put_fault<E: Sink>(alloc: Global, errors: &mut E, fault: &FileFault)
 
 /// Puts out the line, or its first bytes where the stream stops, and answers whether it can take more.
 fn put_line<E: Sink>(errors: &mut E, line: &str) -> bool
-    requires unfailed { IsFalse (E.has_failed errors.old) }
-    requires unended { IsFalse (E.has_ended errors.old) }
-    ensures put { IsTaken line.now
-        (record {
-          old = E.taken errors.old;
-          new = E.taken errors.new;
-          failed = E.has_failed errors.new;
-          ended = E.has_ended errors.new;
-        }) }
-    ensures ready { IsTrue result ↔ CanGoOn
-        (record {
-          old = E.taken errors.old;
-          new = E.taken errors.new;
-          failed = E.has_failed errors.new;
-          ended = E.has_ended errors.new;
-        }) }
+    requires { CanGoOn (E.state errors.old) }
+    ensures put { IsTaken line.now (E.state errors.old) (E.state errors.new) }
+    ensures ready { IsTrue result ↔ CanGoOn (E.state errors.new) }
 {
-    write_document(errors, line).is_ok()
+    write_text(errors, line).is_ok()
 }

@@ -82,11 +82,7 @@ fn stream<T>(inner: T) -> Stream<T>
     ensures unfailed { IsFalse result.failed }
     ensures unended { IsFalse result.ended }
 {
-    Stream {
-        inner,
-        failed: false,
-        ended: false,
-    }
+    Stream::new(inner)
 }
 
 const INLINE: &str =

@@ -1,11 +1,10 @@
 -- An input comes to one text, so each call with it needs the same room.
 use Rattle.std.proofs.Common.{◌≡◌, ◌≢◌, ◌≤◌, ℕ, List, length, Option, Some, None, arith, inl, inr, refl, sym, ap, ◌∙◌, subst}
 use Rattle.std.specs.Prelude.{IfSome, IsUtf8}
-use Rattle.latex2mathml_tokens.specs.Refusal.{Refusal, error_text, refusal_text}
+use Rattle.latex2mathml.specs.Formulas.{Refusal, error_text, refusal_text, RenderingsHold}
 use Rattle.latex2mathml.specs.Conversions.{IsConverted, IsRefusedAs, formula, document}
 use Rattle.latex2mathml.specs.Conversions as conversions
 use Rattle.latex2mathml.specs.DocumentLaws.{AnswersHold}
-use Rattle.latex2mathml_formulas.specs.RenderingLaws.{RenderingsHold}
 use Rattle.latex2mathml_c.specs.Call.{IsLength, IsOutcome, IsPutOrTooSmall, IsText, Room, code_of, conversion_of}
 use Rattle.latex2mathml_c.specs.declared.Conversion.{Conversion}
 use Rattle.latex2mathml_c.specs.declared.Conversion.TheVariants.{Formula, Document}

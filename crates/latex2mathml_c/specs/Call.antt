@@ -1,8 +1,6 @@
 -- What a call from C comes to, for its input, a list of bytes, and the room that it is given.
 use Rattle.std.specs.Prelude.{◌≡◌, ◌≢◌, ◌<◌, ◌≤◌, ◌⊎◌, ℕ, List, ◌++◌, Bool, true, false, IsUtf8, codes, drop, length}
-use Rattle.latex2mathml_tokens.specs.Refusal.{Refusal, refusal_text}
-use Rattle.latex2mathml_tokens.specs.declared.DisplayStyle.{DisplayStyle}
-use Rattle.latex2mathml_tokens.specs.declared.DisplayStyle.TheVariants.{Block, Inline}
+use Rattle.latex2mathml.specs.Formulas.{Refusal, refusal_text, DisplayStyle, Block, Inline}
 use Rattle.latex2mathml.specs.Conversions.{IsConverted, IsRefusedAs}
 use Rattle.latex2mathml.specs.Conversions as conversions
 use Rattle.latex2mathml_c.specs.declared.Conversion.{Conversion}

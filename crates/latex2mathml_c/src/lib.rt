@@ -10,7 +10,7 @@ ghost use Rattle.latex2mathml_c.specs.declared.Status.{Status};
 ghost use Rattle.latex2mathml_c.specs.declared.Status.TheVariants.{OutOfMemory};
 ghost use Rattle.latex2mathml_c.specs.Call.{IsLength, IsOutcome, IsPutOrTooSmall, IsText, code_of, conversion_of, display_of};
 ghost use Rattle.latex2mathml.specs.Conversions.{IsConverted, IsRefusedAs};
-ghost use Rattle.latex2mathml_tokens.specs.Refusal.{IfRefused};
+ghost use Rattle.latex2mathml.specs.Formulas.{IfRefused};
 
 use latex2mathml::{DisplayStyle, LatexError, latex_to_mathml, laws, replace};
 use std::alloc::{AllocError, Global};

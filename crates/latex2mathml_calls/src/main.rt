@@ -61,11 +61,7 @@ fn document(rt: &HostRuntime, input: &str) -> io::Result<()> {
 
 /// The answer for a document that is read.
 fn reading(rt: &HostRuntime, input: &str) -> io::Result<()> {
-    let mut source = Stream {
-        inner: input.as_bytes(),
-        failed: false,
-        ended: false,
-    };
+    let mut source = Stream::new(input.as_bytes());
     mark(rt.alloc(), BEGINNING)?;
     let reading = read_document(rt.alloc(), &mut source);
     mark(rt.alloc(), END)?;

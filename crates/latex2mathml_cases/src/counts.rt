@@ -1,6 +1,7 @@
 //! How many steps readings take.
 
-use latex2mathml::{DisplayStyle, Steps, latex_to_mathml_counted};
+use latex2mathml::token::Token;
+use latex2mathml::{DisplayStyle, LatexError, Steps, latex_to_mathml_counted};
 use std::alloc::{AllocError, Global};
 use std::test::Fail;
 
@@ -100,7 +101,10 @@ fn deep_groups(rt: HostRuntime) -> Result<(), Fail> {
     let text = braces(alloc, DEEP, DEEP)?;
     let (result, steps) = latex_to_mathml_counted(alloc, text.as_str(), DisplayStyle::Inline);
     let markup = result.ok().ok_or("refused")?;
-    assert!(rt; markup.as_str().ends_with("<mi>x</mi></math>"));
+    assert!(rt;
+        markup.as_str()
+            == "<math xmlns=\"http://www.w3.org/1998/Math/MathML\" display=\"inline\"><mi>x</mi></math>"
+    );
     assert_eq!(rt; steps.tokens, 40_001);
     assert_eq!(rt; steps.frames, 20_000);
     Ok(())
@@ -111,7 +115,13 @@ fn one_brace_fewer(rt: HostRuntime) -> Result<(), Fail> {
     let alloc = rt.alloc();
     let text = braces(alloc, DEEP, DEEP - 1)?;
     let (result, steps) = latex_to_mathml_counted(alloc, text.as_str(), DisplayStyle::Inline);
-    assert!(rt; result.is_err());
+    assert!(rt;
+        result
+            == Err(LatexError::UnexpectedToken {
+                expected: Token::RBrace,
+                got: Token::EOF,
+            })
+    );
     assert_eq!(rt; steps.frames, 20_000);
     Ok(())
 }

@@ -5,9 +5,7 @@ use Rattle.std.specs.Cmp.Lexicographic.{bytes_decides}
 use Rattle.std.specs.HashMap.{HashMap, get_by_text}
 use Rattle.std.specs.Map.{update}
 use Rattle.std.specs.Str.{bytes_eq, chars}
-use Rattle.latex2mathml_tokens.specs.declared.DisplayStyle.{DisplayStyle}
-use Rattle.latex2mathml_formulas.specs.Rendering.{IsRendering}
-use Rattle.latex2mathml_formulas.specs.RenderingLaws.{HasOneRendering}
+use Rattle.latex2mathml.specs.Formulas.{DisplayStyle, IsRendering, HasOneRendering}
 use Rattle.latex2mathml_uses.specs.Cached.{HoldsRenderings, IsOnlyRendering}
 
 -- what is rendered once is the only rendering

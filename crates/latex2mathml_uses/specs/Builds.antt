@@ -5,7 +5,7 @@ use Rattle.latex2mathml.specs.declared.error.FileFault.{FileFault}
 use Rattle.latex2mathml.specs.declared.error.FileFault.TheVariants.{Refused}
 use Rattle.latex2mathml.specs.declared.input.Reading.{Reading}
 use Rattle.latex2mathml.specs.declared.input.Reading.TheVariants.{Changed, Unchanged}
-use Rattle.latex2mathml_tokens.specs.Refusal.{refusal_of}
+use Rattle.latex2mathml.specs.Formulas.{refusal_of}
 
 -- where the fault tells a refusal, it is the document's
 abbrev pub IsFaultOf : List ℕ → FileFault → Type 0

@@ -1,8 +1,7 @@
 -- What a map of renderings holds.
 use Rattle.std.specs.Prelude.{◌≡◌, ℕ, List, Option, String, IfSome, option_map, string_bytes}
 use Rattle.std.specs.HashMap.{HashMap, get_by_text}
-use Rattle.latex2mathml_tokens.specs.declared.DisplayStyle.{DisplayStyle}
-use Rattle.latex2mathml_formulas.specs.Rendering.{IsRendering}
+use Rattle.latex2mathml.specs.Formulas.{DisplayStyle, IsRendering}
 
 -- the markup is a rendering of the text, and the text has no other
 pub record IsOnlyRendering (text : List ℕ) (display : DisplayStyle) (markup : List ℕ) : Type 0 where

@@ -1,7 +1,6 @@
 -- What a cache holds.
 use Rattle.std.specs.Prelude.{ℕ, List, Option}
-use Rattle.latex2mathml_tokens.specs.declared.DisplayStyle.{DisplayStyle}
-use Rattle.latex2mathml_tokens.specs.declared.DisplayStyle.TheVariants.{Block, Inline}
+use Rattle.latex2mathml.specs.Formulas.{DisplayStyle, Block, Inline}
 use Rattle.latex2mathml_uses.specs.Cached.{HoldsRenderings, text_at}
 use Rattle.latex2mathml_uses.specs.declared.cache.Cache.{Cache}
 

@@ -1,7 +1,7 @@
 -- The size of a formula.
 use Rattle.std.specs.Prelude.{◌≡◌, ℕ, List, false, length}
 use Rattle.std.specs.Str.{chars}
-use Rattle.latex2mathml_formulas.specs.Spelling.{Slice, HasSlices}
+use Rattle.latex2mathml.specs.Counting.{Slice, HasSlices}
 
 -- the text is cut into so many slices, a token each
 abbrev pub HasTokenCount : List ℕ → ℕ → Type 0

@@ -1,5 +1,5 @@
 -- What an author is to mend.
-use Rattle.latex2mathml_tokens.specs.Refusal.{Refusal, UnexpectedToken, MissingParensethis, UnknownEnvironment, InvalidNumberOfDollarSigns}
+use Rattle.latex2mathml.specs.Formulas.{Refusal, UnexpectedToken, MissingParensethis, UnknownEnvironment, InvalidNumberOfDollarSigns}
 use Rattle.latex2mathml_uses.specs.declared.refusal.Mistake.{Mistake}
 use Rattle.latex2mathml_uses.specs.declared.refusal.Mistake.TheVariants.{Unfinished, Fence, Environment, Dollars}
 

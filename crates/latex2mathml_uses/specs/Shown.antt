@@ -1,10 +1,8 @@
 -- What a page shows for a formula of anyone.
 use Rattle.std.specs.Prelude.{◌≡◌, ◌⊎◌, ℕ, List, ◌++◌, codes}
-use Rattle.latex2mathml_nodes.specs.Print.{print}
-use Rattle.latex2mathml_tokens.specs.Refusal.{Refusal, refusal_text}
-use Rattle.latex2mathml_formulas.specs.Rendering.{IsFormulaRefusal, IsRendering}
-use Rattle.latex2mathml_nodes.specs.Tree.{undefined}
-use Rattle.latex2mathml_tokens.specs.declared.DisplayStyle.TheVariants.{Inline}
+use Rattle.latex2mathml.specs.Print.{print}
+use Rattle.latex2mathml.specs.Formulas.{Refusal, refusal_text, IsFormulaRefusal, IsRendering, Inline}
+use Rattle.latex2mathml.specs.Tree.{undefined}
 
 -- a text that is no formula, marked as an error
 abbrev pub reason_print : List ℕ → List ℕ

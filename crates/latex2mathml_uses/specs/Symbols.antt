@@ -1,6 +1,6 @@
 -- The character of a token.
 use Rattle.std.specs.Prelude.{ℕ, Option, Some, None}
-use Rattle.latex2mathml_tokens.specs.Tok.{Tok, Letter, Operator}
+use Rattle.latex2mathml.specs.Tok.{Tok, Letter, Operator}
 
 -- that of a letter or an operator
 abbrev pub symbol_of : Tok → Option ℕ

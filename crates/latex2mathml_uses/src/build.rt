@@ -1,9 +1,9 @@
 //! A build that may run again over what it wrote.
-ghost use Rattle.std.specs.Prelude.{◌≡◌, ℕ, List, IfErr, IfOk, IsFalse, MatchOption, string_bytes};
-ghost use Rattle.std.specs.Io.KnownBytes.{Consumes};
+ghost use Rattle.std.specs.Prelude.{◌≡◌, ℕ, List, IfErr, IfOk, MatchOption, string_bytes};
 ghost use Rattle.latex2mathml.specs.Documents.{IsAnswer};
 ghost use Rattle.latex2mathml.specs.DocumentLaws.{IsOwnAnswer};
 ghost use Rattle.latex2mathml.specs.Dollars.{IsDollarFree};
+ghost use Rattle.latex2mathml.specs.Streams.{CanGoOn, Gives};
 ghost use Rattle.latex2mathml_uses.specs.Builds.{IsFaultOf, page_text};
 
 use latex2mathml::{FileFault, Reading, Source, Stream, laws, read_document};
@@ -13,10 +13,9 @@ use std::alloc::Global;
 /// otherwise nothing, since the page is its own answer. What it writes is its own answer too, so the next run writes
 /// nothing.
 pub fn rewritten<S: Source>(alloc: Global, source: &mut S) -> Result<Option<String>, FileFault>
-    requires unfailed { IsFalse (S.has_failed source.old) }
-    requires unended { IsFalse (S.has_ended source.old) }
+    requires { CanGoOn (S.state source.old) }
     ensures { IfOk result (λ written. (page : List ℕ)
-        × Consumes (S.remaining source.old) (S.remaining source.new) page
+        × Gives (S.state source.old) (S.state source.new) page
         × MatchOption written (IsDollarFree page × IsOwnAnswer page) (λ answer.
         (¬ IsDollarFree page) × IsAnswer page (string_bytes answer) × IsOwnAnswer (string_bytes answer))) }
 {
@@ -30,23 +29,18 @@ pub fn rewritten<S: Source>(alloc: Global, source: &mut S) -> Result<Option<Stri
 /// The page that two runs of a build leave of a document. The second leaves the page of the first as it is, and refuses
 /// nothing in it.
 pub fn built_twice<S: Source>(alloc: Global, source: &mut S) -> Result<String, FileFault>
-    requires unfailed { IsFalse (S.has_failed source.old) }
-    requires unended { IsFalse (S.has_ended source.old) }
+    requires { CanGoOn (S.state source.old) }
     ensures page { IfOk result (λ page. (document : List ℕ)
-        × Consumes (S.remaining source.old) (S.remaining source.new) document
+        × Gives (S.state source.old) (S.state source.new) document
         × IsAnswer document (string_bytes page)
         × IsOwnAnswer (string_bytes page)) }
     ensures fault { IfErr result (λ fault. (document : List ℕ)
-        × Consumes (S.remaining source.old) (S.remaining source.new) document
+        × Gives (S.state source.old) (S.state source.new) document
         × IsFaultOf document fault) }
 {
     laws::answers();
     let page = page_of(read_document(alloc, source)?);
-    let mut written = Stream {
-        inner: page.as_bytes(),
-        failed: false,
-        ended: false,
-    };
+    let mut written = Stream::new(page.as_bytes());
     match read_document(alloc, &mut written) {
         Ok(Reading::Changed(_)) => unreachable!(),
         Ok(Reading::Unchanged(again)) => Ok(again),

@@ -1,7 +1,6 @@
 //! Renderings that are kept, so that a formula that comes again is not read again.
 ghost use Rattle.std.specs.Prelude.{◌≡◌, Some, IfOk, IfSome, option_map, string_bytes};
-ghost use Rattle.latex2mathml_tokens.specs.Refusal.{IfRefused};
-ghost use Rattle.latex2mathml_formulas.specs.Rendering.{IsFormulaRefusal};
+ghost use Rattle.latex2mathml.specs.Formulas.{IfRefused, IsFormulaRefusal};
 ghost use Rattle.latex2mathml_uses.specs.Cached.{HoldsRenderings, IsOnlyRendering, text_at};
 ghost use Rattle.latex2mathml_uses.specs.Caches.{IsSound, held_text};
 

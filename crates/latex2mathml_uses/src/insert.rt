@@ -2,10 +2,8 @@
 ghost use Rattle.std.specs.Prelude.{◌≡◌, ℕ, List, ◌++◌, IfOk, OnErr, OnOk, codes, string_bytes};
 ghost use Rattle.latex2mathml.specs.Documents.{IsAnswer, IsRefusal};
 ghost use Rattle.latex2mathml.specs.Surroundings.{HasPageProse};
-ghost use Rattle.latex2mathml_nodes.specs.Markup.{IsBalanced};
-ghost use Rattle.latex2mathml_nodes.specs.Pages.{IsPage};
-ghost use Rattle.latex2mathml_tokens.specs.Refusal.{IfRefused};
-ghost use Rattle.latex2mathml_formulas.specs.Rendering.{IsFormulaRefusal, IsRendering};
+ghost use Rattle.latex2mathml.specs.Elements.{IsBalanced, IsPage};
+ghost use Rattle.latex2mathml.specs.Formulas.{IfRefused, IsFormulaRefusal, IsRendering};
 
 use latex2mathml::{DisplayStyle, LatexError, latex_to_mathml, laws, replace};
 use std::alloc::Global;

@@ -1,7 +1,6 @@
 //! A limit on the size of formulas.
 ghost use Rattle.std.specs.Prelude.{ℕ, ◌<◌, ◌≤◌, IfOk, IfSome, MatchOption, string_bytes};
-ghost use Rattle.latex2mathml_tokens.specs.Refusal.{IfRefused};
-ghost use Rattle.latex2mathml_formulas.specs.Rendering.{IsFormulaRefusal, IsRendering};
+ghost use Rattle.latex2mathml.specs.Formulas.{IfRefused, IsFormulaRefusal, IsRendering};
 ghost use Rattle.latex2mathml_uses.specs.Limited.{HasTokenCount};
 
 use latex2mathml::{DisplayStyle, LatexError, latex_to_mathml_counted};

@@ -1,8 +1,6 @@
 //! A formula in a page.
 ghost use Rattle.std.specs.Prelude.{◌≡◌, ℕ, List, ◌++◌, IfOk, codes, string_bytes};
-ghost use Rattle.latex2mathml_tokens.specs.Refusal.{IfRefused, error_text, refusal_of};
-ghost use Rattle.latex2mathml_formulas.specs.Rendering.{IsFormulaRefusal, IsRendering};
-ghost use Rattle.latex2mathml_tokens.specs.declared.DisplayStyle.TheVariants.{Block};
+ghost use Rattle.latex2mathml.specs.Formulas.{IfRefused, error_text, refusal_of, IsFormulaRefusal, IsRendering, Block};
 ghost use Rattle.latex2mathml_uses.specs.Shown.{IsShown, reason_print};
 
 use latex2mathml::ast::Node;

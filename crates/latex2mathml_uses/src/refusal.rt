@@ -1,9 +1,7 @@
 //! Refusals, and what an author is to mend.
 ghost use Rattle.std.specs.Prelude.{◌≡◌, ◌≢◌, ◌↔◌, Some, ℕ, List, IfOk, MatchOption};
 ghost use Rattle.latex2mathml.specs.Documents.{HasNoCut, IsAnswer, IsRefusal};
-ghost use Rattle.latex2mathml_tokens.specs.Refusal.{Refusal};
-ghost use Rattle.latex2mathml_formulas.specs.Rendering.{IsFormulaRefusal, IsRendering};
-ghost use Rattle.latex2mathml_tokens.specs.declared.DisplayStyle.TheVariants.{Inline};
+ghost use Rattle.latex2mathml.specs.Formulas.{Refusal, IsFormulaRefusal, IsRendering, Inline};
 ghost use Rattle.latex2mathml_uses.specs.Mistakes.{mistake_of};
 ghost use Rattle.latex2mathml_uses.specs.declared.refusal.Mistake.TheVariants.{Dollars};
 

@@ -1,6 +1,6 @@
 //! The symbol of a command.
 ghost use Rattle.std.specs.Prelude.{◌≡◌, IfOk};
-ghost use Rattle.latex2mathml_tokens.specs.Commands.{command_token};
+ghost use Rattle.latex2mathml.specs.Commands.{command_token};
 ghost use Rattle.latex2mathml_uses.specs.Symbols.{symbol_of};
 
 use latex2mathml::token::Token;

@@ -1,6 +1,4 @@
 //! Each caller once, with memory to spare.
-ghost use Rattle.std.specs.Prelude.{IsFalse};
-
 use crate::build::{built_twice, rewritten};
 use crate::cache::Cache;
 use crate::insert::{blank, insert};
@@ -93,27 +91,16 @@ fn sections_that_are_joined(rt: HostRuntime) -> Result<(), Fail> {
     Ok(())
 }
 
-fn source(text: &str) -> Stream<&[u8]>
-    ensures failed { IsFalse result.failed }
-    ensures ended { IsFalse result.ended }
-{
-    Stream {
-        inner: text.as_bytes(),
-        failed: false,
-        ended: false,
-    }
-}
-
 #[test]
 fn a_build_that_runs_twice(rt: HostRuntime) -> Result<(), Fail> {
-    let page = built_twice(rt.alloc(), &mut source("$x$"))?;
+    let page = built_twice(rt.alloc(), &mut Stream::new(b"$x$".as_slice()))?;
     assert!(rt;
         page.as_str()
             == "<math xmlns=\"http://www.w3.org/1998/Math/MathML\" display=\"inline\"><mi>x</mi></math>"
     );
-    let first = rewritten(rt.alloc(), &mut source("$x$"))?;
+    let first = rewritten(rt.alloc(), &mut Stream::new(b"$x$".as_slice()))?;
     assert!(rt; first == Some(page));
-    let second = rewritten(rt.alloc(), &mut source("<math></math>"))?;
+    let second = rewritten(rt.alloc(), &mut Stream::new(b"<math></math>".as_slice()))?;
     assert!(rt; second == None);
     Ok(())
 }

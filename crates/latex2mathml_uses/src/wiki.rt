@@ -4,7 +4,7 @@ ghost use Rattle.std.specs.List.{suffix_len};
 ghost use Rattle.latex2mathml.specs.Documents.{IsAnswer, IsRefusal};
 ghost use Rattle.latex2mathml.specs.DocumentLaws.{EndsInOddBackslashes};
 ghost use Rattle.latex2mathml.specs.Dollars.{backslash};
-ghost use Rattle.latex2mathml_tokens.specs.Refusal.{IfRefused};
+ghost use Rattle.latex2mathml.specs.Formulas.{IfRefused};
 ghost use Rattle.latex2mathml_uses.specs.Sections.{IsConverted};
 
 use latex2mathml::{LatexError, laws, replace};

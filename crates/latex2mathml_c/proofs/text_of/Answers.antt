@@ -1,4 +1,4 @@
-use Rattle.latex2mathml_tokens.specs.Refusal.{refusal_of}
+use Rattle.latex2mathml.specs.Formulas.{refusal_of}
 use Rattle.latex2mathml_c.proofs.Texts.{refusal_told}
 use Rattle.latex2mathml_c.proofs.text_of.Goals as goal
 

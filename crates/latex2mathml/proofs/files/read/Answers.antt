@@ -3,5 +3,5 @@ use Rattle.latex2mathml.proofs.files.read.Goals as goal
 
 pub returns : goal.returns
 returns g c = record {
-  fault = reading_fault _ _ _ _ c.read_document.ensures.reading.2;
+  fault = reading_fault _ _ _ c.read_document.ensures.reading.2;
 }

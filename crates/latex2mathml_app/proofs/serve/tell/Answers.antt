@@ -4,10 +4,10 @@ use Rattle.latex2mathml_app.proofs.serve.tell.Goals as goal
 
 pub returns-then-is_empty : goal.returns-then-is_empty
 returns-then-is_empty g c = record {
-  told = none_told c.args.all.now _ c.if-is_empty.ensures ((c.requires.unfailed, c.requires.unended), Keeps-refl _);
+  told = none_told c.args.all.now _ _ c.if-is_empty.ensures (c.requires, Keeps-refl _);
 }
 
 pub returns : goal.returns
 returns g c = record {
-  told = some_told c.args.all.now _ c.if-is_empty.ensures c.put_all_unconverted.ensures.put;
+  told = some_told c.args.all.now _ _ c.if-is_empty.ensures c.put_all_unconverted.ensures.put;
 }
