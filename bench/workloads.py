@@ -1,7 +1,11 @@
 """The texts that are measured. The same size gives the same text."""
 
 import random
+import sys
 from pathlib import Path
+
+sys.path.insert(0, str(Path(__file__).resolve().parent.parent))
+from tests import cases
 
 SEED = 1
 WORDS = ["the", "of", "a", "where", "function", "is", "for", "which", "energy", "and", "so", "that", "hence", "é", "—",
@@ -10,8 +14,8 @@ REPEATED = ["x+1", "\\alpha ", "{a_b^c}"]
 
 
 def formulas():
-    """Formulas of the documents and the cases."""
-    return (Path(__file__).parent / "formulas.txt").read_text(encoding="utf-8").splitlines()
+    """The formulas of the documents."""
+    return [case.input.decode() for case in cases.read("formulas/everyday.txt") if case.heading == "In the benchmarks"]
 
 
 def document(size):

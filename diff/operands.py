@@ -8,11 +8,13 @@ and is put in braces. Braces around one node are that node on both sides, so not
 Where such braces belong is read from the formula alone, by the rules of docs/LANGUAGE.md."""
 
 import re
+import sys
 from dataclasses import dataclass
 from pathlib import Path
 
-LANGUAGE = Path(__file__).resolve().parent.parent / "docs" / "LANGUAGE.md"
-NAME = r"`\\([A-Za-z]+|[^A-Za-z\s])`"
+sys.path.insert(0, str(Path(__file__).resolve().parent.parent))
+from tests import cases
+
 SLICE = re.compile(r":=|\\(?:[A-Za-z]+|.|$)|[0-9]+\.?[0-9]*|.", re.S)
 WHITE_SPACE = re.compile(r"[ \t\n\r]*")
 # Kinds of tokens of one character, and those that are letters of no other kind.
@@ -23,24 +25,8 @@ ONE_OPERAND = ("Over", "Under", "Style")
 TWO_OPERANDS = ("Frac", "Binom", "Overset", "Underset")
 TAKES_DIGIT = ("Sqrt", "Frac", "Binom", "Style")
 MARKS = ("_", "^", "'")
-
-
-def kinds_of_commands():
-    """What docs/LANGUAGE.md says each command is, where that decides how it is read on."""
-    text = LANGUAGE.read_text(encoding="utf-8")
-    letters = text[text.index("\n### Letters"):text.index("\n### Operators")]
-    kinds = dict.fromkeys(re.findall(NAME, letters), "Letter")
-    acting = text[text.index("\n### Commands that act on what follows"):]
-    for entry in re.split(r"\n- ", acting)[1:]:
-        head, names = entry.split(": ", 1)
-        if head == "Tokens that hold nothing":
-            kinds.update(re.findall(NAME + r" `(\w+)`", names))
-        else:
-            kinds.update(dict.fromkeys(re.findall(NAME, names), re.match(r"`(\w+)\(", head)[1]))
-    return kinds
-
-
-KINDS = kinds_of_commands()
+# What each command is, by the kind of its token.
+KINDS = {entry.name: entry.token.partition("(")[0] for entry in cases.commands()}
 
 
 @dataclass

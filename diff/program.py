@@ -2,13 +2,19 @@
 
 import re
 import subprocess
+import sys
 from dataclasses import dataclass
 from pathlib import Path
+
+sys.path.insert(0, str(Path(__file__).resolve().parent.parent))
+from tests import cases
 
 ROOT = Path(__file__).resolve().parent.parent
 LAUNCHER = ROOT / "latex2mathml"
 BINARY = ROOT / "crates" / "latex2mathml_app" / "out" / "latex2mathml_app"
 WRONG_WORDS = 2
+# Kinds of tokens that stand for themselves.
+PLAIN = ("Letter", "Operator", "Paren", "Function", "Space", "NewLine")
 
 
 @dataclass(frozen=True)
@@ -37,14 +43,9 @@ def knows(program, word):
 
 
 def commands():
-    """The names of the command table, as docs/LANGUAGE.md lists them: first those that act on what follows, then the
-    others."""
-    text = (ROOT / "docs" / "LANGUAGE.md").read_text(encoding="utf-8")
-    table = text[text.index("\n## The commands"):]
-    acting = table[table.index("\n### Commands that act on what follows"):]
-    name = re.compile(r"`\\([A-Za-z]+|[^A-Za-z\s])`")
-    first = dict.fromkeys(name.findall(acting))
-    return list(first), [other for other in dict.fromkeys([" ", *name.findall(table)]) if other not in first]
+    """The names of the command table: first those that act on what follows, then the others."""
+    acting = [entry.name for entry in cases.commands() if entry.token.partition("(")[0] not in PLAIN]
+    return acting, [entry.name for entry in cases.commands() if entry.name not in acting]
 
 
 def is_unread(program, command):

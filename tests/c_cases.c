@@ -188,8 +188,11 @@ static bool survives(struct known_call known, bool and_all_behind, long *were_re
         bool was_refused = requests >= n;
         refuse(0, -1);
         bool is_right = answer.code == known.code && holds(answer, known.text, known.needed);
-        if (blocks != held || !(is_right || (was_refused && is_out_of_memory(answer))))
+        if (blocks != held || !(is_right || (was_refused && is_out_of_memory(answer)))) {
+            printf("wrong: with request %ld refused%s the code is %u, %zu bytes are needed, and %ld blocks are kept\n", n,
+                   and_all_behind ? " and all behind it" : "", answer.code, answer.needed, blocks - held);
             return false;
+        }
         if (!was_refused)
             return true;
         ++*were_refused;

@@ -1,5 +1,6 @@
 """What `./test` does, step by step: the proofs, then what they built is made into a library for C, and then the cases."""
 import contextlib
+import functools
 import os
 import pathlib
 import re
@@ -8,7 +9,7 @@ import shutil
 import time
 
 from tests.results import Counts
-from tests.support import ROOT, kit
+from tests.support import ROOT, kit, scratch
 from tools.progress import Stopwatch, end_of, follow
 
 OUT = ROOT / "out"
@@ -79,16 +80,18 @@ class Proofs(Command):
 
     def __init__(self):
         super().__init__("proofs, wrong bodies and tests in Rattle", ["rt", "ci"])
-        self.crates = len(list((ROOT / "crates").iterdir()))
         self.proved = set()
 
     def run(self, screen, watch):
-        begun = time.time()
+        self.begun = time.time()
         super().run(screen, watch)
-        # a source that is edited meanwhile is newer than what was proved and built
         for made in (ROOT / "crates").glob("*/out/*"):
             if made.is_file():
-                os.utime(made, (begun, begun))
+                self.date(made)
+
+    def date(self, made):
+        """Makes a file as old as the beginning of the proofs: a source that was edited since then is newer than it."""
+        os.utime(made, (self.begun, self.begun))
 
     def read(self, line, screen):
         told = re.fullmatch(r"rt: (\w+)(: its tests are)? (proved|NOT PROVED).*", line)
@@ -98,7 +101,7 @@ class Proofs(Command):
             screen.say(f"    {line.removeprefix('rt: ')}")
 
     def renew(self, screen, watch):
-        screen.renew(f"    {len(self.proved)} of {self.crates} crates  {watch}")
+        screen.renew(f"    {len(self.proved)} of {len(listed())} crates  {watch}")
 
 
 class Library(Step):
@@ -119,64 +122,71 @@ class Library(Step):
             self.counts.failed += 1
             return
         archive = ROOT / "crates" / self.crate / "out" / f"lib{self.crate}.a"
-        begun = time.time()
         status = follow(rattle_words(self.crate, below, archive), self.log, on_second=lambda: screen.renew(f"    {watch}"),
                         cwd=ROOT / "crates" / self.crate)
         if status:
             screen.say(end_of(self.log))
             self.counts.failed += 1
             return
-        os.utime(archive, (begun, begun))
+        self.proofs.date(archive)
         self.counts.passed += 1
 
 
 def rattle_words(crate, below, archive):
     """The words of the prover that prove and build a static library over the rlibs of the crates below it."""
     tools = kit()
+    rlibs = {name: ROOT / "crates" / name / "out/rlib" for name in below}
     words = [tools / "bin/rattle", "build", "--crate-name", crate, "src/lib.rt", "--crate-type", "staticlib"]
-    words += ["--extern", f"std={tools}/rlibs/std.rlib", "-L", f"dependency={tools}/rlibs"]
-    for name in below:
-        rlib = ROOT / "crates" / name / "out/rlib"
-        words += ["--extern", f"{name}={rlib}/{name}.rlib"] if name in named_by(crate) else []
-        words += ["-L", f"dependency={rlib}"]
+    for name in ["std", *listed()[crate]]:
+        words += ["--extern", f"{name}={rlibs.get(name, tools / 'rlibs')}/{name}.rlib"]
+    for folder in [tools / "rlibs", *rlibs.values()]:
+        words += ["-L", f"dependency={folder}"]
     words += ["--antt-project", tools / "rattle/logic/antt-project.json", "--logic-built", tools / "logic_built"]
     words += ["--jobs", str(min(len(os.sched_getaffinity(0)), 2)), "--links", f"{crate}="]
     return [*words, "--toolchain", tools / "toolchain", "--backend", "llvm", "-o", archive]
 
 
-def named_by(crate):
-    """The crates that a crate's line of crates.txt names."""
+@functools.cache
+def listed():
+    """The crates of crates.txt, and what the line of each names."""
+    crates = {}
     for line in (ROOT / "crates.txt").read_text(encoding="utf-8").splitlines():
-        head, _, below = line.partition("#")[0].partition(":")
-        if head.split()[:1] == [crate]:
-            return below.split()
-    raise ValueError(f"crates.txt has no line of {crate}")
+        head, colon, below = line.partition("#")[0].partition(":")
+        if colon:
+            crates[head.split()[0]] = below.split()
+    return crates
 
 
 def crates_below(crate):
+    """The crates of this repository that a crate stands on, lowest first."""
     found = []
-    for name in named_by(crate):
-        found += [it for it in [*crates_below(name), name] if it not in found]
+    for name in listed()[crate]:
+        if name in listed():
+            found += [it for it in [*crates_below(name), name] if it not in found]
     return found
 
 
 @contextlib.contextmanager
 def set_aside():
     """Keeps the rlibs that earlier checks built away for as long as `rt ci` and what follows it run: so its own stay, which it
-    would give up for those."""
-    aside = OUT / "aside"
-    shutil.rmtree(aside, ignore_errors=True)
-    aside.mkdir(parents=True)
-    kept = list((ROOT / "crates").glob("*/out/rlib"))
-    for rlib in kept:
-        rlib.rename(aside / rlib.parent.parent.name)
-    try:
-        yield
-    finally:
-        for rlib in kept:
-            shutil.rmtree(rlib, ignore_errors=True)
-            rlib.parent.mkdir(exist_ok=True)
-            (aside / rlib.parent.parent.name).rename(rlib)
+    would give up for those. They go into `.git`, as `rt ci` reads everything else."""
+    kept = {}
+    with scratch() as other:
+        git = ROOT / ".git"
+        aside = (git if git.is_dir() else other) / "rlibs-aside"
+        shutil.rmtree(aside, ignore_errors=True)
+        for rlib in (ROOT / "crates").glob("*/out/rlib"):
+            kept[rlib] = aside / rlib.parts[-3]
+            aside.mkdir(exist_ok=True)
+            shutil.move(rlib, kept[rlib])
+        try:
+            yield
+        finally:
+            for rlib, place in kept.items():
+                shutil.rmtree(rlib, ignore_errors=True)
+                rlib.parent.mkdir(exist_ok=True)
+                shutil.move(place, rlib)
+            shutil.rmtree(aside, ignore_errors=True)
 
 
 def spent_by_children():

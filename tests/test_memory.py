@@ -4,7 +4,7 @@ with all that follow it, until a run makes fewer requests.
 import itertools
 import unittest
 
-from tests import faulty, support
+from tests import cases, faulty, support
 from tests.walks import Folder
 
 NO_MEMORY = b"Memory could not be found."
@@ -27,13 +27,9 @@ OF_PROSE = b"Let " + faulty.X + " be é, and ".encode() + faulty.math(OF_SUM, "b
 OF_GROUP = "<mrow><mi>a</mi><msup><mi>b</mi><mn>2</mn></msup></mrow>"
 
 
-def every_rule():
-    """Each rule of the grammar once, as one formula, and the contents of its `math` element."""
-    lines = (support.ROOT / "tools/every-rule.txt").read_text(encoding="utf-8").splitlines()
-    return " ".join(lines[::2]), "".join(lines[1::2])
-
-
-RULES, OF_RULES = every_rule()
+# each rule of the grammar once
+RULES = " ".join(formula for formula, _ in cases.every_rule())
+OF_RULES = "".join(contents for _, contents in cases.every_rule())
 
 # the words of a call, its answer, and what it answers where memory is not found
 CALLS = {

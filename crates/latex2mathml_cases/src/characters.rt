@@ -1,5 +1,6 @@
 //! Each ASCII character, and others of each length, through each text that is printed.
 
+use crate::samples::Words;
 use latex2mathml::LatexError;
 use latex2mathml::ast::Node;
 use latex2mathml::attribute::Variant;
@@ -21,84 +22,111 @@ const WIDE: [char; 10] = [
     '\u{10FFFF}',
 ];
 
+/// Whether the text is the middle with these around it.
+fn is_around(text: &str, before: &str, middle: &str, after: &str) -> bool {
+    match text.strip_prefix(before) {
+        Some(rest) => rest.strip_suffix(after) == Some(middle),
+        None => false,
+    }
+}
+
 /// The character as contents.
-fn content(alloc: Global, c: char) -> Result<String, AllocError> {
+fn content(c: char, room: &mut [u8; 4]) -> &str {
     match c {
-        '&' => String::from_str(alloc, "&amp;"),
-        '<' => String::from_str(alloc, "&lt;"),
-        '>' => String::from_str(alloc, "&gt;"),
-        '$' => String::from_str(alloc, "&#x24;"),
-        c => format!(in alloc; "{c}"),
+        '&' => "&amp;",
+        '<' => "&lt;",
+        '>' => "&gt;",
+        '$' => "&#x24;",
+        c => c.encode_utf8(room),
     }
 }
 
 /// The character as it stands in quotation marks, and as contents.
-fn quoted_content(alloc: Global, c: char) -> Result<String, AllocError> {
+fn quoted_content(c: char, room: &mut [u8; 4]) -> &str {
     match c {
-        '"' => String::from_str(alloc, "\\\""),
-        '\\' => String::from_str(alloc, "\\\\"),
-        c => content(alloc, c),
+        '"' => "\\\"",
+        '\\' => "\\\\",
+        c => content(c, room),
     }
 }
 
 /// The character as it stands in quotation marks.
-fn quoted(alloc: Global, c: char) -> Result<String, AllocError> {
+fn quoted(c: char, room: &mut [u8; 4]) -> &str {
     match c {
-        '"' => String::from_str(alloc, "\\\""),
-        '\\' => String::from_str(alloc, "\\\\"),
-        c => format!(in alloc; "{c}"),
+        '"' => "\\\"",
+        '\\' => "\\\\",
+        c => c.encode_utf8(room),
     }
 }
 
 /// The character as it stands in apostrophes.
-fn in_apostrophes(alloc: Global, c: char) -> Result<String, AllocError> {
+fn in_apostrophes(c: char, room: &mut [u8; 4]) -> &str {
     match c {
-        '\'' => String::from_str(alloc, "\\'"),
-        '\\' => String::from_str(alloc, "\\\\"),
-        c => format!(in alloc; "{c}"),
+        '\'' => "\\'",
+        '\\' => "\\\\",
+        c => c.encode_utf8(room),
     }
 }
 
-fn prints(alloc: Global, node: &Node, markup: &str) -> Result<bool, AllocError> {
+/// Whether the node prints as the contents with these around them.
+fn prints(
+    alloc: Global,
+    node: &Node,
+    before: &str,
+    contents: &str,
+    after: &str,
+) -> Result<bool, AllocError> {
     let printed = node.to_string(alloc)?;
-    Ok(printed.as_str() == markup)
+    Ok(is_around(printed.as_str(), before, contents, after))
 }
 
-fn letter_prints(alloc: Global, c: char) -> Result<bool, AllocError> {
-    let contents = content(alloc, c)?;
-    let italic = format!(in alloc; "<mi>{contents}</mi>")?;
-    let bold = format!(in alloc; "<mi mathvariant=\"bold\">{contents}</mi>")?;
+/// Whether the character by itself prints as it has to.
+fn stands_for_itself(alloc: Global, c: char) -> Result<bool, AllocError> {
+    let mut room = [0; 4];
+    let contents = content(c, &mut room);
+    let bold = "<mi mathvariant=\"bold\">";
     Ok(
-        prints(alloc, &Node::Letter(c, Variant::Italic), italic.as_str())?
-            && prints(alloc, &Node::Letter(c, Variant::Bold), bold.as_str())?,
+        prints(
+            alloc,
+            &Node::Letter(c, Variant::Italic),
+            "<mi>",
+            contents,
+            "</mi>",
+        )? && prints(
+            alloc,
+            &Node::Letter(c, Variant::Bold),
+            bold,
+            contents,
+            "</mi>",
+        )? && prints(alloc, &Node::Operator(c), "<mo>", contents, "</mo>")?,
     )
 }
 
-fn operator_prints(alloc: Global, c: char) -> Result<bool, AllocError> {
-    let contents = content(alloc, c)?;
-    let markup = format!(in alloc; "<mo>{contents}</mo>")?;
-    prints(alloc, &Node::Operator(c), markup.as_str())
-}
-
-fn number_prints(alloc: Global, c: char) -> Result<bool, AllocError> {
+/// Whether a text with the character in it prints as it has to.
+fn stands_in_texts(alloc: Global, c: char) -> Result<bool, AllocError> {
+    let mut room = [0; 4];
+    let contents = content(c, &mut room);
     let text = format!(in alloc; "1{c}2")?;
-    let contents = content(alloc, c)?;
-    let markup = format!(in alloc; "<mn>1{contents}2</mn>")?;
-    prints(alloc, &Node::Number(text), markup.as_str())
+    let number = Words::Number.of(alloc, text.as_str())?;
+    let function = Words::Function.of(alloc, text.as_str())?;
+    Ok(
+        prints(alloc, &number, "<mn>1", contents, "2</mn>")?
+            && prints(alloc, &function, "<mi>1", contents, "2</mi>")?,
+    )
 }
 
-fn function_prints(alloc: Global, c: char) -> Result<bool, AllocError> {
-    let text = format!(in alloc; "f{c}")?;
-    let contents = content(alloc, c)?;
-    let markup = format!(in alloc; "<mi>f{contents}</mi>")?;
-    prints(alloc, &Node::Function(text, None), markup.as_str())
-}
-
-fn undefined_prints(alloc: Global, c: char) -> Result<bool, AllocError> {
+/// Whether a marked error tells the character.
+fn stands_in_errors(alloc: Global, c: char) -> Result<bool, AllocError> {
+    let mut room = [0; 4];
     let text = format!(in alloc; "{c}z")?;
-    let contents = quoted_content(alloc, c)?;
-    let markup = format!(in alloc; "<mtext>[PARSE ERROR: Undefined(\"{contents}z\")]</mtext>")?;
-    prints(alloc, &Node::Undefined(text), markup.as_str())
+    let error = Words::Undefined.of(alloc, text.as_str())?;
+    prints(
+        alloc,
+        &error,
+        "<mtext>[PARSE ERROR: Undefined(\"",
+        quoted_content(c, &mut room),
+        "z\")]</mtext>",
+    )
 }
 
 /// Whether an unknown command that holds the character is itself.
@@ -108,41 +136,56 @@ fn command_is_itself(alloc: Global, c: char) -> Result<bool, AllocError> {
     Ok(token == Token::Command(name))
 }
 
-/// Whether a refusal tells the character, in a text and by itself.
-fn refusal_tells(alloc: Global, c: char) -> Result<bool, AllocError> {
-    let name = format!(in alloc; "{c}")?;
+/// Whether a refusal tells the character by itself.
+fn refusal_tells_character(alloc: Global, c: char) -> Result<bool, AllocError> {
+    let mut room = [0; 4];
     let refusal = LatexError::UnexpectedToken {
         expected: Token::Illegal(c),
+        got: Token::EOF,
+    };
+    let said = refusal.to_string(alloc)?;
+    let after = "')\" is expected, but the token \"EOF\" is found.\"";
+    Ok(is_around(
+        said.as_str(),
+        "The token \"Illegal('",
+        in_apostrophes(c, &mut room),
+        after,
+    ))
+}
+
+/// Whether a refusal tells the character in a text.
+fn refusal_tells_text(alloc: Global, c: char) -> Result<bool, AllocError> {
+    let mut room = [0; 4];
+    let name = format!(in alloc; "{c}")?;
+    let refusal = LatexError::UnexpectedToken {
+        expected: Token::EOF,
         got: Token::Command(name),
     };
-    let text = format!(in alloc;
-        "The token \"Illegal('{}')\" is expected, but the token \"Command(\"{}\")\" is found.\"",
-        in_apostrophes(alloc, c)?,
-        quoted(alloc, c)?
-    )?;
     let said = refusal.to_string(alloc)?;
-    Ok(said == text)
+    let before = "The token \"EOF\" is expected, but the token \"Command(\"";
+    Ok(is_around(
+        said.as_str(),
+        before,
+        quoted(c, &mut room),
+        "\")\" is found.\"",
+    ))
 }
 
-fn stands_for_itself(alloc: Global, c: char) -> Result<bool, AllocError> {
-    Ok(letter_prints(alloc, c)? && operator_prints(alloc, c)? && number_prints(alloc, c)?)
-}
-
-fn stands_in_texts(alloc: Global, c: char) -> Result<bool, AllocError> {
+fn is_told(alloc: Global, c: char) -> Result<bool, AllocError> {
     Ok(
-        function_prints(alloc, c)?
-            && undefined_prints(alloc, c)?
+        stands_for_itself(alloc, c)?
+            && stands_in_texts(alloc, c)?
+            && stands_in_errors(alloc, c)?
             && command_is_itself(alloc, c)?
-            && refusal_tells(alloc, c)?,
+            && refusal_tells_character(alloc, c)?
+            && refusal_tells_text(alloc, c)?,
     )
 }
 
 #[test]
 fn ascii_characters(rt: HostRuntime) -> Result<(), Fail> {
     for byte in 0..128u8 {
-        let c = char::from(byte);
-        assert!(rt; stands_for_itself(rt.alloc(), c)?, "{byte}");
-        assert!(rt; stands_in_texts(rt.alloc(), c)?, "{byte}");
+        assert!(rt; is_told(rt.alloc(), char::from(byte))?, "{byte}");
     }
     Ok(())
 }
@@ -150,8 +193,7 @@ fn ascii_characters(rt: HostRuntime) -> Result<(), Fail> {
 #[test]
 fn wide_characters(rt: HostRuntime) -> Result<(), Fail> {
     for c in WIDE {
-        assert!(rt; stands_for_itself(rt.alloc(), c)?, "{c}");
-        assert!(rt; stands_in_texts(rt.alloc(), c)?, "{c}");
+        assert!(rt; is_told(rt.alloc(), c)?, "{c}");
     }
     Ok(())
 }

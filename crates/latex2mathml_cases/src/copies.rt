@@ -1,171 +1,133 @@
-//! Copies and equality of nodes of each kind.
+//! Copies, equality and both ways to print, of nodes of each kind.
 
-use crate::compounds::{
-    fenced, frac, letter, over_op, overset, root, slashed, sqrt, stretched, style, sub_sup, under,
-    under_op, under_over, underset, words,
-};
-use crate::nodes::{applied, function, number, pair, subscript, superscript, undefined};
+use crate::samples::{Frame, Pair, Sample, Triple, Words};
 use latex2mathml::DisplayStyle;
 use latex2mathml::ast::Node;
 use latex2mathml::attribute::{Accent, ColumnAlign, LineThickness, Variant};
 use std::alloc::{AllocError, Global};
 use std::test::Fail;
 
-/// Spaces, functions and the end of a row, all of them different.
-fn more_samples(alloc: Global) -> Result<Vec<Node>, AllocError> {
-    let sine = applied(alloc, "sin", Node::Letter('x', Variant::Italic))?;
-    let other = applied(alloc, "sin", Node::Letter('y', Variant::Italic))?;
-    let cosine = applied(alloc, "cos", Node::Letter('x', Variant::Italic))?;
-    let bare = function(alloc, "sin")?;
-    let other_bare = function(alloc, "cos")?;
-    Ok(vec![in alloc;
-        sine,
-        other,
-        cosine,
-        bare,
-        other_bare,
-        Node::Space(0),
-        Node::Space(18),
-        Node::Space(-18),
-        Node::NewLine,
-    ]?)
-}
+/// Each kind that holds no node, and beside each one that differs in its contents alone.
+const LEAVES: [Sample; 29] = [
+    Sample::Words(Words::Number, "1"),
+    Sample::Words(Words::Number, "2"),
+    Sample::Words(Words::Function, "sin"),
+    Sample::Words(Words::Function, "cos"),
+    Sample::Words(Words::Stretched(true), "|"),
+    Sample::Words(Words::Stretched(false), "|"),
+    Sample::Words(Words::Stretched(true), "/"),
+    Sample::Words(Words::Text, "1"),
+    Sample::Words(Words::Text, "2"),
+    Sample::Words(Words::Undefined, "1"),
+    Sample::Words(Words::Undefined, "2"),
+    Sample::Letter('x', Variant::Italic),
+    Sample::Letter('x', Variant::Bold),
+    Sample::Letter('y', Variant::Italic),
+    Sample::Operator('+'),
+    Sample::Operator('-'),
+    Sample::Space(0),
+    Sample::Space(18),
+    Sample::Space(-18),
+    Sample::Parenthesis("("),
+    Sample::Parenthesis(")"),
+    Sample::Sized("1.2em", "("),
+    Sample::Sized("2.470em", "("),
+    Sample::Sized("1.2em", ")"),
+    Sample::Ampersand,
+    Sample::NewLine,
+    Sample::Applied("sin", 'x'),
+    Sample::Applied("sin", 'y'),
+    Sample::Applied("cos", 'x'),
+];
 
-/// One node of each kind, and beside each one that differs in its contents alone.
-pub(crate) fn samples(alloc: Global) -> Result<Vec<Node>, Fail> {
-    let mut samples = more_samples(alloc)?;
-    for sample in first_samples(alloc)? {
-        samples.push(sample)?;
+/// The same of each kind that holds one node.
+const FRAMES: [Sample; 20] = [
+    Sample::Frame(Frame::Over('^', Accent::True), 'a'),
+    Sample::Frame(Frame::Over('~', Accent::True), 'a'),
+    Sample::Frame(Frame::Over('^', Accent::False), 'a'),
+    Sample::Frame(Frame::Over('^', Accent::True), 'b'),
+    Sample::Frame(Frame::Under('^', Accent::True), 'a'),
+    Sample::Frame(Frame::Under('~', Accent::True), 'a'),
+    Sample::Frame(Frame::Under('^', Accent::False), 'a'),
+    Sample::Frame(Frame::Under('^', Accent::True), 'b'),
+    Sample::Frame(Frame::Root, 'a'),
+    Sample::Frame(Frame::Root, 'b'),
+    Sample::Frame(Frame::Fence("(", ")"), 'a'),
+    Sample::Frame(Frame::Fence("[", ")"), 'a'),
+    Sample::Frame(Frame::Fence("(", "]"), 'a'),
+    Sample::Frame(Frame::Fence("(", ")"), 'b'),
+    Sample::Frame(Frame::Slash, 'a'),
+    Sample::Frame(Frame::Slash, 'b'),
+    Sample::Frame(Frame::Style(None), 'a'),
+    Sample::Frame(Frame::Style(Some(DisplayStyle::Block)), 'a'),
+    Sample::Frame(Frame::Style(Some(DisplayStyle::Inline)), 'a'),
+    Sample::Frame(Frame::Style(None), 'b'),
+];
+
+/// The same of each kind that holds two nodes.
+const PAIRS: [Sample; 21] = [
+    Sample::Pair(Pair::Subscript, '+', '-'),
+    Sample::Pair(Pair::Subscript, '-', '+'),
+    Sample::Pair(Pair::Superscript, '+', '-'),
+    Sample::Pair(Pair::Superscript, '+', '+'),
+    Sample::Pair(Pair::Under, 'a', 'b'),
+    Sample::Pair(Pair::Under, 'x', 'b'),
+    Sample::Pair(Pair::Under, 'a', 'x'),
+    Sample::Pair(Pair::Overset, 'a', 'b'),
+    Sample::Pair(Pair::Overset, 'x', 'b'),
+    Sample::Pair(Pair::Overset, 'a', 'x'),
+    Sample::Pair(Pair::Underset, 'a', 'b'),
+    Sample::Pair(Pair::Underset, 'x', 'b'),
+    Sample::Pair(Pair::Underset, 'a', 'x'),
+    Sample::Pair(Pair::Root, 'a', 'b'),
+    Sample::Pair(Pair::Root, 'x', 'b'),
+    Sample::Pair(Pair::Root, 'a', 'x'),
+    Sample::Pair(Pair::Fraction(LineThickness::Medium), 'a', 'b'),
+    Sample::Pair(Pair::Fraction(LineThickness::Medium), 'x', 'b'),
+    Sample::Pair(Pair::Fraction(LineThickness::Medium), 'a', 'x'),
+    Sample::Pair(Pair::Fraction(LineThickness::Length(0)), 'a', 'b'),
+    Sample::Pair(Pair::Fraction(LineThickness::Length(1)), 'a', 'b'),
+];
+
+/// The same of each kind that holds three nodes, or any number of them.
+const MORE: [Sample; 15] = [
+    Sample::Triple(Triple::SubSup, 'a', 'b', 'c'),
+    Sample::Triple(Triple::SubSup, 'x', 'b', 'c'),
+    Sample::Triple(Triple::SubSup, 'a', 'x', 'c'),
+    Sample::Triple(Triple::SubSup, 'a', 'b', 'x'),
+    Sample::Triple(Triple::UnderOver, 'a', 'b', 'c'),
+    Sample::Triple(Triple::UnderOver, 'x', 'b', 'c'),
+    Sample::Triple(Triple::UnderOver, 'a', 'x', 'c'),
+    Sample::Triple(Triple::UnderOver, 'a', 'b', 'x'),
+    Sample::Row(""),
+    Sample::Row("+-"),
+    Sample::Row("+&"),
+    Sample::Matrix("", ColumnAlign::Center),
+    Sample::Matrix("", ColumnAlign::Left),
+    Sample::Matrix("a", ColumnAlign::Left),
+    Sample::Matrix("b", ColumnAlign::Left),
+];
+
+fn add(alloc: Global, nodes: &mut Vec<Node>, samples: &[Sample]) -> Result<(), AllocError> {
+    for sample in samples {
+        nodes.push(sample.node(alloc)?)?;
     }
-    for sample in scripted_samples(alloc)? {
-        samples.push(sample)?;
-    }
-    for sample in framed_samples(alloc)? {
-        samples.push(sample)?;
-    }
-    for sample in text_samples(alloc)? {
-        samples.push(sample)?;
-    }
-    for sample in matrix_samples(alloc)? {
-        samples.push(sample)?;
-    }
-    Ok(samples)
+    Ok(())
 }
 
-fn first_samples(alloc: Global) -> Result<Vec<Node>, Fail> {
-    Ok(vec![in alloc;
-        number(alloc, "1")?,
-        number(alloc, "2")?,
-        Node::Letter('x', Variant::Italic),
-        Node::Letter('x', Variant::Bold),
-        Node::Letter('y', Variant::Italic),
-        Node::Operator('+'),
-        Node::Operator('-'),
-        subscript(alloc, Node::Operator('+'), Node::Operator('-'))?,
-        subscript(alloc, Node::Operator('-'), Node::Operator('+'))?,
-        superscript(alloc, Node::Operator('+'), Node::Operator('-'))?,
-        superscript(alloc, Node::Operator('+'), Node::Operator('+'))?,
-        Node::Row(Vec::new(alloc)),
-        pair(alloc, Node::Operator('+'), Node::Operator('-'))?,
-        pair(alloc, Node::Operator('+'), Node::Ampersand)?,
-        Node::OtherOperator("("),
-        Node::OtherOperator(")"),
-        Node::Ampersand,
-        undefined(alloc, "1")?,
-        undefined(alloc, "2")?,
-    ]?)
-}
-
-fn scripted_samples(alloc: Global) -> Result<Vec<Node>, AllocError> {
-    Ok(vec![in alloc;
-        sub_sup(alloc, letter('a'), letter('b'), letter('c'))?,
-        sub_sup(alloc, letter('x'), letter('b'), letter('c'))?,
-        sub_sup(alloc, letter('a'), letter('x'), letter('c'))?,
-        sub_sup(alloc, letter('a'), letter('b'), letter('x'))?,
-        under_over(alloc, letter('a'), letter('b'), letter('c'))?,
-        under_over(alloc, letter('x'), letter('b'), letter('c'))?,
-        under_over(alloc, letter('a'), letter('x'), letter('c'))?,
-        under_over(alloc, letter('a'), letter('b'), letter('x'))?,
-        under(alloc, letter('a'), letter('b'))?,
-        under(alloc, letter('x'), letter('b'))?,
-        under(alloc, letter('a'), letter('x'))?,
-        overset(alloc, letter('a'), letter('b'))?,
-        overset(alloc, letter('x'), letter('b'))?,
-        overset(alloc, letter('a'), letter('x'))?,
-        underset(alloc, letter('a'), letter('b'))?,
-        underset(alloc, letter('x'), letter('b'))?,
-        underset(alloc, letter('a'), letter('x'))?,
-    ]?)
-}
-
-fn framed_samples(alloc: Global) -> Result<Vec<Node>, AllocError> {
-    Ok(vec![in alloc;
-        over_op(alloc, '^', Accent::True, letter('a'))?,
-        over_op(alloc, '~', Accent::True, letter('a'))?,
-        over_op(alloc, '^', Accent::False, letter('a'))?,
-        over_op(alloc, '^', Accent::True, letter('b'))?,
-        under_op(alloc, '^', Accent::True, letter('a'))?,
-        under_op(alloc, '~', Accent::True, letter('a'))?,
-        under_op(alloc, '^', Accent::False, letter('a'))?,
-        under_op(alloc, '^', Accent::True, letter('b'))?,
-        sqrt(alloc, letter('a'))?,
-        sqrt(alloc, letter('b'))?,
-        root(alloc, letter('a'), letter('b'))?,
-        root(alloc, letter('x'), letter('b'))?,
-        root(alloc, letter('a'), letter('x'))?,
-        frac(alloc, letter('a'), letter('b'), LineThickness::Medium)?,
-        frac(alloc, letter('x'), letter('b'), LineThickness::Medium)?,
-        frac(alloc, letter('a'), letter('x'), LineThickness::Medium)?,
-        frac(alloc, letter('a'), letter('b'), LineThickness::Length(0))?,
-        frac(alloc, letter('a'), letter('b'), LineThickness::Length(1))?,
-        slashed(alloc, letter('a'))?,
-        slashed(alloc, letter('b'))?,
-    ]?)
-}
-
-fn text_samples(alloc: Global) -> Result<Vec<Node>, AllocError> {
-    Ok(vec![in alloc;
-        fenced(alloc, "(", ")", letter('a'))?,
-        fenced(alloc, "[", ")", letter('a'))?,
-        fenced(alloc, "(", "]", letter('a'))?,
-        fenced(alloc, "(", ")", letter('b'))?,
-        stretched(alloc, true, "|")?,
-        stretched(alloc, false, "|")?,
-        stretched(alloc, true, "/")?,
-        Node::SizedParen {
-            size: "1.2em",
-            paren: "("
-        },
-        Node::SizedParen {
-            size: "2.470em",
-            paren: "("
-        },
-        Node::SizedParen {
-            size: "1.2em",
-            paren: ")"
-        },
-        words(alloc, "1")?,
-        words(alloc, "2")?,
-    ]?)
-}
-
-fn matrix_samples(alloc: Global) -> Result<Vec<Node>, AllocError> {
-    Ok(vec![in alloc;
-        Node::Matrix(Vec::new(alloc), ColumnAlign::Center),
-        Node::Matrix(Vec::new(alloc), ColumnAlign::Left),
-        Node::Matrix(vec![in alloc; letter('a')]?, ColumnAlign::Left),
-        Node::Matrix(vec![in alloc; letter('b')]?, ColumnAlign::Left),
-        style(alloc, None, letter('a'))?,
-        style(alloc, Some(DisplayStyle::Block), letter('a'))?,
-        style(alloc, Some(DisplayStyle::Inline), letter('a'))?,
-        style(alloc, None, letter('b'))?,
-    ]?)
+/// All of them.
+fn nodes(alloc: Global) -> Result<Vec<Node>, AllocError> {
+    let mut nodes = Vec::new(alloc);
+    add(alloc, &mut nodes, &LEAVES)?;
+    add(alloc, &mut nodes, &FRAMES)?;
+    add(alloc, &mut nodes, &PAIRS)?;
+    add(alloc, &mut nodes, &MORE)?;
+    Ok(nodes)
 }
 
 #[test]
 fn copies_are_equal(rt: HostRuntime) -> Result<(), Fail> {
-    let nodes = samples(rt.alloc())?;
-    for node in &nodes {
+    for node in &nodes(rt.alloc())? {
         let copy = node.clone(rt.alloc())?;
         assert!(rt; copy == *node);
     }
@@ -174,11 +136,34 @@ fn copies_are_equal(rt: HostRuntime) -> Result<(), Fail> {
 
 #[test]
 fn different_nodes_differ(rt: HostRuntime) -> Result<(), Fail> {
-    let nodes = samples(rt.alloc())?;
+    let nodes = nodes(rt.alloc())?;
     for (i, a) in nodes.iter().enumerate() {
         for (j, b) in nodes.iter().enumerate() {
             assert!(rt; (*a == *b) == (i == j), "{i} {j}");
         }
+    }
+    Ok(())
+}
+
+/// Whether the markup of a node that is put behind a text is what its `Display` prints.
+fn appends_its_print(alloc: Global, node: &Node) -> Result<bool, AllocError> {
+    let mut text = String::from_str(alloc, "before ")?;
+    node.append_markup(alloc, &mut text)?;
+    let printed = node.to_string(alloc)?;
+    Ok(text.as_str().strip_prefix("before ") == Some(printed.as_str()))
+}
+
+/// A node of each kind prints alike in both ways, by itself and far below others.
+#[test]
+fn appended_markup(rt: HostRuntime) -> Result<(), Fail> {
+    let alloc = rt.alloc();
+    for node in nodes(alloc)? {
+        assert!(rt; appends_its_print(alloc, &node)?, "{node}");
+        let mut deep = node;
+        for _ in 0..100 {
+            deep = Frame::Root.around(alloc, deep)?;
+        }
+        assert!(rt; appends_its_print(alloc, &deep)?, "{deep}");
     }
     Ok(())
 }

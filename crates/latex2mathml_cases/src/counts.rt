@@ -28,6 +28,30 @@ fn exact(rt: HostRuntime) -> Result<(), Fail> {
     Ok(())
 }
 
+/// Texts of the lexer, and how many tokens each has.
+#[test]
+fn tokens(rt: HostRuntime) -> Result<(), Fail> {
+    for (formula, tokens) in [
+        ("3", 1),
+        ("3.14", 1),
+        ("3.14.", 2),
+        ("x", 1),
+        ("\\pi", 1),
+        ("x = 3.14", 3),
+        ("\\alpha\\beta", 2),
+        ("x+y", 3),
+        ("\\ 1", 2),
+        ("\\frac123", 3),
+        ("\\tbinom123", 3),
+        ("\\mathbf12", 3),
+        ("\\sqrt 12", 2),
+        ("\\hat12", 2),
+    ] {
+        assert_eq!(rt; steps(rt.alloc(), formula).tokens, tokens, "{formula}");
+    }
+    Ok(())
+}
+
 #[test]
 fn comparisons(rt: HostRuntime) -> Result<(), Fail> {
     assert_eq!(rt; steps(rt.alloc(), "x<y").comparisons, 0);

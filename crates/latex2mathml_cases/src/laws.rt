@@ -1,14 +1,39 @@
-//! The laws of the grammar: what they say is proved, so a call has only to return.
+//! Each law, called: a law has no answer, and what it says is proved, so a call has only to return.
 
-use latex2mathml::laws;
+use crate::samples::{Words, applied};
+use latex2mathml::ast::Node;
 use latex2mathml::token::Token;
+use latex2mathml::{DisplayStyle, laws};
+use std::test::Fail;
 
 #[test]
-fn laws_return() {
+fn of_the_grammar() {
     laws::one_reading_of(&[Token::LBrace, Token::EOF]);
     laws::sliced();
     laws::read_by_slices();
     laws::refused_by_slices();
     laws::places("x_1");
     laws::white_space("x", " \t\n\r", "_1");
+}
+
+#[test]
+fn of_markup(rt: HostRuntime) -> Result<(), Fail> {
+    let number = Words::Number.of(rt.alloc(), "</mn><math>&")?;
+    laws::balanced(&number);
+    laws::one_element(&number);
+    laws::balanced(&applied(rt.alloc(), "]]></mi><!--", Node::Operator('<'))?);
+    laws::rendering("x</math><script>", DisplayStyle::Inline);
+    laws::rendering("", DisplayStyle::Block);
+    Ok(())
+}
+
+#[test]
+fn of_documents() {
+    for document in ["", "no sign", "$a$ é", "$$$", r"\$ $\$$ \", r"\\"] {
+        laws::one_cut(document);
+        laws::one_outcome(document);
+        laws::dollar_free(document);
+        laws::repeated(document);
+        laws::joined(document, "$$a$$");
+    }
 }

@@ -1,4 +1,4 @@
-//! Tests of the library from outside: cases of inputs and answers, hostile inputs, readers and writers that give up.
+//! Tests of what neither the program nor the library for C can show: values made by hand, counts, and streams that give up.
 #![tactic(auto)]
 
 #[cfg(test)]
@@ -8,46 +8,26 @@ mod characters;
 #[cfg(test)]
 mod commands;
 #[cfg(test)]
-mod compounds;
-#[cfg(test)]
 mod copies;
 #[cfg(test)]
 mod counts;
 #[cfg(test)]
-mod documents;
-#[cfg(test)]
-mod environments;
-#[cfg(test)]
-mod faults;
-#[cfg(test)]
 mod files;
 #[cfg(test)]
-mod formulas;
-#[cfg(test)]
-mod hostile;
+mod large;
 #[cfg(test)]
 mod laws;
 #[cfg(test)]
-mod lexing;
-#[cfg(test)]
-mod markup;
-#[cfg(test)]
 mod nodes;
 #[cfg(test)]
-mod productions;
+mod reading;
 #[cfg(test)]
 mod refusals;
 #[cfg(test)]
 mod refused_counts;
 #[cfg(test)]
-mod sizes;
+mod samples;
 #[cfg(test)]
 mod streams;
 #[cfg(test)]
-mod table;
-#[cfg(test)]
 mod tokens;
-#[cfg(test)]
-mod white_space;
-#[cfg(test)]
-mod wide;

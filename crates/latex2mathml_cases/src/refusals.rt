@@ -1,151 +1,145 @@
-//! Formulas that are refused, and the texts of their refusals.
+//! Refusals and faults made by hand: their texts, copies and equality.
 
-use latex2mathml::{DisplayStyle, latex_to_mathml};
-use std::alloc::Global;
+use latex2mathml::token::Token;
+use latex2mathml::{FileFault, LatexError, WriteCause};
+use std::alloc::{AllocError, Global};
 use std::test::Fail;
 
-/// Whether the formula is refused with this text.
-pub(crate) fn is_refused(alloc: Global, formula: &str, text: &str) -> Result<bool, Fail> {
-    match latex_to_mathml(alloc, formula, DisplayStyle::Inline) {
-        Ok(_) => Ok(false),
-        Err(refusal) => {
-            let found = refusal.to_string(alloc)?;
-            Ok(found.as_str() == text)
+type Samples = Vec<(LatexError, &'static str)>;
+
+fn unexpected(expected: Token, got: Token) -> LatexError {
+    LatexError::UnexpectedToken { expected, got }
+}
+
+fn missing(location: Token, got: Token) -> LatexError {
+    LatexError::MissingParensethis { location, got }
+}
+
+/// Refusals that hold tokens.
+fn of_tokens(alloc: Global) -> Result<Samples, AllocError> {
+    Ok(vec![in alloc;
+        (
+            unexpected(Token::RBrace, Token::EOF),
+            "The token \"RBrace\" is expected, but the token \"EOF\" is found.\""
+        ),
+        (
+            unexpected(Token::RBrace, Token::LBrace),
+            "The token \"RBrace\" is expected, but the token \"LBrace\" is found.\""
+        ),
+        (
+            unexpected(Token::LBrace, Token::EOF),
+            "The token \"LBrace\" is expected, but the token \"EOF\" is found.\""
+        ),
+        (
+            unexpected(Token::Left, Token::EOF),
+            "The token \"Left\" is expected, but the token \"EOF\" is found.\""
+        ),
+        (
+            unexpected(Token::Paren(""), Token::EOF),
+            "The token \"Paren(\"\")\" is expected, but the token \"EOF\" is found.\""
+        ),
+        (
+            missing(Token::Left, Token::Operator('<')),
+            "There must be a parenthesis after \"Left\", but not found. Insted, \"Operator('<')\" is found."
+        ),
+        (
+            missing(Token::Middle, Token::EOF),
+            "There must be a parenthesis after \"Middle\", but not found. Insted, \"EOF\" is found."
+        ),
+        (
+            missing(Token::Left, Token::EOF),
+            "There must be a parenthesis after \"Left\", but not found. Insted, \"EOF\" is found."
+        ),
+        (
+            missing(Token::Right, Token::EOF),
+            "There must be a parenthesis after \"Right\", but not found. Insted, \"EOF\" is found."
+        ),
+        (
+            missing(Token::Left, Token::Right),
+            "There must be a parenthesis after \"Left\", but not found. Insted, \"Right\" is found."
+        ),
+    ]?)
+}
+
+/// All of them, each another.
+fn samples(alloc: Global) -> Result<Samples, AllocError> {
+    let mut samples = of_tokens(alloc)?;
+    for (name, text) in [
+        ("foo", "An unknown environment \"foo\" is found"),
+        ("", "An unknown environment \"\" is found"),
+        ("<\"\\&", "An unknown environment \"<\"\\&\" is found"),
+        ("a", "An unknown environment \"a\" is found"),
+        ("b", "An unknown environment \"b\" is found"),
+    ] {
+        let name = String::from_str(alloc, name)?;
+        samples.push((LatexError::UnknownEnvironment(name), text))?;
+    }
+    let got = Token::Number(String::from_str(alloc, "1")?);
+    let text = "The token \"Paren(\"\")\" is expected, but the token \"Number(\"1\")\" is found.\"";
+    samples.push((unexpected(Token::Paren(""), got), text))?;
+    let text = "The number of dollar sings found is invalid.";
+    samples.push((LatexError::InvalidNumberOfDollarSigns, text))?;
+    samples.push((LatexError::OutOfMemory, "Memory could not be found."))?;
+    Ok(samples)
+}
+
+#[test]
+fn each_has_its_text(rt: HostRuntime) -> Result<(), Fail> {
+    for (refusal, text) in &samples(rt.alloc())? {
+        assert!(rt; refusal.to_string(rt.alloc())?.as_str() == *text, "{text}");
+    }
+    Ok(())
+}
+
+#[test]
+fn copies_are_equal(rt: HostRuntime) -> Result<(), Fail> {
+    for (refusal, text) in &samples(rt.alloc())? {
+        let copy = refusal.clone(rt.alloc())?;
+        assert!(rt; copy == *refusal, "{text}");
+    }
+    Ok(())
+}
+
+#[test]
+fn different_refusals_differ(rt: HostRuntime) -> Result<(), Fail> {
+    let samples = samples(rt.alloc())?;
+    for (i, (a, first)) in samples.iter().enumerate() {
+        for (j, (b, second)) in samples.iter().enumerate() {
+            assert!(rt; (*a == *b) == (i == j), "{first} {second}");
         }
     }
-}
-
-#[test]
-fn open_groups(rt: HostRuntime) -> Result<(), Fail> {
-    for (formula, text) in [
-        (
-            "{a b",
-            r#"The token "RBrace" is expected, but the token "EOF" is found.""#,
-        ),
-        (
-            r"\sqrt[3",
-            r#"The token "Paren("]")" is expected, but the token "EOF" is found.""#,
-        ),
-        (
-            r"\left( x^ \right)",
-            r#"The token "Right" is expected, but the token "EOF" is found.""#,
-        ),
-        (
-            r"\begin{foo}x",
-            r#"The token "End" is expected, but the token "EOF" is found.""#,
-        ),
-        (
-            r"\begin",
-            r#"The token "End" is expected, but the token "EOF" is found.""#,
-        ),
-        (
-            r"\middle{",
-            r#"The token "RBrace" is expected, but the token "EOF" is found.""#,
-        ),
-    ] {
-        assert!(rt; is_refused(rt.alloc(), formula, text)?, "{formula}");
-    }
     Ok(())
 }
 
+/// Each kind of fault, and its text.
 #[test]
-fn missing_fences(rt: HostRuntime) -> Result<(), Fail> {
-    for (formula, text) in [
+fn faults(rt: HostRuntime) -> Result<(), Fail> {
+    for (fault, text) in [
+        (FileFault::List, "The directory could not be listed."),
         (
-            r"\left< x \right>",
-            r#"There must be a parenthesis after "Left", but not found. Insted, "Operator('<')" is found."#,
+            FileFault::Entry,
+            "An entry of the directory could not be read.",
         ),
         (
-            r"\left",
-            r#"There must be a parenthesis after "Left", but not found. Insted, "EOF" is found."#,
+            FileFault::TooDeep,
+            "The directory lies deeper than 64 levels.",
         ),
+        (FileFault::Read, "The input could not be read."),
+        (FileFault::NotText, "The input is not UTF-8 text."),
         (
-            r"\left(x\right",
-            r#"There must be a parenthesis after "Right", but not found. Insted, "EOF" is found."#,
+            FileFault::Refused(LatexError::OutOfMemory),
+            "Memory could not be found.",
         ),
+        (FileFault::Create, "The file could not be created anew."),
         (
-            r"\left$",
-            r#"There must be a parenthesis after "Left", but not found. Insted, "Letter('$', Normal)" is found."#,
-        ),
-        (
-            r"\begin{foo}\left<\end{foo}",
-            r#"There must be a parenthesis after "Left", but not found. Insted, "Operator('<')" is found."#,
+            FileFault::Write {
+                written: 2,
+                cause: WriteCause::Failed,
+            },
+            "The output stopped after 2 bytes.",
         ),
     ] {
-        assert!(rt; is_refused(rt.alloc(), formula, text)?, "{formula}");
-    }
-    Ok(())
-}
-
-#[test]
-fn nothing_to_stretch(rt: HostRuntime) -> Result<(), Fail> {
-    for (formula, text) in [
-        (
-            r"\middle x",
-            r#"There must be a parenthesis after "Middle", but not found. Insted, "Letter('x', Italic)" is found."#,
-        ),
-        (
-            r"\middle",
-            r#"There must be a parenthesis after "Middle", but not found. Insted, "EOF" is found."#,
-        ),
-        (
-            r"\middle('",
-            r#"There must be a parenthesis after "Middle", but not found. Insted, "Paren("(")" is found."#,
-        ),
-        (
-            r"\middle{x}",
-            r#"There must be a parenthesis after "Middle", but not found. Insted, "LBrace" is found."#,
-        ),
-        (
-            r"\middle\middle(",
-            r#"There must be a parenthesis after "Middle", but not found. Insted, "Middle" is found."#,
-        ),
-        (
-            r"\middle\sum_a",
-            r#"There must be a parenthesis after "Middle", but not found. Insted, "BigOp('∑')" is found."#,
-        ),
-    ] {
-        assert!(rt; is_refused(rt.alloc(), formula, text)?, "{formula}");
-    }
-    Ok(())
-}
-
-#[test]
-fn missing_brackets(rt: HostRuntime) -> Result<(), Fail> {
-    for (formula, text) in [
-        (
-            r"\bigl x",
-            r#"The token "Paren("")" is expected, but the token "Letter('x', Italic)" is found.""#,
-        ),
-        (
-            r"\bigl",
-            r#"The token "Paren("")" is expected, but the token "EOF" is found.""#,
-        ),
-    ] {
-        assert!(rt; is_refused(rt.alloc(), formula, text)?, "{formula}");
-    }
-    Ok(())
-}
-
-#[test]
-fn unknown_environments(rt: HostRuntime) -> Result<(), Fail> {
-    for (formula, text) in [
-        (
-            r"\begin{foo}x\end{foo}",
-            r#"An unknown environment "foo" is found"#,
-        ),
-        (r"\begin{}x\end{}", r#"An unknown environment "" is found"#),
-        (
-            r"\begin{\alpha}x\end",
-            r#"An unknown environment "α" is found"#,
-        ),
-        (
-            r"\begin{\bm x}\end",
-            r#"An unknown environment "" is found"#,
-        ),
-        (r"\begin{<}x\end", r#"An unknown environment "" is found"#),
-    ] {
-        assert!(rt; is_refused(rt.alloc(), formula, text)?, "{formula}");
+        assert!(rt; fault.to_string(rt.alloc())?.as_str() == text, "{text}");
     }
     Ok(())
 }

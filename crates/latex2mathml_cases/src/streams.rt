@@ -38,10 +38,10 @@ impl Write for Writer {
 
 /// Gives so many bytes a call, and fails after so many calls.
 #[derive(Drop)]
-struct Reader<'a> {
-    bytes: &'a [u8],
-    step: usize,
-    calls_left: usize,
+pub struct Reader<'a> {
+    pub bytes: &'a [u8],
+    pub step: usize,
+    pub calls_left: usize,
 }
 
 impl Read for Reader<'_> {
@@ -57,7 +57,7 @@ impl Read for Reader<'_> {
     }
 }
 
-fn stream<T>(inner: T) -> Stream<T>
+pub fn stream<T>(inner: T) -> Stream<T>
     ensures unfailed { IsFalse result.failed }
     ensures unended { IsFalse result.ended }
 {
@@ -68,89 +68,97 @@ fn stream<T>(inner: T) -> Stream<T>
     }
 }
 
-/// Writes the text to such a writer, and answers what it holds, what it tells, and how the writing ended.
-fn written(
-    alloc: Global,
-    text: &str,
+/// What is put to a writer, and what it does: it takes `step` bytes a call, and after `calls` calls none, or fails.
+#[derive(Clone, Copy)]
+struct Writing {
+    text: &'static str,
     step: usize,
     calls: usize,
     fails: bool,
-) -> (Stream<Writer>, Result<(), FileFault>) {
-    let mut sink = stream(Writer {
-        held: Vec::new(alloc),
-        step,
-        calls_left: calls,
-        fails,
-    });
-    let ended = write_document(&mut sink, text);
-    (sink, ended)
+}
+
+impl Writing {
+    /// Whether this is put so, that the writer holds exactly the bytes that are told, and tells how it ended: with no
+    /// cause where all were taken.
+    fn ends(self, alloc: Global, cause: Option<WriteCause>, written: usize) -> bool {
+        let mut sink = stream(Writer {
+            held: Vec::new(alloc),
+            step: self.step,
+            calls_left: self.calls,
+            fails: self.fails,
+        });
+        let is_told = match write_document(&mut sink, self.text) {
+            Ok(()) => cause == None && written == self.text.len(),
+            Err(fault) => match cause {
+                Some(cause) => fault == FileFault::Write { written, cause },
+                None => false,
+            },
+        };
+        is_told
+            && self.text.as_bytes().get(..written) == Some(sink.inner.held.as_slice())
+            && sink.failed == (cause == Some(WriteCause::Failed))
+            && sink.ended == (cause == Some(WriteCause::TookNothing))
+    }
 }
 
 #[test]
-fn writes_all(rt: HostRuntime) -> Result<(), Fail> {
+fn writes_all(rt: HostRuntime) {
     for step in 1..8 {
-        let (sink, ended) = written(rt.alloc(), "a𝑥c", step, 9, true);
-        assert!(rt; ended == Ok(()));
-        assert!(rt; sink.inner.held.as_slice() == "a𝑥c".as_bytes());
-        assert!(rt; !sink.failed && !sink.ended);
+        let writing = Writing {
+            text: "a𝑥c",
+            step,
+            calls: 9,
+            fails: true,
+        };
+        assert!(rt; writing.ends(rt.alloc(), None, 6), "{step}");
     }
-    Ok(())
+    for fails in [true, false] {
+        let nothing = Writing {
+            text: "",
+            step: 0,
+            calls: 0,
+            fails,
+        };
+        assert!(rt; nothing.ends(rt.alloc(), None, 0), "{fails}");
+    }
 }
 
 /// A writer that takes one byte a call and fails at each call in turn.
 #[test]
-fn writer_fails(rt: HostRuntime) -> Result<(), Fail> {
-    let text = "abc";
-    for calls in 0..text.len() {
-        let (sink, ended) = written(rt.alloc(), text, 1, calls, true);
-        let fault = FileFault::Write {
-            written: calls,
-            cause: WriteCause::Failed,
+fn writer_fails(rt: HostRuntime) {
+    for calls in 0..3 {
+        let writing = Writing {
+            text: "abc",
+            step: 1,
+            calls,
+            fails: true,
         };
-        assert!(rt; ended == Err(fault), "{calls}");
         assert!(rt;
-            sink.inner.held.as_slice() == text[..calls].as_bytes(),
+            writing.ends(rt.alloc(), Some(WriteCause::Failed), calls),
             "{calls}"
         );
-        assert!(rt; sink.failed && !sink.ended, "{calls}");
     }
-    Ok(())
 }
 
 #[test]
-fn writer_takes_nothing(rt: HostRuntime) -> Result<(), Fail> {
-    let (sink, ended) = written(rt.alloc(), "abc", 2, 0, false);
-    assert!(rt;
-        ended
-            == Err(FileFault::Write {
-                written: 0,
-                cause: WriteCause::TookNothing
-            })
-    );
-    assert!(rt; sink.inner.held.is_empty() && sink.ended && !sink.failed);
-    let (sink, ended) = written(rt.alloc(), "abc", 2, 1, false);
-    assert!(rt;
-        ended
-            == Err(FileFault::Write {
-                written: 2,
-                cause: WriteCause::TookNothing
-            })
-    );
-    assert!(rt; sink.inner.held.as_slice() == b"ab".as_slice());
-    Ok(())
+fn writer_takes_nothing(rt: HostRuntime) {
+    for (calls, taken) in [(0, 0), (1, 2)] {
+        let writing = Writing {
+            text: "abc",
+            step: 2,
+            calls,
+            fails: false,
+        };
+        assert!(rt;
+            writing.ends(rt.alloc(), Some(WriteCause::TookNothing), taken),
+            "{calls}"
+        );
+    }
 }
 
+/// A reader that gives one byte a call, and ends.
 #[test]
-fn nothing_to_write(rt: HostRuntime) -> Result<(), Fail> {
-    let (sink, ended) = written(rt.alloc(), "", 0, 0, true);
-    assert!(rt; ended == Ok(()));
-    assert!(rt; !sink.failed && !sink.ended);
-    Ok(())
-}
-
-/// A reader that gives one byte a call, ends, or fails at each call in turn.
-#[test]
-fn reader_gives(rt: HostRuntime) -> Result<(), Fail> {
+fn reader_gives(rt: HostRuntime) {
     let mut room = [0u8; 4];
     let mut source = stream(Reader {
         bytes: b"ab",
@@ -165,11 +173,10 @@ fn reader_gives(rt: HostRuntime) -> Result<(), Fail> {
     assert!(rt; !source.failed && !source.ended);
     assert!(rt; source.take_in(&mut room) == Some(0));
     assert!(rt; !source.failed && source.ended);
-    Ok(())
 }
 
 #[test]
-fn reader_fails(rt: HostRuntime) -> Result<(), Fail> {
+fn reader_fails(rt: HostRuntime) {
     let mut room = [0u8; 4];
     let mut source = stream(Reader {
         bytes: b"ab",
@@ -178,15 +185,13 @@ fn reader_fails(rt: HostRuntime) -> Result<(), Fail> {
     });
     assert!(rt; source.take_in(&mut room) == None);
     assert!(rt; source.failed && !source.ended);
-    Ok(())
 }
 
 /// What a sink answers, asked with and without bytes.
 #[test]
-fn sink_answers(rt: HostRuntime) -> Result<(), Fail> {
-    let alloc = rt.alloc();
+fn sink_answers(rt: HostRuntime) {
     let mut sink = stream(Writer {
-        held: Vec::new(alloc),
+        held: Vec::new(rt.alloc()),
         step: 2,
         calls_left: 2,
         fails: false,
@@ -197,7 +202,6 @@ fn sink_answers(rt: HostRuntime) -> Result<(), Fail> {
     assert!(rt; !sink.failed && !sink.ended);
     assert!(rt; sink.put_out(b"c") == Some(0));
     assert!(rt; !sink.failed && sink.ended);
-    Ok(())
 }
 
 /// Fails once, and gives or takes one byte at each later call.
@@ -300,8 +304,5 @@ fn nothing_is_asked_for_nothing(rt: HostRuntime) -> Result<(), Fail> {
     let mut sink = failing_once(io::ErrorKind::Other);
     assert!(rt; write_document(&mut sink, "") == Ok(()));
     assert!(rt; sink.inner.calls == 0 && !sink.failed && !sink.ended);
-    let (sink, ended) = written(rt.alloc(), "", 0, 0, false);
-    assert!(rt; ended == Ok(()));
-    assert!(rt; sink.inner.held.is_empty() && !sink.failed && !sink.ended);
     Ok(())
 }

@@ -7,24 +7,18 @@ use std::alloc::{AllocError, Global};
 use std::test::Fail;
 
 /// Whether the token has this text.
-pub fn has_text(alloc: Global, token: Token, text: &str) -> Result<bool, AllocError> {
+fn has_text(alloc: Global, token: Token, text: &str) -> Result<bool, AllocError> {
     let refusal = LatexError::UnexpectedToken {
         expected: token,
         got: Token::EOF,
     };
     let said = refusal.to_string(alloc)?;
-    let expected = format!(in alloc;
-        "The token \"{text}\" is expected, but the token \"EOF\" is found.\""
-    )?;
-    Ok(said == expected)
-}
-
-fn number(alloc: Global, digits: &str) -> Result<Token, AllocError> {
-    Ok(Token::Number(String::from_str(alloc, digits)?))
-}
-
-fn command(alloc: Global, name: &str) -> Result<Token, AllocError> {
-    Ok(Token::Command(String::from_str(alloc, name)?))
+    Ok(match said.as_str().strip_prefix("The token \"") {
+        Some(rest) => {
+            rest.strip_suffix("\" is expected, but the token \"EOF\" is found.\"") == Some(text)
+        }
+        None => false,
+    })
 }
 
 type Samples = Vec<(Token, &'static str)>;
@@ -72,7 +66,7 @@ fn of_characters(alloc: Global) -> Result<Samples, AllocError> {
     ]?)
 }
 
-/// Each kind that holds a text, with two of them.
+/// Each kind that holds a text, with two of them, but for those that own it.
 fn of_texts(alloc: Global) -> Result<Samples, AllocError> {
     Ok(vec![in alloc;
         (Token::Paren("("), "Paren(\"(\")"),
@@ -83,11 +77,21 @@ fn of_texts(alloc: Global) -> Result<Samples, AllocError> {
         (Token::Big("\"\\'"), "Big(\"\\\"\\\\'\")"),
         (Token::Function("sin"), "Function(\"sin\")"),
         (Token::Function("lim"), "Function(\"lim\")"),
-        (number(alloc, "1")?, "Number(\"1\")"),
-        (number(alloc, "3.14")?, "Number(\"3.14\")"),
-        (command(alloc, "1")?, "Command(\"1\")"),
-        (command(alloc, "\"\\'")?, "Command(\"\\\"\\\\'\")"),
     ]?)
+}
+
+/// Each kind that owns a text, with two of them.
+fn of_own_texts(alloc: Global) -> Result<Samples, AllocError> {
+    let mut samples = Vec::new(alloc);
+    for (digits, text) in [("1", "Number(\"1\")"), ("3.14", "Number(\"3.14\")")] {
+        let token = Token::Number(String::from_str(alloc, digits)?);
+        samples.push((token, text))?;
+    }
+    for (name, text) in [("1", "Command(\"1\")"), ("\"\\'", "Command(\"\\\"\\\\'\")")] {
+        let token = Token::Command(String::from_str(alloc, name)?);
+        samples.push((token, text))?;
+    }
+    Ok(samples)
 }
 
 /// Each other kind, with contents that differ in one part alone.
@@ -148,19 +152,22 @@ fn of_variants(alloc: Global) -> Result<Samples, AllocError> {
     ]?)
 }
 
+/// Puts more samples behind these.
+fn add(samples: &mut Samples, more: Samples) -> Result<(), AllocError> {
+    for sample in more {
+        samples.push(sample)?;
+    }
+    Ok(())
+}
+
 /// Tokens of each kind, all of them different, and the text of each.
 fn samples(alloc: Global) -> Result<Samples, AllocError> {
     let mut samples = bare(alloc)?;
-    for more in [
-        of_characters(alloc)?,
-        of_texts(alloc)?,
-        of_parts(alloc)?,
-        of_variants(alloc)?,
-    ] {
-        for sample in more {
-            samples.push(sample)?;
-        }
-    }
+    add(&mut samples, of_characters(alloc)?)?;
+    add(&mut samples, of_texts(alloc)?)?;
+    add(&mut samples, of_own_texts(alloc)?)?;
+    add(&mut samples, of_parts(alloc)?)?;
+    add(&mut samples, of_variants(alloc)?)?;
     Ok(samples)
 }
 

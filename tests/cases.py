@@ -1,0 +1,212 @@
+"""Reads the files of the folder `cases/`. Its README.md says how they are written."""
+import pathlib
+import re
+import unicodedata
+from dataclasses import dataclass
+
+from tests.support import ROOT
+
+CASES = ROOT / "cases"
+
+ESCAPE = re.compile(r'\[(?:U\+(?P<code>[0-9A-F]{4,6})|byte (?P<byte>[0-9A-F]{2})|(?P<empty>empty)|(?P<count>\d+) times "(?P<text>.*?)")\]')
+PLACE = "[place]"
+COLUMNS = re.compile(r" {2,}")
+
+MATH = '<math xmlns="http://www.w3.org/1998/Math/MathML" display="{}">'
+TAGS = {
+    b"<inline>": MATH.format("inline").encode(), b"</inline>": b"</math>",
+    b"<block>": MATH.format("block").encode(), b"</block>": b"</math>",
+}
+
+
+class WrongCase(ValueError):
+    """A file that is not written as cases are. The text begins with the file and the line."""
+
+
+@dataclass(frozen=True)
+class Line:
+    """A line of a file, without the line feed."""
+    path: pathlib.Path
+    number: int
+    text: str
+
+    @property
+    def place(self):
+        return f"{self.path.relative_to(ROOT)}:{self.number}"
+
+    def expanded(self, text=None):
+        """What the line, or a part of it, stands for: bytes, with each escape replaced."""
+        try:
+            return expand(self.text if text is None else text)
+        except ValueError as wrong:
+            raise WrongCase(f"{self.place}: {wrong}") from None
+
+
+@dataclass(frozen=True)
+class Case:
+    """An input and what it comes to, as they stand in a file, and the heading that they stand below."""
+    heading: str
+    first: Line
+    second: Line
+
+    @property
+    def place(self):
+        return self.first.place
+
+    @property
+    def input(self):
+        return self.first.expanded()
+
+    @property
+    def answer(self):
+        return self.second.expanded()
+
+    @property
+    def document_answer(self):
+        """The answer, with whole tags in place of the short ones."""
+        return re.sub(rb"</?(?:inline|block)>", lambda tag: TAGS[tag[0]], self.answer)
+
+    def with_space(self, number, space):
+        """The formula of white_space.txt with this space at the place of this number, and at no other."""
+        parts = self.first.text.split(PLACE)
+        return self.first.expanded("".join(parts[:number])) + space + self.first.expanded("".join(parts[number:]))
+
+    @property
+    def places(self):
+        """The numbers of the places that are marked in the formula."""
+        return range(1, self.first.text.count(PLACE) + 1)
+
+
+@dataclass(frozen=True)
+class Command:
+    """An entry of the command table: the name, its token's text, and the contents or the refusal of the command alone."""
+    line: Line
+    name: str
+    token: str
+    alone: str
+
+    @property
+    def formula(self):
+        """The command alone, as bytes."""
+        return f"\\{self.name}".encode()
+
+
+def expand(text):
+    """The bytes that a text of a case stands for.
+
+    >>> expand('a[U+000A]b[byte FF][3 times "<"]')
+    b'a\\nb\\xff<<<'
+    >>> expand('[empty]')
+    b''
+    """
+    parts, done = [], 0
+    for escape in ESCAPE.finditer(text):
+        parts += [text[done:escape.start()].encode(), escaped(escape)]
+        done = escape.end()
+    return b"".join(parts) + text[done:].encode()
+
+
+def escaped(escape):
+    if escape["code"]:
+        return chr(int(escape["code"], 16)).encode()
+    if escape["byte"]:
+        return bytes.fromhex(escape["byte"])
+    return b"" if escape["empty"] else int(escape["count"]) * expand(escape["text"])
+
+
+def fault_of(text):
+    """Why the text may not stand in a line, or None."""
+    if text != text.strip(" "):
+        return "a space at an end of a line is [U+0020]"
+    for character in text:
+        kind = unicodedata.category(character)
+        if kind[0] in "CM" or (kind[0] == "Z" and character != " "):
+            return f"a character that cannot be seen is [U+{ord(character):04X}]"
+    return None
+
+
+def lines_of(path):
+    """The lines of a file, without remarks: pairs of the heading that a line stands below, and the line."""
+    heading = ""
+    for number, text in enumerate(path.read_text(encoding="utf-8").split("\n"), 1):
+        line = Line(path, number, text)
+        if fault := fault_of(text):
+            raise WrongCase(f"{line.place}: {fault}")
+        if text.startswith("## "):
+            heading = text[3:]
+        elif not text.startswith("#"):
+            yield heading, line
+
+
+def read(name):
+    """The cases of a file of two lines each, such as `formulas/numbers.txt`.
+
+    Raises `WrongCase` where the file is not written so, or holds an input twice.
+    """
+    cases, lines, inputs = [], [], {}
+    for heading, line in lines_of(CASES / name):
+        if line.text:
+            lines.append(line)
+        elif lines:
+            cases.append(Case(heading, *two_of(lines)))
+            lines = []
+    if lines:
+        cases.append(Case(heading, *two_of(lines)))
+    for case in cases:
+        before = inputs.setdefault(case.first.text, case)
+        if before is not case:
+            raise WrongCase(f"{case.place}: the input stands in line {before.first.number} as well")
+    return cases
+
+
+def two_of(lines):
+    if len(lines) != 2:
+        raise WrongCase(f"{lines[0].place}: a case has two lines, and a blank line behind it; this has {len(lines)}")
+    return lines
+
+
+def files(pattern):
+    """The names of the files of cases that match, such as `formulas/*.txt`, in order."""
+    return sorted(str(path.relative_to(CASES)) for path in CASES.glob(pattern))
+
+
+def commands():
+    """The entries of the command table, in their order."""
+    entries = []
+    for _, line in lines_of(CASES / "commands.txt"):
+        if not line.text:
+            continue
+        columns = COLUMNS.split(line.text)
+        if len(columns) != 3:
+            raise WrongCase(f"{line.place}: an entry has three columns, and two spaces or more between them")
+        entries.append(Command(line, *(line.expanded(column).decode() for column in columns)))
+    return entries
+
+
+def every_rule():
+    """Each rule of the grammar once: pairs of a formula and the contents of its `math` element, as text."""
+    return [(case.input.decode(), case.answer.decode()) for case in read("formulas/every_rule.txt")]
+
+
+def math(display, contents):
+    """The `math` element with these contents, as bytes. The display is `inline` or `block`."""
+    return MATH.format(display).encode() + contents + b"</math>"
+
+
+def test_name(word):
+    """The name that unittest has for a file of cases, or for the case on a line of one.
+
+    >>> test_name("cases/formulas/letters.txt")
+    'tests.test_cases.formulas_letters'
+    >>> test_name("cases/refusals.txt:12")
+    'tests.test_cases.refusals.test_12'
+    >>> test_name("cases/commands.txt:12")
+    'tests.test_commands.Entries.test_12'
+    """
+    name, _, line = word.removeprefix("cases/").partition(":")
+    tests = "test_commands.Entries" if name == "commands.txt" else f"test_cases.{class_name(name)}"
+    return f"tests.{tests}" + (f".test_{int(line)}" if line else "")
+
+
+def class_name(name):
+    return re.sub(r"\W", "_", name.removesuffix(".txt"))

@@ -1,0 +1,79 @@
+"""What runs on a machine for checks: `.ci/run` installs what the tests use, and has `./test` skip nothing.
+
+`./test`, `apt-get` and what asks the system are other programs here.
+"""
+import shutil
+
+from tests.support import Case, ROOT, run, scratch
+
+PACKAGES = "# a remark\nhere\nmissing # behind a package too\n\nlost\n"
+
+STUBS = {
+    "id": "echo ${USER_ID:-0}",
+    "dpkg-query": """case $4 in here) echo 'install ok installed' ;; lost) echo 'deinstall ok config-files' ;; *) exit 1 ;; esac""",
+    # what is asked for stands behind the options
+    "apt-get": """
+        while [ "$1" != update ] && [ "$1" != install ]; do shift; done
+        echo "$*" >>"$CALLS"
+        case "$*" in *${NOT_THERE:-nothing}*) exit 100 ;; esac""",
+}
+
+
+class Run(Case):
+    def setUp(self):
+        self.folder = self.enterContext(scratch())
+        self.house = self.folder / "house"
+        shutil.copytree(ROOT / ".ci", self.house / ".ci")
+        (self.house / ".ci/packages").write_text(PACKAGES)
+        self.program(self.house / "test", 'echo "skips nothing: $LATEX2MATHML_SKIP_NOTHING"; exit ${STATUS:-0}')
+        for name, text in STUBS.items():
+            self.program(self.folder / "bin" / name, text)
+        for name in ("sh", "dirname", "sed", "grep", "timeout"):
+            (self.folder / "bin" / name).symlink_to(shutil.which(name))
+
+    def program(self, path, text):
+        path.parent.mkdir(exist_ok=True)
+        path.write_text(f"#!/bin/sh\n{text}\n")
+        path.chmod(0o755)
+
+    def run_ci(self, **environment):
+        calls = self.folder / "calls"
+        calls.write_text("")
+        done = run([self.house / ".ci/run"], env={"PATH": str(self.folder / "bin"), "CALLS": str(calls), **environment})
+        return done, calls.read_text().splitlines()
+
+    def test_what_is_missing_is_installed(self):
+        done, calls = self.run_ci()
+        self.expect(done, stdout=b"skips nothing: 1\n", stderr=None)
+        self.assertEqual(calls, ["update", "install --no-install-recommends missing lost"])
+
+    def test_nothing_is_missing(self):
+        (self.house / ".ci/packages").write_text("here\n")
+        done, calls = self.run_ci()
+        self.expect(done, stdout=b"skips nothing: 1\n")
+        self.assertEqual(calls, [])
+
+    def test_a_file_that_another_package_brought(self):
+        (self.house / ".ci/packages").write_text(f"missing {self.house}/test\nlost {self.house}/nothing\n")
+        done, calls = self.run_ci()
+        self.expect(done, stdout=b"skips nothing: 1\n", stderr=None)
+        self.assertEqual(calls[1:], ["install --no-install-recommends lost"])
+
+    def test_one_cannot_be_installed(self):
+        """The others are, and `./test` runs, in which what needs it fails."""
+        done, calls = self.run_ci(NOT_THERE="lost")
+        self.expect(done, stdout=b"skips nothing: 1\n", stderr=None)
+        self.assertIn(b"lost could not be installed", done.stderr)
+        self.assertEqual(calls[2:], ["install --no-install-recommends missing", "install --no-install-recommends lost"])
+
+    def test_nothing_can_be_installed(self):
+        with self.subTest("by no root"):
+            done, calls = self.run_ci(USER_ID="1000")
+            self.expect(done, stdout=b"skips nothing: 1\n", stderr=None)
+            self.assertEqual(calls, [])
+        with self.subTest("without apt-get"):
+            (self.folder / "bin/apt-get").unlink()
+            self.expect(self.run_ci()[0], stdout=b"skips nothing: 1\n", stderr=None)
+
+    def test_the_status(self):
+        self.expect(self.run_ci(STATUS="1")[0], 1, None, None)

@@ -1,0 +1,1 @@
+"""Commands of the checkout, and `progress`, which the tests use too."""
