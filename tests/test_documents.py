@@ -135,7 +135,7 @@ class Readme(Case):
         self.expect(run([program(), "wrong"]), status=2, stdout=b"", stderr=None)
 
     def test_its_site_is_converted_over_a_copy(self):
-        command = re.search(r"^    (cp -R site site\.new && .*)\n", self.text, re.M)
+        command = re.search(r"^    (rm -rf site\.new site\.old && .*)\n", self.text, re.M)
         self.assertIsNotNone(command)
         folder = self.enterContext(scratch())
         (folder / "site").mkdir()
@@ -144,6 +144,9 @@ class Readme(Case):
         self.expect(run(["sh", "-c", command[1]], cwd=folder), stdout=b"")
         self.assertEqual((folder / "site.old/a.html").read_text(), "<p>$x$</p>")
         self.assertIn("<mi>x</mi>", (folder / "site/a.html").read_text())
+        # and again, over what the first run left
+        self.expect(run(["sh", "-c", command[1]], cwd=folder), stdout=b"")
+        self.assertEqual(sorted(path.name for path in folder.iterdir()), ["latex2mathml", "site", "site.old"])
 
 
 class Versions(Case):

@@ -362,8 +362,10 @@ class Counts(Folders):
     def leaves_nothing(self, text):
         """What is held at the end is as much for a hundred as for one, and what was opened is closed."""
         one, hundred = self.counts(1, 1, text), self.counts(100, 100, text)
-        self.assertEqual(hundred["held"], one["held"])
-        self.assertEqual(hundred["open"] - hundred["close"], one["open"] - one["close"])
+        with self.subTest("blocks of memory"):
+            self.assertEqual(hundred["held"], one["held"])
+        with self.subTest("descriptors"):
+            self.assertEqual(hundred["open"] - hundred["close"], one["open"] - one["close"])
 
     def test_converted(self):
         self.leaves_nothing(b"$x$")
