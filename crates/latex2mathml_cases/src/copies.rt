@@ -8,7 +8,7 @@ use std::alloc::{AllocError, Global};
 use std::test::Fail;
 
 /// Each kind that holds no node, and beside each one that differs in its contents alone.
-const LEAVES: [Sample; 29] = [
+static LEAVES: [Sample; 29] = [
     Sample::Words(Words::Number, "1"),
     Sample::Words(Words::Number, "2"),
     Sample::Words(Words::Function, "sin"),
@@ -41,7 +41,7 @@ const LEAVES: [Sample; 29] = [
 ];
 
 /// The same of each kind that holds one node.
-const FRAMES: [Sample; 20] = [
+static FRAMES: [Sample; 20] = [
     Sample::Frame(Frame::Over('^', Accent::True), 'a'),
     Sample::Frame(Frame::Over('~', Accent::True), 'a'),
     Sample::Frame(Frame::Over('^', Accent::False), 'a'),
@@ -65,7 +65,7 @@ const FRAMES: [Sample; 20] = [
 ];
 
 /// The same of each kind that holds two nodes.
-const PAIRS: [Sample; 21] = [
+static PAIRS: [Sample; 21] = [
     Sample::Pair(Pair::Subscript, '+', '-'),
     Sample::Pair(Pair::Subscript, '-', '+'),
     Sample::Pair(Pair::Superscript, '+', '-'),
@@ -90,7 +90,7 @@ const PAIRS: [Sample; 21] = [
 ];
 
 /// The same of each kind that holds three nodes, or any number of them.
-const MORE: [Sample; 15] = [
+static MORE: [Sample; 15] = [
     Sample::Triple(Triple::SubSup, 'a', 'b', 'c'),
     Sample::Triple(Triple::SubSup, 'x', 'b', 'c'),
     Sample::Triple(Triple::SubSup, 'a', 'x', 'c'),
@@ -108,20 +108,14 @@ const MORE: [Sample; 15] = [
     Sample::Matrix("b", ColumnAlign::Left),
 ];
 
-fn add(alloc: Global, nodes: &mut Vec<Node>, samples: &[Sample]) -> Result<(), AllocError> {
-    for sample in samples {
-        nodes.push(sample.node(alloc)?)?;
-    }
-    Ok(())
-}
-
 /// All of them.
 fn nodes(alloc: Global) -> Result<Vec<Node>, AllocError> {
     let mut nodes = Vec::new(alloc);
-    add(alloc, &mut nodes, &LEAVES)?;
-    add(alloc, &mut nodes, &FRAMES)?;
-    add(alloc, &mut nodes, &PAIRS)?;
-    add(alloc, &mut nodes, &MORE)?;
+    for samples in [&LEAVES[..], &FRAMES[..], &PAIRS[..], &MORE[..]] {
+        for sample in samples {
+            nodes.push(sample.node(alloc)?)?;
+        }
+    }
     Ok(nodes)
 }
 

@@ -248,23 +248,31 @@ fn nodes(rt: HostRuntime) -> Result<(), Fail> {
     Ok(())
 }
 
-/// Whether a refusal that holds so long a text is copied, and told, also as a fault.
-fn refusal_is_told(alloc: Global, size: usize) -> Result<bool, AllocError> {
-    let refusal = LatexError::UnexpectedToken {
+/// A refusal that holds so long a text.
+fn refusal(alloc: Global, size: usize) -> Result<LatexError, AllocError> {
+    Ok(LatexError::UnexpectedToken {
         expected: Token::EOF,
         got: Token::Command(repeated(alloc, 'z', size)?),
-    };
-    let copy = refusal.clone(alloc)?;
-    let is_copied = copy == refusal;
-    let said = refusal.to_string(alloc)?;
+    })
+}
+
+fn refusal_is_copied(alloc: Global, size: usize) -> Result<bool, AllocError> {
+    let refusal = refusal(alloc, size)?;
+    Ok(refusal.clone(alloc)? == refusal)
+}
+
+/// Whether it is told, as a fault too.
+fn refusal_is_told(alloc: Global, size: usize) -> Result<bool, AllocError> {
+    let fault = FileFault::Refused(refusal(alloc, size)?);
+    let said = fault.to_string(alloc)?;
     let before = "The token \"EOF\" is expected, but the token \"Command(\"";
-    let is_told = is_repeated(said.as_str(), before, "z", size, "\")\" is found.\"");
-    Ok(is_copied && is_told && FileFault::Refused(copy).to_string(alloc)? == said)
+    Ok(is_repeated(said.as_str(), before, "z", size, "\")\" is found.\""))
 }
 
 #[test]
 fn refusals(rt: HostRuntime) -> Result<(), Fail> {
     for size in SIZES {
+        assert!(rt; refusal_is_copied(rt.alloc(), size)?, "{size}");
         assert!(rt; refusal_is_told(rt.alloc(), size)?, "{size}");
     }
     Ok(())

@@ -26,7 +26,7 @@ fn wrong(
     Ok(None)
 }
 
-const LEAVES: [(Sample, &str); 21] = [
+static LEAVES: [(Sample, &str); 21] = [
     (Sample::Letter('x', Variant::Italic), "<mi>x</mi>"),
     (Sample::Letter('α', Variant::Italic), "<mi>α</mi>"),
     (
@@ -80,7 +80,7 @@ fn leaves(rt: HostRuntime) -> Result<(), Fail> {
     Ok(())
 }
 
-const SPACES: [(i32, &str); 16] = [
+static SPACES: [(i32, &str); 16] = [
     (-3, "<mspace width=\"-0.167em\"/>"),
     (0, "<mspace width=\"0em\"/>"),
     (1, "<mspace width=\"0.056em\"/>"),
@@ -101,13 +101,16 @@ const SPACES: [(i32, &str); 16] = [
 
 #[test]
 fn spaces(rt: HostRuntime) -> Result<(), Fail> {
-    for (width, markup) in SPACES {
-        assert!(rt; prints(rt.alloc(), &Node::Space(width), markup)?, "{width}");
+    for (width, markup) in &SPACES {
+        assert!(rt;
+            prints(rt.alloc(), &Node::Space(*width), markup)?,
+            "{width}"
+        );
     }
     Ok(())
 }
 
-const WORDS: [(Sample, &str); 15] = [
+static WORDS: [(Sample, &str); 15] = [
     (Sample::Words(Words::Number, "3.14"), "<mn>3.14</mn>"),
     (
         Sample::Words(Words::Number, "<&>\"'"),
@@ -167,7 +170,7 @@ fn words(rt: HostRuntime) -> Result<(), Fail> {
     Ok(())
 }
 
-const COMPOUNDS: [(Sample, &str); 24] = [
+static COMPOUNDS: [(Sample, &str); 24] = [
     (
         Sample::Pair(Pair::Subscript, '+', '<'),
         "<msub><mo>+</mo><mo>&lt;</mo></msub>",
@@ -264,7 +267,7 @@ fn compounds(rt: HostRuntime) -> Result<(), Fail> {
 }
 
 /// Nodes below a slash.
-const SLASHED: [(Sample, &str); 6] = [
+static SLASHED: [(Sample, &str); 6] = [
     (
         Sample::Letter('<', Variant::Italic),
         "<mi mathvariant=\"italic\">&lt;&#x0338;</mi>",
@@ -282,7 +285,7 @@ const SLASHED: [(Sample, &str); 6] = [
 #[test]
 fn slashes(rt: HostRuntime) -> Result<(), Fail> {
     let alloc = rt.alloc();
-    for (sample, markup) in SLASHED {
+    for (sample, markup) in &SLASHED {
         let slashed = Frame::Slash.around(alloc, sample.node(alloc)?)?;
         assert!(rt; prints(alloc, &slashed, markup)?, "{markup}");
     }

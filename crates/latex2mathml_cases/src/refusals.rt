@@ -7,76 +7,128 @@ use std::test::Fail;
 
 type Samples = Vec<(LatexError, &'static str)>;
 
-fn unexpected(expected: Token, got: Token) -> LatexError {
-    LatexError::UnexpectedToken { expected, got }
+/// A token of a refusal, as a plain value.
+#[derive(Clone, Copy)]
+enum Named {
+    Eof,
+    LBrace,
+    RBrace,
+    Left,
+    Right,
+    Middle,
+    LessThan,
+    NoParenthesis,
 }
 
-fn missing(location: Token, got: Token) -> LatexError {
-    LatexError::MissingParensethis { location, got }
-}
-
-/// Refusals that hold tokens.
-fn of_tokens(alloc: Global) -> Result<Samples, AllocError> {
-    Ok(vec![in alloc;
-        (
-            unexpected(Token::RBrace, Token::EOF),
-            "The token \"RBrace\" is expected, but the token \"EOF\" is found.\""
-        ),
-        (
-            unexpected(Token::RBrace, Token::LBrace),
-            "The token \"RBrace\" is expected, but the token \"LBrace\" is found.\""
-        ),
-        (
-            unexpected(Token::LBrace, Token::EOF),
-            "The token \"LBrace\" is expected, but the token \"EOF\" is found.\""
-        ),
-        (
-            unexpected(Token::Left, Token::EOF),
-            "The token \"Left\" is expected, but the token \"EOF\" is found.\""
-        ),
-        (
-            unexpected(Token::Paren(""), Token::EOF),
-            "The token \"Paren(\"\")\" is expected, but the token \"EOF\" is found.\""
-        ),
-        (
-            missing(Token::Left, Token::Operator('<')),
-            "There must be a parenthesis after \"Left\", but not found. Insted, \"Operator('<')\" is found."
-        ),
-        (
-            missing(Token::Middle, Token::EOF),
-            "There must be a parenthesis after \"Middle\", but not found. Insted, \"EOF\" is found."
-        ),
-        (
-            missing(Token::Left, Token::EOF),
-            "There must be a parenthesis after \"Left\", but not found. Insted, \"EOF\" is found."
-        ),
-        (
-            missing(Token::Right, Token::EOF),
-            "There must be a parenthesis after \"Right\", but not found. Insted, \"EOF\" is found."
-        ),
-        (
-            missing(Token::Left, Token::Right),
-            "There must be a parenthesis after \"Left\", but not found. Insted, \"Right\" is found."
-        ),
-    ]?)
-}
-
-/// All of them, each another.
-fn samples(alloc: Global) -> Result<Samples, AllocError> {
-    let mut samples = of_tokens(alloc)?;
-    for (name, text) in [
-        ("foo", "An unknown environment \"foo\" is found"),
-        ("", "An unknown environment \"\" is found"),
-        ("<\"\\&", "An unknown environment \"<\"\\&\" is found"),
-        ("a", "An unknown environment \"a\" is found"),
-        ("b", "An unknown environment \"b\" is found"),
-    ] {
-        let name = String::from_str(alloc, name)?;
-        samples.push((LatexError::UnknownEnvironment(name), text))?;
+impl Named {
+    fn token(self) -> Token {
+        match self {
+            Named::Eof => Token::EOF,
+            Named::LBrace => Token::LBrace,
+            Named::RBrace => Token::RBrace,
+            Named::Left => Token::Left,
+            Named::Right => Token::Right,
+            Named::Middle => Token::Middle,
+            Named::LessThan => Token::Operator('<'),
+            Named::NoParenthesis => Token::Paren(""),
+        }
     }
-    let got = Token::Number(String::from_str(alloc, "1")?);
+}
+
+/// Tokens that are expected and tokens that are got, and the text of the refusal.
+static UNEXPECTED: [(Named, Named, &str); 5] = [
+    (
+        Named::RBrace,
+        Named::Eof,
+        "The token \"RBrace\" is expected, but the token \"EOF\" is found.\"",
+    ),
+    (
+        Named::RBrace,
+        Named::LBrace,
+        "The token \"RBrace\" is expected, but the token \"LBrace\" is found.\"",
+    ),
+    (
+        Named::LBrace,
+        Named::Eof,
+        "The token \"LBrace\" is expected, but the token \"EOF\" is found.\"",
+    ),
+    (
+        Named::Left,
+        Named::Eof,
+        "The token \"Left\" is expected, but the token \"EOF\" is found.\"",
+    ),
+    (
+        Named::NoParenthesis,
+        Named::Eof,
+        "The token \"Paren(\"\")\" is expected, but the token \"EOF\" is found.\"",
+    ),
+];
+
+/// Places where a parenthesis is missing and tokens that are got, and the text of the refusal.
+static MISSING: [(Named, Named, &str); 5] = [
+    (
+        Named::Left,
+        Named::LessThan,
+        "There must be a parenthesis after \"Left\", but not found. Insted, \"Operator('<')\" is found.",
+    ),
+    (
+        Named::Middle,
+        Named::Eof,
+        "There must be a parenthesis after \"Middle\", but not found. Insted, \"EOF\" is found.",
+    ),
+    (
+        Named::Left,
+        Named::Eof,
+        "There must be a parenthesis after \"Left\", but not found. Insted, \"EOF\" is found.",
+    ),
+    (
+        Named::Right,
+        Named::Eof,
+        "There must be a parenthesis after \"Right\", but not found. Insted, \"EOF\" is found.",
+    ),
+    (
+        Named::Left,
+        Named::Right,
+        "There must be a parenthesis after \"Left\", but not found. Insted, \"Right\" is found.",
+    ),
+];
+
+/// Names of environments, and the texts of their refusals.
+static ENVIRONMENTS: [(&str, &str); 5] = [
+    ("foo", "An unknown environment \"foo\" is found"),
+    ("", "An unknown environment \"\" is found"),
+    ("<\"\\&", "An unknown environment \"<\"\\&\" is found"),
+    ("a", "An unknown environment \"a\" is found"),
+    ("b", "An unknown environment \"b\" is found"),
+];
+
+/// All of them, and others that hold no token or a token's text.
+fn samples(alloc: Global) -> Result<Samples, AllocError> {
+    let mut samples = Vec::new(alloc);
+    for (expected, got, text) in &UNEXPECTED {
+        let refusal = LatexError::UnexpectedToken {
+            expected: expected.token(),
+            got: got.token(),
+        };
+        samples.push((refusal, *text))?;
+    }
+    for (location, got, text) in &MISSING {
+        let refusal = LatexError::MissingParensethis {
+            location: location.token(),
+            got: got.token(),
+        };
+        samples.push((refusal, *text))?;
+    }
+    for (name, text) in &ENVIRONMENTS {
+        let name = String::from_str(alloc, name)?;
+        samples.push((LatexError::UnknownEnvironment(name), *text))?;
+    }
+    let refusal = LatexError::UnexpectedToken {
+        expected: Token::Paren(""),
+        got: Token::Number(String::from_str(alloc, "1")?),
+    };
     let text = "The token \"Paren(\"\")\" is expected, but the token \"Number(\"1\")\" is found.\"";
-    samples.push((unexpected(Token::Paren(""), got), text))?;
+    samples.push((refusal, text))?;
     let text = "The number of dollar sings found is invalid.";
     samples.push((LatexError::InvalidNumberOfDollarSigns, text))?;
     samples.push((LatexError::OutOfMemory, "Memory could not be found."))?;
@@ -111,35 +163,42 @@ fn different_refusals_differ(rt: HostRuntime) -> Result<(), Fail> {
     Ok(())
 }
 
-/// Each kind of fault, and its text.
+/// The texts of the faults, kind by kind.
+static FAULTS: [&str; 8] = [
+    "The directory could not be listed.",
+    "An entry of the directory could not be read.",
+    "The directory lies deeper than 64 levels.",
+    "The input could not be read.",
+    "The input is not UTF-8 text.",
+    "Memory could not be found.",
+    "The file could not be created anew.",
+    "The output stopped after 2 bytes.",
+];
+
+/// The fault of this number.
+fn fault(number: usize) -> FileFault {
+    match number {
+        0 => FileFault::List,
+        1 => FileFault::Entry,
+        2 => FileFault::TooDeep,
+        3 => FileFault::Read,
+        4 => FileFault::NotText,
+        5 => FileFault::Refused(LatexError::OutOfMemory),
+        6 => FileFault::Create,
+        _ => FileFault::Write {
+            written: 2,
+            cause: WriteCause::Failed,
+        },
+    }
+}
+
 #[test]
 fn faults(rt: HostRuntime) -> Result<(), Fail> {
-    for (fault, text) in [
-        (FileFault::List, "The directory could not be listed."),
-        (
-            FileFault::Entry,
-            "An entry of the directory could not be read.",
-        ),
-        (
-            FileFault::TooDeep,
-            "The directory lies deeper than 64 levels.",
-        ),
-        (FileFault::Read, "The input could not be read."),
-        (FileFault::NotText, "The input is not UTF-8 text."),
-        (
-            FileFault::Refused(LatexError::OutOfMemory),
-            "Memory could not be found.",
-        ),
-        (FileFault::Create, "The file could not be created anew."),
-        (
-            FileFault::Write {
-                written: 2,
-                cause: WriteCause::Failed,
-            },
-            "The output stopped after 2 bytes.",
-        ),
-    ] {
-        assert!(rt; fault.to_string(rt.alloc())?.as_str() == text, "{text}");
+    for (number, text) in FAULTS.iter().enumerate() {
+        assert!(rt;
+            fault(number).to_string(rt.alloc())?.as_str() == *text,
+            "{text}"
+        );
     }
     Ok(())
 }
