@@ -167,7 +167,7 @@ class Products(unittest.TestCase):
     def test_an_edit_during_the_proofs_is_newer_than_what_is_built(self):
         program = self.root / "rt"
         program.write_text(
-            "#!/bin/sh\ncd crates/one && mkdir src && touch src/lib.rt && sleep 0.1 && touch out/one && echo 1 passed, 0 failed\n")
+            "#!/bin/sh\ncd crates/one && mkdir src && sleep 0.1 && touch src/lib.rt && sleep 0.1 && touch out/one && echo 1 passed, 0 failed\n")
         program.chmod(0o755)
         proofs = Proofs()
         proofs.words, proofs.log = [program], self.root / "log"
