@@ -149,6 +149,16 @@ class Readme(Case):
         self.assertEqual(sorted(path.name for path in folder.iterdir()), ["latex2mathml", "site", "site.old"])
 
 
+class Figures(Case):
+    """The figures of the README are those of the file that the bench writes."""
+
+    def test_instructions(self):
+        counted = dict(reversed(line.split("  ", 1)) for line in (ROOT / "bench/instructions.txt").read_text().splitlines())
+        shown = re.findall(r"^\| (?:a document of )?`?([^|`]+?)`?(?:, over and over)? \| (\d+) million, ", (ROOT / "README.md").read_text(), re.M)
+        self.assertEqual({name.strip(): int(millions) for name, millions in shown},
+                         {name.strip(): round(int(count.replace(",", "")) / 1e6) for name, count in counted.items()})
+
+
 class Versions(Case):
     """The version stands in one place, the newest heading of the change log, and all else says the same."""
 
