@@ -77,6 +77,10 @@ class BuiltSites(Recipe):
         self.assertIn(said, section("Convert a built site"))
         self.assertEqual((self.site / "public/a.html").read_text(), self.PAGE)
         self.assertEqual((self.site / "public.new/c.html").read_text(), self.converted())
+        # and again, once the page is corrected, over what the first run left
+        self.put({"public/b.html": self.PAGE})
+        self.convert()
+        self.assertEqual((self.site / "public/b.html").read_text(), self.converted())
 
     def test_several_processors(self):
         first, beside = blocks("Convert a built site", "sh")
