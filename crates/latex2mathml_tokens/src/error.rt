@@ -11,16 +11,17 @@ use std::alloc::{AllocError, AllocFailed, Global};
 use std::error::Error;
 use std::fmt;
 
-/// Why a formula is refused.
+/// Why a formula or a document is refused, or that memory is missing. Names and texts are the crate's, with its slips.
 #[derive(Debug, Drop)]
 pub enum LatexError {
-    /// A token is expected and another one is found, such as the end of the formula in an open group.
+    /// A token is expected and another one is found: a group is open at the end of the formula, or no parenthesis follows a
+    /// size.
     UnexpectedToken { expected: Token, got: Token },
-    /// A parenthesis is missing after a token, and another token is found.
+    /// No fence follows `\left` or `\right`, or what follows `\middle` does not stretch. `got` is what was found.
     MissingParensethis { location: Token, got: Token },
     /// No environment has this name.
     UnknownEnvironment(String),
-    /// The dollar signs of a document do not pair up into formulas.
+    /// The dollar signs of a document do not pair up into formulas. No formula is refused for this.
     InvalidNumberOfDollarSigns,
     /// Out of memory. A call that allocates may return it in place of any other result.
     OutOfMemory,
