@@ -1,6 +1,8 @@
 #!/usr/bin/env python3
 """Measures how many formulas per processor second are converted by calls of the library for C, from C, Python and
-Node, and by a process of the program for each. It builds what it needs with cc."""
+Node, and by a process of the program for each; and, where its folder is given, by calls of the Rust crate from Rust. It
+builds what it needs with cc, and the crate with cargo."""
+import argparse
 import importlib.util
 import os
 import pathlib
@@ -10,10 +12,15 @@ import sys
 import tempfile
 
 HOUSE = pathlib.Path(__file__).resolve().parent.parent
+sys.path.append(str(HOUSE / "diff"))
+import rust_crate  # noqa: E402
+
 FORMULAS = [
     "x<y",
-    r"x_{a}^{b}+\alpha\leq 3.14",
-    r"a_{1}x^{n}+a_{2}x^{n-1}+\beta(y-z)'=\sin\theta\cdot\cos\phi\quad\forall\epsilon>0\in\Gamma",
+    r"x_{a}^{b}+\alpha \leq 3.14",
+    r"\int_0^\infty e^{-x^2}dx=\frac{\sqrt{\pi}}{2},\quad x\in[0,\infty)",
+    r"\left(\sum_{k=1}^{n}a_kb_k\right)^2\leq\left(\sum_{k=1}^na_k^2\right)\sum_{k=1}^nb_k^2",
+    r"\begin{pmatrix}\cos\theta&-\sin\theta\\\sin\theta&\cos\theta\end{pmatrix}\binom{x}{y}=\lambda\vec{v}+\mathbf{w}_1",
 ]
 NODE = """const { formula } = require(process.argv[1]);
 for (const latex of process.argv.slice(2)) {
@@ -52,7 +59,18 @@ def words_of(command):
     return [line.split() for line in subprocess.run(command, check=True, capture_output=True, text=True).stdout.splitlines()]
 
 
+def from_the_crate(crate, scratch):
+    """How many formulas a second the crate converts, by calls of its own in Rust."""
+    if not crate:
+        return [None] * len(FORMULAS)
+    driver = rust_crate.build(crate, pathlib.Path(scratch, "driver"))
+    return [float(count) for (count,) in words_of([driver, "calls", *FORMULAS])]
+
+
 def main():
+    parser = argparse.ArgumentParser(description="Measures calls of the library for C.")
+    parser.add_argument("--crate", metavar="FOLDER", help="the folder of the Rust crate latex2mathml 0.2.3, to compare")
+    crate = parser.parse_args().crate
     program = HOUSE / "crates/latex2mathml_app/out/latex2mathml_app"
     subprocess.run([HOUSE / "latex2mathml", "inline"], input=b"", check=True, stdout=subprocess.DEVNULL)
     with tempfile.TemporaryDirectory() as scratch:
@@ -66,11 +84,13 @@ def main():
         addon = library / "examples/latex2mathml.node"
         has_node = addon.exists() and shutil.which("node")
         from_node = words_of(["node", "-e", NODE, addon, *FORMULAS]) if has_node else [["-"]] * len(FORMULAS)
-        print("bytes, C in one call, C asking first, Python, Node, a process each")
-        for latex, (size, once, twice), (node,) in zip(FORMULAS, from_c, from_node):
+        from_rust = from_the_crate(crate, scratch)
+        print("bytes, C in one call, C asking first, Python, Node, a process each, the crate from Rust, times faster from C")
+        for latex, (size, once, twice), (node,), rust in zip(FORMULAS, from_c, from_node, from_rust):
             called = a_second(lambda: python.formula(latex), 1000)
             run = a_second(lambda: subprocess.run([program, "inline"], input=latex.encode(), stdout=subprocess.PIPE, check=True), 20)
-            print(size, once, twice, f"{called:.0f}", node, f"{run:.0f}")
+            compared = [f"{rust:.0f}", f"{float(once) / rust:.2f}"] if rust else ["-", "-"]
+            print(size, once, twice, f"{called:.0f}", node, f"{run:.0f}", *compared)
 
 
 if __name__ == "__main__":

@@ -18,9 +18,11 @@ latex2mathml = {{ path = "{crate}" }}
 
 # With an argument of the program, all of standard input is one text, as for the program. With `many`, standard input is a
 # list of texts. Each has the first letter of its argument before it, and behind it a byte that never occurs in UTF-8. The
-# answers have the same form.
+# answers have the same form. With `calls`, each further argument is a formula, and a line says how often it is converted in a
+# processor second.
 MAIN = r"""
 use latex2mathml::{latex_to_mathml, replace, DisplayStyle, LatexError};
+use std::hint::black_box;
 use std::io::{stdin, stdout, BufWriter, Read, Write};
 use std::panic::{catch_unwind, set_hook};
 
@@ -48,8 +50,33 @@ fn answer_many(texts: &[u8], out: &mut impl Write) -> std::io::Result<()> {
     out.flush()
 }
 
+extern "C" {
+    // The processor time of this process, in microseconds.
+    fn clock() -> std::ffi::c_long;
+}
+
+// Conversions per processor second, over two seconds.
+fn a_second(latex: &str) -> f64 {
+    let now = || unsafe { clock() } as f64 / 1e6;
+    let start = now();
+    let mut calls = 0.0;
+    while now() - start < 2.0 {
+        for _ in 0..1000 {
+            black_box(latex_to_mathml(black_box(latex), DisplayStyle::Inline).unwrap());
+        }
+        calls += 1000.0;
+    }
+    calls / (now() - start)
+}
+
 fn main() {
     let word = std::env::args().nth(1).expect("a word");
+    if word == "calls" {
+        for latex in std::env::args().skip(2) {
+            println!("{:.0}", a_second(&latex));
+        }
+        return;
+    }
     let mut input = Vec::new();
     stdin().read_to_end(&mut input).unwrap();
     if word == "many" {

@@ -1,10 +1,10 @@
-"""The command table as docs/LANGUAGE.md lists it, and as the definitions of the proofs have it: names, and texts of tokens."""
+"""The command table as docs/COMMANDS.md lists it, and as the definitions of the proofs have it: names, and texts of tokens."""
 import functools
 import re
 
 from tests.support import ROOT
 
-PAGE = ROOT / "docs/LANGUAGE.md"
+PAGE = ROOT / "docs/COMMANDS.md"
 (DEFINITIONS,) = ROOT.glob("crates/*/specs/Commands.antt")
 
 
@@ -31,14 +31,14 @@ SHAPES = {"c": character, "p": quoted, "f": quoted, "s": quoted, "v": str, "d": 
 
 @functools.cache
 def on_the_page():
-    """The text of each command's token, by docs/LANGUAGE.md."""
+    """The text of each command's token, by docs/COMMANDS.md."""
     text = PAGE.read_text(encoding="utf-8")
-    text = text[text.index("\n### Letters"):]
+    text = text[text.index("\n## Letters"):]
     kinds = list(KIND.finditer(text))
     ends = [kind.start() for kind in kinds[1:]] + [len(text)]
     tokens = {}
     for kind, end in zip(kinds, ends):
-        for name, token in entries(kind, text[kind.end():end].partition("\n###")[0]):
+        for name, token in entries(kind, text[kind.end():end].partition("\n##")[0]):
             if tokens.setdefault(name, token) != token:
                 raise WrongTable(f"{PAGE.name}: \\{name} is {tokens[name]} and {token}")
     return tokens

@@ -47,11 +47,10 @@ class Production:
     nodes: int = 1
     styled: str | None = None
     innermost: str = X
-    deepest: int | None = None
 
     def levels(self, nodes):
-        """How many of these stand one in the other in a formula that is so many nodes deep."""
-        return min(nodes // self.nodes, self.deepest or nodes)
+        """How many of these are nested in a formula that is so many nodes deep."""
+        return nodes // self.nodes
 
     def nested(self, levels):
         before, behind = self.formula.split("@")
@@ -137,9 +136,8 @@ PRODUCTIONS = [
     Production("a matrix in bars", "\\begin{vmatrix}@&y\\end{vmatrix}", between("|", table(f"@</mtd><mtd>{Y}"), "|"), END,
                nodes=2),
     Production("what has a style", "\\mathbf{@}", "@", styled="@", innermost=BOLD.format("x")),
-    # Each style goes through all rows in it, so this costs the square of its depth: raise it once that is mended.
     Production("a row that has a style", "\\mathbf{y@}", f"<mrow>{BOLD_Y}@</mrow>", styled=f"<mrow>{BOLD_Y}@</mrow>",
-               innermost=BOLD.format("x"), deepest=5_000),
+               innermost=BOLD.format("x")),
 ]
 
 

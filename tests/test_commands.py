@@ -1,4 +1,4 @@
-"""Checks each entry of cases/commands.txt against the program, the library for C, docs/LANGUAGE.md and the definitions."""
+"""Checks each entry of cases/commands.txt against the program, the library for C, docs/COMMANDS.md and the definitions."""
 import re
 import unittest
 

@@ -1,5 +1,5 @@
-"""Formulas that are a million nodes deep, or as wide, on a stack of 8 MiB: printed, in a style, and let go behind a refusal.
-Formulas a quarter as deep, on a quarter of that stack: cut off, and let go where a request for memory is refused.
+"""Formulas that are a million nodes deep, or as wide, on a stack of 8 MiB: printed, in a style, and dropped after a refusal.
+Formulas a quarter as deep, on a quarter of that stack: cut off, and dropped after a refused request for memory.
 
 Each kind of node and each place in it is tried, nested in itself; `productions.py` has them.
 """

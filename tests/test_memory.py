@@ -98,11 +98,11 @@ class Refused(support.Case):
 
 
 class Library(Refused):
-    """Calls of the library: they answer want of memory, or what they answer with ample memory."""
+    """Calls of the library: they return out of memory, or what they return with ample memory."""
 
 
 class Program(Refused):
-    """The whole program: what it does with ample memory, or one line that tells want of memory.
+    """The whole program: what it does with ample memory, or one line that says that memory could not be found.
 
     Where that line, or the one that is due, finds no memory itself, there is none.
     """

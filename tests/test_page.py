@@ -137,21 +137,20 @@ def data(name):
     return (PAGES / name).read_text().splitlines()
 
 
-def language():
-    """The part of docs/LANGUAGE.md that lists the commands."""
-    text = (support.ROOT / "docs/LANGUAGE.md").read_text()
-    return text[text.index("\n## The commands"):]
+def table():
+    """The page that lists the commands."""
+    return (support.ROOT / "docs/COMMANDS.md").read_text()
 
 
 def commands(text):
-    """The commands that stand in a part of docs/LANGUAGE.md, each once."""
+    """The commands that stand in a part of docs/COMMANDS.md, each once."""
     return sorted({name for name in re.findall(r"`(\\[^`]*)`", text) if len(name) > 1})
 
 
 def signs():
     """What is read as a sign: the operators and parentheses among the commands, sums and integrals, and single characters."""
-    listed = language()
-    operators = listed[listed.index("\n### Operators"):listed.index("\n### Parentheses")]
+    listed = table()
+    operators = listed[listed.index("\n## Operators"):listed.index("\n## Parentheses")]
     parts = [operators, *re.findall(r"\n- `(?:Paren|BigOp|Integral)\(.*?(?=\n- )", listed, re.DOTALL)]
     return [*"=;,.+-*/!<>()[]|:", ":=", *commands("".join(parts))]
 
@@ -182,14 +181,14 @@ class Gallery(support.Case):
         self.assertTrue(done.stdout == (support.ROOT / "docs/gallery.html").read_bytes(), "tools/draw-gallery makes it anew")
 
     def test_language_lists_the_commands(self):
-        self.assertGreater(len(commands(language())), 400)
+        self.assertGreater(len(commands(table())), 400)
 
     def test_gallery_shows_each_command(self):
         source = (support.ROOT / "docs/gallery.source.html").read_text()
         shown = set()
         for formula in re.findall("<code>(.*)</code>", source):
             shown.update(re.findall(r"\\(?:[A-Za-z]+|.)", html.unescape(formula)))
-        self.assertEqual([name for name in commands(language()) if name not in shown], [])
+        self.assertEqual([name for name in commands(table()) if name not in shown], [])
 
 
 class Links(support.Case):

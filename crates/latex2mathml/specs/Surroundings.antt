@@ -1,27 +1,27 @@
 -- What surrounds the formulas of a document, where it is markup: its prose, with an element in each formula's place.
 use Rattle.std.specs.Prelude.{◌≡◌, ℕ, Bool, List, [], ◌∷◌, Some, codes}
 use Rattle.latex2mathml.specs.Documents.{Piece, prose, inline, display, prose_answer, IsCut}
-use Rattle.latex2mathml_nodes.specs.Markup.{Name, Levels, Schema, Leads, any_element, at_start, empty_tag, lowest, step}
+use Rattle.latex2mathml_nodes.specs.Markup.{Name, OpenElements, Schema, Runs, any_element, at_start, empty_tag, lowest, step}
 use Rattle.latex2mathml_nodes.specs.Pages.{page_schema}
 
 -- a formula may stand at these levels, and leads to those: it counts as a `math` element that holds nothing
-abbrev pub TakesFormula : Schema → Levels → Levels → Type 0
+abbrev pub TakesFormula : Schema → OpenElements → OpenElements → Type 0
 TakesFormula schema start end = step schema (empty_tag (codes "math") []) start ≡ Some end
 
 -- the prose of the pieces, as it stands in the answer, leads from some levels to others
-abbrev pub ProseLeads : Schema → List Piece → Levels → Levels → Type 0
-ProseLeads schema [] start end = start ≡ end
-ProseLeads schema (prose text ∷ pieces) start end =
-    (middle : Levels) × Leads schema (prose_answer text) start middle × ProseLeads schema pieces middle end
-ProseLeads schema (inline body ∷ pieces) start end =
-    (middle : Levels) × TakesFormula schema start middle × ProseLeads schema pieces middle end
-ProseLeads schema (display body ∷ pieces) start end =
-    (middle : Levels) × TakesFormula schema start middle × ProseLeads schema pieces middle end
+abbrev pub ProseRuns : Schema → List Piece → OpenElements → OpenElements → Type 0
+ProseRuns schema [] start end = start ≡ end
+ProseRuns schema (prose text ∷ pieces) start end =
+    (middle : OpenElements) × Runs schema (prose_answer text) start middle × ProseRuns schema pieces middle end
+ProseRuns schema (inline body ∷ pieces) start end =
+    (middle : OpenElements) × TakesFormula schema start middle × ProseRuns schema pieces middle end
+ProseRuns schema (display body ∷ pieces) start end =
+    (middle : OpenElements) × TakesFormula schema start middle × ProseRuns schema pieces middle end
 
 -- and it closes what it opens
 abbrev pub HasClosedProse : Schema → List ℕ → Type 0
 HasClosedProse schema document =
-    (pieces : List Piece) × IsCut document pieces × ((children : List Name) × ((has_text : Bool) × ProseLeads schema pieces at_start (lowest children has_text)))
+    (pieces : List Piece) × IsCut document pieces × ((children : List Name) × ((has_text : Bool) × ProseRuns schema pieces at_start (lowest children has_text)))
 
 -- the prose is balanced around the formulas
 abbrev pub HasBalancedProse : List ℕ → Type 0

@@ -47,7 +47,7 @@ enum Kind {
 ///   other entries of the directory, once for each such entry.
 /// - [`FileFault::TooDeep`]: the directory lies below 64 others, the one handed in among them, and was not read.
 /// - [`FileFault::Read`], [`FileFault::NotText`], [`FileFault::Refused`]: the document could not be opened or read, is
-///   not UTF-8, or is refused, also for want of memory. It holds what it held.
+///   not UTF-8, or is refused, also when out of memory. It holds what it held.
 /// - [`FileFault::Create`]: the document could not be opened to be written anew.
 /// - [`FileFault::Write`]: it was opened and emptied, and then took only the first `written` bytes of its answer. The
 ///   rest of what it held is lost.

@@ -10,6 +10,7 @@ ghost use Rattle.latex2mathml.specs.Documents.{IsAnswer, IsRefusal};
 ghost use Rattle.latex2mathml_formulas.specs.Dollars.{IsDollarFree};
 ghost use Rattle.latex2mathml_tokens.specs.Refusal.{IfRefused, refusal_of};
 
+pub mod ast;
 mod document;
 mod error;
 mod files;
@@ -21,7 +22,6 @@ pub use error::{FileFault, WriteCause};
 pub use files::{Unconverted, convert_html};
 pub use input::{Reading, read_document, read_text};
 pub use latex2mathml_formulas::{Steps, latex_to_mathml, latex_to_mathml_counted};
-pub use latex2mathml_nodes::ast;
 pub use latex2mathml_tokens::{DisplayStyle, LatexError, attribute, token};
 use std::alloc::Global;
 pub use stream::{Sink, Source, Stream, write_document, write_text};

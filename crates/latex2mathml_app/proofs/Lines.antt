@@ -11,14 +11,14 @@ use Rattle.latex2mathml.specs.declared.error.FileFault.TheVariants.{List as Unli
 use Rattle.latex2mathml.specs.declared.error.WriteCause.{WriteCause}
 use Rattle.latex2mathml.specs.declared.error.WriteCause.TheVariants.{Failed, TookNothing}
 use Rattle.latex2mathml.specs.declared.files.Unconverted.{Unconverted}
-use Rattle.latex2mathml_app.specs.Serving.{AreSaid, ArePut, AreTold, IsSilent, done, not_done, StoppedAt, IsTaken, IsPut, Whole, Found, LeftOut, Stopped, unconverted_line}
+use Rattle.latex2mathml_app.specs.Serving.{JoinsSomeOf, LinesPrinted, ExitsWithLines, IsSilent, done, not_done, StoppedAt, LineWritten, LinePrinted, Whole, Found, LeftOut, Stopped, unconverted_line}
 
 -- a writing of a line ends in one of these ways
 pub put : (line : List ℕ) (old new : StreamState) (result : Result Unit FileFault)
     → OnOk result (Takes old new line)
     → OnOk result (CanGoOn new)
     → IfErr result (λ fault. IsStopped fault line old new)
-    → IsTaken line old new
+    → LineWritten line old new
 put line old new (Ok _) taken ready stopped = Whole ready taken
 put line old new (Err (Write written cause)) taken ready stopped = Stopped written cause stopped
 put line old new (Err Read) taken ready stopped = absurd stopped
@@ -30,8 +30,8 @@ put line old new (Err TooDeep) taken ready stopped = absurd stopped
 put line old new (Err Create) taken ready stopped = absurd stopped
 
 -- a line that memory was found for, and that is this one
-pub put_same : (line text : List ℕ) (old new : StreamState) → line ≡ text → IsTaken line old new → IsPut text old new
-put_same line text old new same is = Found (subst (λ l. IsTaken l old new) same is)
+pub put_same : (line text : List ℕ) (old new : StreamState) → line ≡ text → LineWritten line old new → LinePrinted text old new
+put_same line text old new same is = Found (subst (λ l. LineWritten l old new) same is)
 
 halted : (cause : WriteCause) (new : StreamState) → IsCause cause new → ¬ CanGoOn new
 halted Failed new (failed, _) (unfailed, _) = let k : true ≡ false = sym failed ∙ unfailed in cc
@@ -58,13 +58,13 @@ can_go_on line old new (Err TooDeep) told is ready stopped = absurd stopped
 can_go_on line old new (Err Create) told is ready stopped = absurd stopped
 
 -- one more line is written, or left out
-said_more : (lines : List (List ℕ)) (line text : List ℕ) → AreSaid lines text → AreSaid (lines ++ (line ∷ [])) (text ++ line)
+said_more : (lines : List (List ℕ)) (line text : List ℕ) → JoinsSomeOf lines text → JoinsSomeOf (lines ++ (line ∷ [])) (text ++ line)
 said_more [] line text is = inr ([], ap (λ t. t ++ line) is ∙ sym (append-nil line), refl)
 said_more (first ∷ lines) line text (inl is) = inl (said_more lines line text is)
 said_more (first ∷ lines) line text (inr (rest, begins, is)) =
     inr (rest ++ line, ap (λ t. t ++ line) begins ∙ append_assoc first rest line, said_more lines line rest is)
 
-said_less : (lines : List (List ℕ)) (line text : List ℕ) → AreSaid lines text → AreSaid (lines ++ (line ∷ [])) text
+said_less : (lines : List (List ℕ)) (line text : List ℕ) → JoinsSomeOf lines text → JoinsSomeOf (lines ++ (line ∷ [])) text
 said_less [] line text is = inl is
 said_less (first ∷ lines) line text (inl is) = inl (said_less lines line text is)
 said_less (first ∷ lines) line text (inr (rest, begins, is)) = inr (rest, begins, said_less lines line rest is)
@@ -76,8 +76,8 @@ appends_kept (Some x) (Some y) None text p q = absurd q
 appends_kept (Some x) (Some y) (Some z) text p q = q ∙ p
 
 next_said : (start old new : StreamState) (lines : List (List ℕ)) (line text : List ℕ)
-    → AreSaid lines text → Takes start old text → IsPut line old new → CanGoOn new
-    → (next : List ℕ) × AreSaid (lines ++ (line ∷ [])) next × Takes start new next
+    → JoinsSomeOf lines text → Takes start old text → LinePrinted line old new → CanGoOn new
+    → (next : List ℕ) × JoinsSomeOf (lines ++ (line ∷ [])) next × Takes start new next
 next_said start old new lines line text said so_far (Found (Whole ready takes)) can =
     (text ++ line, said_more lines line text said, Appends-trans start.bytes old.bytes new.bytes text line so_far takes)
 next_said start old new lines line text said so_far (LeftOut (ready, keeps)) can =
@@ -88,27 +88,27 @@ next_said start old new lines line text said so_far (Found (Stopped written caus
 pub put_next : (start old new : StreamState) (all : List Unconverted) (index : ℕ) (one : Unconverted) (text : List ℕ)
     → index < length all
     → one ≡ slice_index_or all index one
-    → AreSaid (map unconverted_line (take index all)) text
+    → JoinsSomeOf (map unconverted_line (take index all)) text
     → Takes start old text
-    → IsPut (unconverted_line one) old new
+    → LinePrinted (unconverted_line one) old new
     → CanGoOn new
-    → (next : List ℕ) × AreSaid (map unconverted_line (take (index + 1) all)) next × Takes start new next
+    → (next : List ℕ) × JoinsSomeOf (map unconverted_line (take (index + 1) all)) next × Takes start new next
 put_next start old new all index one text inside is said so_far put can =
     let lines = map unconverted_line (take index all) in
     let line = unconverted_line one in
     let more : lines ++ (line ∷ []) ≡ map unconverted_line (take (index + 1) all) = sym (ap (map unconverted_line) (take_more all index one inside ∙ ap (λ x. take index all ++ (x ∷ [])) (sym is)) ∙ map-append unconverted_line (take index all) (one ∷ [])) in
     let next = next_said start old new lines line text said so_far put can in
-    (next.0, subst (λ l. AreSaid l next.0) more next.1, next.2)
+    (next.0, subst (λ l. JoinsSomeOf l next.0) more next.1, next.2)
 
 -- the stream stopped within a line
 pub put_last : (start old new : StreamState) (all : List Unconverted) (index : ℕ) (one : Unconverted) (text : List ℕ)
     → index < length all
     → one ≡ slice_index_or all index one
-    → AreSaid (map unconverted_line (take index all)) text
+    → JoinsSomeOf (map unconverted_line (take index all)) text
     → Takes start old text
-    → IsPut (unconverted_line one) old new
+    → LinePrinted (unconverted_line one) old new
     → ¬ CanGoOn new
-    → ArePut (map unconverted_line all) start new
+    → LinesPrinted (map unconverted_line all) start new
 put_last start old new all index one text inside is said so_far (Found (Whole ready takes)) stopped = absurd (stopped ready)
 put_last start old new all index one text inside is said so_far (LeftOut (ready, keeps)) stopped = absurd (stopped ready)
 put_last start old new all index one text inside is said so_far (Found (Stopped written cause at)) stopped =
@@ -122,10 +122,10 @@ two (a ∷ b ∷ []) first second least most is also = cc
 two (a ∷ b ∷ c ∷ all) first second least most is also = absurd (omega arith)
 
 -- what is told of nothing, and of something
-pub none_told : (all : List Unconverted) (old new : StreamState) → true ≡ (length all == 0) → IsSilent old new → AreTold all old new done
+pub none_told : (all : List Unconverted) (old new : StreamState) → true ≡ (length all == 0) → IsSilent old new → ExitsWithLines all old new done
 none_told [] old new is silent = (refl, silent)
 none_told (one ∷ more) old new is silent = absurd (let k : suc (length more) ≡ 0 = true-eqb _ _ is in cc)
 
-pub some_told : (all : List Unconverted) (old new : StreamState) → false ≡ (length all == 0) → ArePut (map unconverted_line all) old new → AreTold all old new not_done
+pub some_told : (all : List Unconverted) (old new : StreamState) → false ≡ (length all == 0) → LinesPrinted (map unconverted_line all) old new → ExitsWithLines all old new not_done
 some_told [] old new is put = absurd (let k : false ≡ true = is in cc)
 some_told (one ∷ more) old new is put = (refl, put)

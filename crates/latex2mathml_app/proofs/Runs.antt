@@ -8,11 +8,11 @@ use Rattle.latex2mathml.specs.Inputs.{IsMissed}
 use Rattle.latex2mathml.specs.Streams.{CanGoOn, StreamState}
 use Rattle.latex2mathml.specs.declared.error.FileFault.{FileFault}
 use Rattle.latex2mathml.specs.declared.error.FileFault.TheVariants.{List as Unlisted, Entry, TooDeep, Read, NotText, Refused, Create, Write}
-use Rattle.latex2mathml_app.specs.Run.{IsOutcomeOn}
+use Rattle.latex2mathml_app.specs.Run.{IsRunOn}
 
 missed : (conversion : Conversion) (bytes : List ℕ) (input old new : StreamState) (fault : FileFault)
     → IsMissed conversion bytes input fault → CanGoOn new → Keeps old.bytes new.bytes
-    → IsOutcomeOn bytes conversion input old new (Err fault)
+    → IsRunOn bytes conversion input old new (Err fault)
 missed conversion bytes input old new Read is ready keeps = (is, ready, keeps)
 missed conversion bytes input old new NotText is ready keeps = (is, ready, keeps)
 missed conversion bytes input old new (Refused error) is ready keeps = (is, ready, keeps)
@@ -26,7 +26,7 @@ missed conversion bytes input old new Create is ready keeps = absurd is
 pub missed_by : (conversion : Conversion) (bytes : List ℕ) (input output : StreamState) (fault : FileFault)
     (result : Result Unit FileFault) → IsErrAnd result (λ e. e ≡ fault)
     → IsMissed conversion bytes input fault → CanGoOn output
-    → IsOutcomeOn bytes conversion input output output result
+    → IsRunOn bytes conversion input output output result
 missed_by conversion bytes input output fault (Ok done) h is ready = elim h [ ]
 missed_by conversion bytes input output fault (Err e) h is ready =
     missed conversion bytes input output output e (subst (IsMissed conversion bytes input) (sym h) is) ready (Keeps-refl output.bytes)

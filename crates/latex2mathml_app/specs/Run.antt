@@ -40,22 +40,22 @@ IsMade conversion old new result =
     × IsMadeOf conversion bytes new result
 
 -- what a run on the bytes read may come to, by what is known of the input then, and of the output before and then
-abbrev pub IsOutcomeOn : List ℕ → Conversion → StreamState → StreamState → StreamState → Result Unit FileFault → Type 0
-IsOutcomeOn bytes conversion input old new (Ok _) =
+abbrev pub IsRunOn : List ℕ → Conversion → StreamState → StreamState → StreamState → Result Unit FileFault → Type 0
+IsRunOn bytes conversion input old new (Ok _) =
     IsWholeText bytes input
     × CanGoOn new
     × ((product : List ℕ) × IsProduct conversion bytes product × Takes old new product)
-IsOutcomeOn bytes conversion input old new (Err (Write written cause)) =
+IsRunOn bytes conversion input old new (Err (Write written cause)) =
     IsWholeText bytes input
     × ((product : List ℕ) × IsProduct conversion bytes product × IsStopped (Write written cause) product old new)
-IsOutcomeOn bytes conversion input old new (Err fault) =
+IsRunOn bytes conversion input old new (Err fault) =
     IsMissed conversion bytes input fault
     × CanGoOn new
     × Keeps old.bytes new.bytes
 
 -- what a run of the job may come to, by what is known of the input before and after it, and of the output
-abbrev pub IsOutcome : Job → StreamState → StreamState → StreamState → StreamState → Result Unit FileFault → Type 0
-IsOutcome job input_old input_new output_old output_new result =
+abbrev pub IsRun : Job → StreamState → StreamState → StreamState → StreamState → Result Unit FileFault → Type 0
+IsRun job input_old input_new output_old output_new result =
     (bytes : List ℕ)
     × Gives input_old input_new bytes
-    × IsOutcomeOn bytes (conversion_of job) input_new output_old output_new result
+    × IsRunOn bytes (conversion_of job) input_new output_old output_new result

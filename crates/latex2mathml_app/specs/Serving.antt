@@ -9,7 +9,7 @@ use Rattle.latex2mathml.specs.declared.error.FileFault.TheVariants.{Refused, Wri
 use Rattle.latex2mathml.specs.declared.error.WriteCause.{WriteCause}
 use Rattle.latex2mathml.specs.declared.files.Unconverted.{Unconverted}
 use Rattle.latex2mathml.specs.Formulas.{OutOfMemory}
-use Rattle.latex2mathml_app.specs.Run.{IsOutcome}
+use Rattle.latex2mathml_app.specs.Run.{IsRun}
 use Rattle.latex2mathml_app.specs.declared.job.Job.{Job}
 use Rattle.latex2mathml_app.specs.declared.job.Job.TheVariants.{Inline, Block, Document}
 
@@ -55,47 +55,47 @@ abbrev pub IsSilent : StreamState → StreamState → Type 0
 IsSilent old new = CanGoOn new × Keeps old.bytes new.bytes
 
 -- what putting a line on a stream may come to, where the line is at hand
-pub data IsTaken (line : List ℕ) (old new : StreamState) : Type 0 where
+pub data LineWritten (line : List ℕ) (old new : StreamState) : Type 0 where
   -- the stream took the line
   Whole : CanGoOn new
       → Takes old new line
-      → IsTaken line old new
+      → LineWritten line old new
   -- the stream took the first bytes of the line, and failed or took no more
   Stopped : (written : ℕ) (cause : WriteCause)
       → IsStopped (Write written cause) line old new
-      → IsTaken line old new
+      → LineWritten line old new
 
 -- what putting a line on a stream may come to, where memory is asked for the line
-pub data IsPut (line : List ℕ) (old new : StreamState) : Type 0 where
+pub data LinePrinted (line : List ℕ) (old new : StreamState) : Type 0 where
   -- memory was found
-  Found : IsTaken line old new → IsPut line old new
+  Found : LineWritten line old new → LinePrinted line old new
   -- no memory was found for the line
-  LeftOut : IsSilent old new → IsPut line old new
+  LeftOut : IsSilent old new → LinePrinted line old new
 
 -- the text is the lines in their order, some of them left out
-abbrev pub AreSaid : List (List ℕ) → List ℕ → Type 0
-AreSaid [] text = text ≡ []
-AreSaid (line ∷ lines) text =
-    AreSaid lines text
-    ⊎ ((rest : List ℕ) × (text ≡ line ++ rest) × AreSaid lines rest)
+abbrev pub JoinsSomeOf : List (List ℕ) → List ℕ → Type 0
+JoinsSomeOf [] text = text ≡ []
+JoinsSomeOf (line ∷ lines) text =
+    JoinsSomeOf lines text
+    ⊎ ((rest : List ℕ) × (text ≡ line ++ rest) × JoinsSomeOf lines rest)
 
 -- what putting lines on a stream may come to
-pub data ArePut (lines : List (List ℕ)) (old new : StreamState) : Type 0 where
+pub data LinesPrinted (lines : List (List ℕ)) (old new : StreamState) : Type 0 where
   -- the stream took each line for which memory was found
   AllPut : CanGoOn new
       → (text : List ℕ)
-      → AreSaid lines text
+      → JoinsSomeOf lines text
       → Takes old new text
-      → ArePut lines old new
+      → LinesPrinted lines old new
   -- the stream took so much of the lines before one of them, then the first bytes of that one, and failed or took no more
   StoppedAt : (before : List (List ℕ)) (line : List ℕ) (after : List (List ℕ))
       → lines ≡ before ++ (line ∷ after)
       → (text : List ℕ) (middle : StreamState)
-      → AreSaid before text
+      → JoinsSomeOf before text
       → Takes old middle text
       → (written : ℕ) (cause : WriteCause)
       → IsStopped (Write written cause) line middle new
-      → ArePut lines old new
+      → LinesPrinted lines old new
 
 -- the status where a run is done, where it is not, and where the words are wrong
 abbrev pub done : ℕ
@@ -108,26 +108,26 @@ abbrev pub wrong_words : ℕ
 wrong_words = 2
 
 -- the status and the stream of errors tell what a run came to
-abbrev pub IsTold : Result Unit FileFault → StreamState → StreamState → ℕ → Type 0
-IsTold (Ok _) old new status = (status ≡ done) × IsSilent old new
-IsTold (Err fault) old new status = (status ≡ not_done) × IsPut (fault_line fault) old new
+abbrev pub ExitsWith : Result Unit FileFault → StreamState → StreamState → ℕ → Type 0
+ExitsWith (Ok _) old new status = (status ≡ done) × IsSilent old new
+ExitsWith (Err fault) old new status = (status ≡ not_done) × LinePrinted (fault_line fault) old new
 
 -- the status and the stream of errors tell what was not converted
-abbrev pub AreTold : List Unconverted → StreamState → StreamState → ℕ → Type 0
-AreTold [] old new status = (status ≡ done) × IsSilent old new
-AreTold (one ∷ more) old new status = (status ≡ not_done) × ArePut (map unconverted_line (one ∷ more)) old new
+abbrev pub ExitsWithLines : List Unconverted → StreamState → StreamState → ℕ → Type 0
+ExitsWithLines [] old new status = (status ≡ done) × IsSilent old new
+ExitsWithLines (one ∷ more) old new status = (status ≡ not_done) × LinesPrinted (map unconverted_line (one ∷ more)) old new
 
 -- the status and the stream of errors tell what converting the files under a path came to
-pub data AreFilesTold (path : List ℕ) (old new : StreamState) (status : ℕ) : Type 0 where
+pub data ExitsAfterWalk (path : List ℕ) (old new : StreamState) (status : ℕ) : Type 0 where
   -- the files were walked, and these were not converted
-  Told : (unconverted : List Unconverted)
+  WalkEnded : (unconverted : List Unconverted)
       → IsWalk levels_read path unconverted
-      → AreTold unconverted old new status
-      → AreFilesTold path old new status
+      → ExitsWithLines unconverted old new status
+      → ExitsAfterWalk path old new status
   -- no memory was found to walk on
   NoMemory : status ≡ not_done
-      → IsTaken (fault_line (Refused OutOfMemory)) old new
-      → AreFilesTold path old new status
+      → LineWritten (fault_line (Refused OutOfMemory)) old new
+      → ExitsAfterWalk path old new status
 
 -- what serving the words may come to, by what is known of the input, the output and the stream of errors before, and of
 -- each of them then
@@ -136,17 +136,17 @@ pub data IsServed (words : List (List ℕ)) (input_old input_new output_old outp
   WrongWords : AreWrong words
       → status ≡ wrong_words
       → (usage : List ℕ)
-      → IsPut usage errors_old errors_new
+      → LinePrinted usage errors_old errors_new
       → IsServed words input_old input_new output_old output_new errors_old errors_new status
   -- the job that the words ask for was run
   Ran : (job : Job)
       → AskFor job words
       → (result : Result Unit FileFault)
-      → IsOutcome job input_old input_new output_old output_new result
-      → IsTold result errors_old errors_new status
+      → IsRun job input_old input_new output_old output_new result
+      → ExitsWith result errors_old errors_new status
       → IsServed words input_old input_new output_old output_new errors_old errors_new status
   -- the files under the path that the words name were converted
   Walked : (path : List ℕ)
       → AskForFiles path words
-      → AreFilesTold path errors_old errors_new status
+      → ExitsAfterWalk path errors_old errors_new status
       → IsServed words input_old input_new output_old output_new errors_old errors_new status

@@ -4,7 +4,7 @@ ghost use Rattle.std.specs.Io.KnownBytes.{IsAtEnd};
 ghost use Rattle.latex2mathml.specs.Conversions.{formula, document};
 ghost use Rattle.latex2mathml.specs.Formulas.{IfRefused, IsFormulaRefusal};
 ghost use Rattle.latex2mathml.specs.Streams.{CanGoOn};
-ghost use Rattle.latex2mathml_app.specs.Run.{IsMade, IsOutcome, IsProduct, conversion_of};
+ghost use Rattle.latex2mathml_app.specs.Run.{IsMade, IsRun, IsProduct, conversion_of};
 
 use latex2mathml::{
     DisplayStyle, FileFault, LatexError, Reading, Sink, Source, latex_to_mathml, laws,
@@ -38,7 +38,7 @@ pub fn run<R: Source, W: Sink>(
 ) -> Result<(), FileFault>
     requires input { CanGoOn (R.state input.old) }
     requires output { CanGoOn (W.state output.old) }
-    ensures outcome { IsOutcome job (R.state input.old) (R.state input.new)
+    ensures outcome { IsRun job (R.state input.old) (R.state input.new)
         (W.state output.old) (W.state output.new) result }
     ensures all_read { IsTrue (R.state input.new).ended → IsAtEnd (R.state input.new).bytes }
 {

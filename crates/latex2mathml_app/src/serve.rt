@@ -2,7 +2,7 @@
 ghost use Rattle.std.specs.Prelude.{◌≡◌, ◌↔◌, ℕ, List, IfNone, IfSome, IsTrue, map, string_bytes};
 ghost use Rattle.std.specs.Io.KnownBytes.{IsAtEnd};
 ghost use Rattle.latex2mathml.specs.Streams.{CanGoOn};
-ghost use Rattle.latex2mathml_app.specs.Serving.{AreFilesTold, ArePut, AreTold, AskFor, AskForFiles, AskForNoFiles, AskForNoJob, IsPut, IsServed, IsTaken, fault_line, unconverted_line, word_of, wrong_words};
+ghost use Rattle.latex2mathml_app.specs.Serving.{ExitsAfterWalk, LinesPrinted, ExitsWithLines, AskFor, AskForFiles, AskForNoFiles, AskForNoJob, LinePrinted, IsServed, LineWritten, fault_line, unconverted_line, word_of, wrong_words};
 
 use crate::job::{Job, run};
 use latex2mathml::{FileFault, Sink, Source, Unconverted, convert_html, write_text};
@@ -15,7 +15,7 @@ use thiserror::Error;
 #[error("usage: latex2mathml inline | block | document | html PATH")]
 struct Usage;
 
-/// The line that tells want of memory, for which no memory has to be found.
+/// The line that is printed when out of memory. It takes no memory itself.
 const OUT_OF_MEMORY: &str = "LaTeX2MathML Error: Memory could not be found.\n";
 
 const DONE: u8 = 0;
@@ -110,7 +110,7 @@ fn convert<F: Files + Alloc + Clone + Drop, E: Sink>(
     errors: &mut E,
 ) -> u8
     requires { CanGoOn (E.state errors.old) }
-    ensures told { AreFilesTold path.now
+    ensures told { ExitsAfterWalk path.now
         (E.state errors.old) (E.state errors.new) result }
 {
     let Ok(unconverted) = convert_html(rt, alloc, path) else {
@@ -123,7 +123,7 @@ fn convert<F: Files + Alloc + Clone + Drop, E: Sink>(
 /// Puts out a line for each of these, and answers the status: they were not converted.
 fn tell<E: Sink>(alloc: Global, errors: &mut E, all: &[Unconverted]) -> u8
     requires { CanGoOn (E.state errors.old) }
-    ensures told { AreTold all.now
+    ensures told { ExitsWithLines all.now
         (E.state errors.old) (E.state errors.new) result }
 {
     if all.is_empty() {
@@ -136,7 +136,7 @@ fn tell<E: Sink>(alloc: Global, errors: &mut E, all: &[Unconverted]) -> u8
 /// Puts out a line for each of these, up to one that the stream does not take whole.
 fn put_all_unconverted<E: Sink>(alloc: Global, errors: &mut E, all: &[Unconverted])
     requires { CanGoOn (E.state errors.old) }
-    ensures put { ArePut (map unconverted_line all.now) (E.state errors.old) (E.state errors.new) }
+    ensures put { LinesPrinted (map unconverted_line all.now) (E.state errors.old) (E.state errors.new) }
 {
     for unconverted in all {
         if !put_unconverted(alloc, errors, unconverted) {
@@ -149,7 +149,7 @@ fn put_all_unconverted<E: Sink>(alloc: Global, errors: &mut E, all: &[Unconverte
 /// stream can take more.
 fn put_unconverted<E: Sink>(alloc: Global, errors: &mut E, unconverted: &Unconverted) -> bool
     requires { CanGoOn (E.state errors.old) }
-    ensures put { IsPut (unconverted_line unconverted.now) (E.state errors.old) (E.state errors.new) }
+    ensures put { LinePrinted (unconverted_line unconverted.now) (E.state errors.old) (E.state errors.new) }
     ensures ready { IsTrue result ↔ CanGoOn (E.state errors.new) }
 {
     let path = unconverted.path.as_str();
@@ -164,7 +164,7 @@ fn put_unconverted<E: Sink>(alloc: Global, errors: &mut E, unconverted: &Unconve
 fn put_usage<E: Sink>(alloc: Global, errors: &mut E)
     requires { CanGoOn (E.state errors.old) }
     // what is derived for `Usage` says nothing of its text
-    ensures put { (line : List ℕ) × IsPut line (E.state errors.old) (E.state errors.new) }
+    ensures put { (line : List ℕ) × LinePrinted line (E.state errors.old) (E.state errors.new) }
 {
     if let Ok(line) = format!(in alloc; "{}\n", Usage) {
         put_line(errors, line.as_str());
@@ -174,7 +174,7 @@ fn put_usage<E: Sink>(alloc: Global, errors: &mut E)
 /// Puts out the line that tells the fault, where memory is found for it.
 fn put_fault<E: Sink>(alloc: Global, errors: &mut E, fault: &FileFault)
     requires { CanGoOn (E.state errors.old) }
-    ensures put { IsPut (fault_line fault.now) (E.state errors.old) (E.state errors.new) }
+    ensures put { LinePrinted (fault_line fault.now) (E.state errors.old) (E.state errors.new) }
 {
     if let Ok(line) = format!(in alloc; "LaTeX2MathML Error: {fault}\n") {
         put_line(errors, line.as_str());
@@ -184,7 +184,7 @@ fn put_fault<E: Sink>(alloc: Global, errors: &mut E, fault: &FileFault)
 /// Puts out the line, or its first bytes where the stream stops, and answers whether it can take more.
 fn put_line<E: Sink>(errors: &mut E, line: &str) -> bool
     requires { CanGoOn (E.state errors.old) }
-    ensures put { IsTaken line.now (E.state errors.old) (E.state errors.new) }
+    ensures put { LineWritten line.now (E.state errors.old) (E.state errors.new) }
     ensures ready { IsTrue result ↔ CanGoOn (E.state errors.new) }
 {
     write_text(errors, line).is_ok()

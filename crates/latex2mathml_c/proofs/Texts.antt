@@ -5,7 +5,7 @@ use Rattle.latex2mathml.specs.Formulas.{Refusal, error_text, refusal_text, Rende
 use Rattle.latex2mathml.specs.Conversions.{IsConverted, IsRefusedAs, formula, document}
 use Rattle.latex2mathml.specs.Conversions as conversions
 use Rattle.latex2mathml.specs.DocumentLaws.{AnswersHold}
-use Rattle.latex2mathml_c.specs.Call.{IsLength, IsOutcome, IsPutOrTooSmall, IsText, Room, code_of, conversion_of}
+use Rattle.latex2mathml_c.specs.Call.{IsLength, IsCallOutcome, IsPutOrTooSmall, IsText, Room, code_of, conversion_of}
 use Rattle.latex2mathml_c.specs.declared.Conversion.{Conversion}
 use Rattle.latex2mathml_c.specs.declared.Conversion.TheVariants.{Formula, Document}
 use Rattle.latex2mathml_c.specs.declared.Status.{Status}
@@ -17,13 +17,13 @@ refusal_told conversion input (Some refusal) text utf8 refused some told = (utf8
 refusal_told conversion input None text utf8 refused some told = absurd (some refl)
 
 -- a text that was put, or left out, is what the call comes to
-pub put_outcome : (conversion : Conversion) (input : List ℕ) (status result : Status) (text : List ℕ) (room : Room) → IsText conversion input status text → IsPutOrTooSmall status result text room → IsOutcome conversion input result room
-put_outcome conversion input Done result text room is (inl (same, put)) = subst (λ s. IsOutcome conversion input s room) (sym same) (text, is, put)
-put_outcome conversion input Refused result text room is (inl (same, put)) = subst (λ s. IsOutcome conversion input s room) (sym same) (text, is, put)
-put_outcome conversion input NotUtf8 result text room is (inl (same, put)) = subst (λ s. IsOutcome conversion input s room) (sym same) (text, is, put)
+pub put_outcome : (conversion : Conversion) (input : List ℕ) (status result : Status) (text : List ℕ) (room : Room) → IsText conversion input status text → IsPutOrTooSmall status result text room → IsCallOutcome conversion input result room
+put_outcome conversion input Done result text room is (inl (same, put)) = subst (λ s. IsCallOutcome conversion input s room) (sym same) (text, is, put)
+put_outcome conversion input Refused result text room is (inl (same, put)) = subst (λ s. IsCallOutcome conversion input s room) (sym same) (text, is, put)
+put_outcome conversion input NotUtf8 result text room is (inl (same, put)) = subst (λ s. IsCallOutcome conversion input s room) (sym same) (text, is, put)
 put_outcome conversion input TooSmall result text room is (inl put) = absurd is
 put_outcome conversion input OutOfMemory result text room is (inl put) = absurd is
-put_outcome conversion input status result text room is (inr (small, left)) = subst (λ s. IsOutcome conversion input s room) (sym small) (status, text, is, left)
+put_outcome conversion input status result text room is (inr (small, left)) = subst (λ s. IsCallOutcome conversion input s room) (sym small) (status, text, is, left)
 
 -- by the laws of formulas and documents
 module _ (formulas : RenderingsHold) (documents : AnswersHold) where
@@ -59,7 +59,7 @@ module _ (formulas : RenderingsHold) (documents : AnswersHold) where
   abbrev HasText : Conversion → List ℕ → ℕ → Type 0
   HasText conversion input needed = (status : Status) × (text : List ℕ) × IsText conversion input status text × (needed ≡ length text)
 
-  needed_text : (conversion : Conversion) (input : List ℕ) (status : Status) (room : Room) → status ≢ OutOfMemory → IsOutcome conversion input status room → HasText conversion input room.needed
+  needed_text : (conversion : Conversion) (input : List ℕ) (status : Status) (room : Room) → status ≢ OutOfMemory → IsCallOutcome conversion input status room → HasText conversion input room.needed
   needed_text conversion input Done room some (text, is, put) = (Done, text, is, put.0)
   needed_text conversion input Refused room some (text, is, put) = (Refused, text, is, put.0)
   needed_text conversion input NotUtf8 room some (text, is, put) = (NotUtf8, text, is, put.0)
@@ -71,17 +71,17 @@ module _ (formulas : RenderingsHold) (documents : AnswersHold) where
       e' ∙ ap length (one_text conversion input status' text' status text also is) ∙ sym e
 
   -- what a call that memory was found for says is what each such call needs
-  pub needed_length : (conversion : Conversion) (input : List ℕ) (status : Status) (code : ℕ) (room : Room) → code ≡ code_of status → IsOutcome conversion input status room → code ≢ code_of OutOfMemory → IsLength conversion input room.needed
+  pub needed_length : (conversion : Conversion) (input : List ℕ) (status : Status) (code : ℕ) (room : Room) → code ≡ code_of status → IsCallOutcome conversion input status room → code ≢ code_of OutOfMemory → IsLength conversion input room.needed
   needed_length conversion input status code room is outcome some =
       record { said = said; fits = fits }
     where
       told : HasText conversion input room.needed
       told = needed_text conversion input status room (λ e. some (is ∙ ap code_of e)) outcome
 
-      said : (status' : Status) (other : Room) → status' ≢ OutOfMemory → IsOutcome conversion input status' other → other.needed ≡ room.needed
+      said : (status' : Status) (other : Room) → status' ≢ OutOfMemory → IsCallOutcome conversion input status' other → other.needed ≡ room.needed
       said status' other found outcome' = same_needed conversion input room.needed other.needed told (needed_text conversion input status' other found outcome')
 
-      fits : (other : Room) → room.needed ≤ length other.old → ¬ IsOutcome conversion input TooSmall other
+      fits : (other : Room) → room.needed ≤ length other.old → ¬ IsCallOutcome conversion input TooSmall other
       fits other enough outcome' =
           let same : other.needed ≡ room.needed = said TooSmall other (λ e. cc) outcome' in
           let small = outcome'.3.1 in

@@ -58,16 +58,16 @@ abbrev pub IsPutOrTooSmall : Status → Status → List ℕ → Room → Type 0
 IsPutOrTooSmall status result text room = ((result ≡ status) × IsPut text room) ⊎ ((result ≡ TooSmall) × IsLeftOut text room)
 
 -- what a call comes to: nothing is written where the room is too small or memory was not found, and else the text
-abbrev pub IsOutcome : Conversion → List ℕ → Status → Room → Type 0
-IsOutcome conversion input TooSmall room =
+abbrev pub IsCallOutcome : Conversion → List ℕ → Status → Room → Type 0
+IsCallOutcome conversion input TooSmall room =
     (status : Status) × (text : List ℕ) × IsText conversion input status text × IsLeftOut text room
-IsOutcome conversion input OutOfMemory room = (room.needed ≡ 0) × (room.new ≡ room.old)
-IsOutcome conversion input status room = (text : List ℕ) × IsText conversion input status text × IsPut text room
+IsCallOutcome conversion input OutOfMemory room = (room.needed ≡ 0) × (room.new ≡ room.old)
+IsCallOutcome conversion input status room = (text : List ℕ) × IsText conversion input status text × IsPut text room
 
 -- Calls after it.
 
 -- so many bytes are what each call with this input needs: each that memory was found for says so, and none with as much
 -- room finds it too small
 pub record IsLength (conversion : Conversion) (input : List ℕ) (bytes : ℕ) : Type 0 where
-  pub said : (status : Status) (room : Room) → status ≢ OutOfMemory → IsOutcome conversion input status room → room.needed ≡ bytes
-  pub fits : (room : Room) → bytes ≤ length room.old → ¬ IsOutcome conversion input TooSmall room
+  pub said : (status : Status) (room : Room) → status ≢ OutOfMemory → IsCallOutcome conversion input status room → room.needed ≡ bytes
+  pub fits : (room : Room) → bytes ≤ length room.old → ¬ IsCallOutcome conversion input TooSmall room

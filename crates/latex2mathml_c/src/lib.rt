@@ -8,7 +8,7 @@ ghost use Rattle.std.specs.Prelude.{◌≡◌, ◌≢◌, IfOk, string_bytes};
 ghost use Rattle.latex2mathml_c.specs.declared.Conversion.TheVariants.{Document, Formula};
 ghost use Rattle.latex2mathml_c.specs.declared.Status.{Status};
 ghost use Rattle.latex2mathml_c.specs.declared.Status.TheVariants.{OutOfMemory};
-ghost use Rattle.latex2mathml_c.specs.Call.{IsLength, IsOutcome, IsPutOrTooSmall, IsText, code_of, conversion_of, display_of};
+ghost use Rattle.latex2mathml_c.specs.Call.{IsLength, IsCallOutcome, IsPutOrTooSmall, IsText, code_of, conversion_of, display_of};
 ghost use Rattle.latex2mathml.specs.Conversions.{IsConverted, IsRefusedAs};
 ghost use Rattle.latex2mathml.specs.Formulas.{IfRefused};
 
@@ -67,7 +67,7 @@ pub extern "C" fn latex2mathml_formula(
     needed: &mut usize,
 ) -> u32
     ensures outcome { (status : Status) × (result ≡ code_of status)
-        × IsOutcome (Formula (display_of block)) latex.now status
+        × IsCallOutcome (Formula (display_of block)) latex.now status
         (record { old = out.old; new = out.new; needed = needed.new }) }
     ensures length { result ≢ code_of OutOfMemory →
         IsLength (Formula (display_of block)) latex.now needed.new }
@@ -89,7 +89,7 @@ pub extern "C" fn latex2mathml_document(
     needed: &mut usize,
 ) -> u32
     ensures outcome { (status : Status) × (result ≡ code_of status)
-        × IsOutcome Document document.now status
+        × IsCallOutcome Document document.now status
         (record { old = out.old; new = out.new; needed = needed.new }) }
     ensures length { result ≢ code_of OutOfMemory → IsLength Document document.now needed.new }
 {
@@ -116,7 +116,7 @@ fn call(
     out: &mut [u8],
     needed: &mut usize,
 ) -> Status
-    ensures outcome { IsOutcome conversion input.now result
+    ensures outcome { IsCallOutcome conversion input.now result
         (record { old = out.old; new = out.new; needed = needed.new }) }
 {
     *needed = 0;

@@ -14,29 +14,19 @@ use Rattle.latex2mathml_formulas.specs.Rendering.{IsFormulaRefusal, IsRendering,
 use Rattle.latex2mathml_formulas.specs.Spelling.{HasSlices, HasTokens, Slice, takes_digit}
 use Rattle.latex2mathml_tokens.specs.Tok.{Tok}
 use Rattle.latex2mathml_nodes.specs.Tree.{Tree}
-use Rattle.latex2mathml_formulas.specs.Unread.{GoesOn, Left, Unread, left_of, token_list}
+use Rattle.latex2mathml_formulas.specs.Unread.{GoesOn, Left, token_list}
 use Rattle.latex2mathml_tokens.specs.declared.DisplayStyle.{DisplayStyle}
 use Rattle.latex2mathml_tokens.specs.declared.error.LatexError.{LatexError}
-use Rattle.latex2mathml_tokens.specs.declared.token.Token.{Token}
 use Rattle.latex2mathml_formulas.proofs.OneList.{cut}
 use Rattle.latex2mathml_formulas.proofs.OtherRefusals.{never_dollars}
 use Rattle.latex2mathml_formulas.proofs.Tokenizing.{step_shortens}
-
--- where no token is left, no slice with a backslash is
-pub no_backslashes : (next : Option Token) (unread : Unread) → (left_of next unread).list ≡ [] → (left_of next unread).backslashes ≡ 0
-no_backslashes (Some t) unread e = cc
-no_backslashes None unread e = none unread.slices e
-  where
-    none : (slices : List Slice) → token_list slices ≡ [] → backslashes slices ≡ 0
-    none [] e = refl
-    none (s ∷ ss) e = cc
 
 -- what is left of a whole text
 pub whole_list : (text : List ℕ) (l : List Tok) → l ≡ token_list (slices_of false text) → HasTokens None text l
 whole_list text l e = (slices_of false text, cut false text, e)
 
-pub token_count : {A E : Type 0} (text : List ℕ) (r : Result A E) (old new : Left) (n : ℕ) → old.list ≡ token_list (slices_of false text) → old.tokens ≡ 0 → GoesOn old new → OnOk r (new.list ≡ []) → new.tokens ≤ n → n ≤ new.tokens + length new.list → IsTokenCount text (is_ok r) n
-token_count {A} {E} text r old new n e none goes all low high =
+pub token_count : {A E : Type 0} (text : List ℕ) (r : Result A E) (old new : Left) (n : ℕ) → old.list ≡ token_list (slices_of false text) → old.tokens ≡ 0 → GoesOn old new → OnOk r (new.list ≡ []) → n ≡ new.tokens → IsTokenCount text (is_ok r) n
+token_count {A} {E} text r old new n e none goes all same =
     let whole : length old.list ≡ length (slices_of false text) = ap length e ∙ length-map (slices_of false text) (λ s. s.token) in
     (slices_of false text, cut false text, omega arith, exact r all)
   where
@@ -44,15 +34,15 @@ token_count {A} {E} text r old new n e none goes all low high =
     exact (Ok x) all h = let whole : length old.list ≡ length (slices_of false text) = ap length e ∙ length-map (slices_of false text) (λ s. s.token) in omega (arith, ap length all)
     exact (Err x) all h = cc
 
-pub comparison_count : {A E : Type 0} (text : List ℕ) (r : Result A E) (old new : Left) (n : ℕ) → old.backslashes ≡ backslashes (slices_of false text) → old.comparisons ≡ 0 → GoesOn old new → OnOk r (new.list ≡ []) → (new.list ≡ [] → new.backslashes ≡ 0) → new.comparisons ≤ n → n ≤ new.comparisons + 9 * new.backslashes → IsComparisonCount text (is_ok r) n
-comparison_count {A} {E} text r old new n e none goes all at_end low high = (slices_of false text, cut false text, omega arith, exact r all)
+pub comparison_count : {A E : Type 0} (text : List ℕ) (r : Result A E) (old new : Left) (n : ℕ) → old.backslashes ≡ backslashes (slices_of false text) → old.comparisons ≡ 0 → GoesOn old new → OnOk r (new.list ≡ []) → (new.list ≡ [] → new.backslashes ≡ 0) → n ≡ new.comparisons → IsComparisonCount text (is_ok r) n
+comparison_count {A} {E} text r old new n e none goes all at_end same = (slices_of false text, cut false text, omega arith, exact r all)
   where
     exact : (r : Result A E) → OnOk r (new.list ≡ []) → is_ok r ≡ true → backslashes (slices_of false text) ≤ n
     exact (Ok x) all h = let gone = at_end all in omega arith
     exact (Err x) all h = cc
 
-pub frame_count : (text : List ℕ) (old new : Left) (taken before n : ℕ) → old.list ≡ token_list (slices_of false text) → old.tokens ≡ 0 → before ≡ 0 → OpensFor old new before n → new.tokens ≤ taken → IsFrameCount text taken n
-frame_count text old new taken before n e none start opens low = (omega arith, (old.list, whole_list text old.list e, omega arith))
+pub frame_count : (text : List ℕ) (old new : Left) (taken before n : ℕ) → old.list ≡ token_list (slices_of false text) → old.tokens ≡ 0 → before ≡ 0 → OpensFor old new (before + 0) n → taken ≡ new.tokens → IsFrameCount text taken n
+frame_count text old new taken before n e none start opens same = (omega arith, (old.list, whole_list text old.list e, omega arith))
 
 rendering : (text : List ℕ) (display : DisplayStyle) (l : List Tok) (markup : List ℕ) (xs : List Tree) → l ≡ token_list (slices_of false (chars text)) → Reading l xs → markup ≡ math_print display xs → IsRendering text display markup
 unfolding IsRendering

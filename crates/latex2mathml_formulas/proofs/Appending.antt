@@ -1,12 +1,17 @@
 -- The nodes of a formula, read and printed one after another.
 use Rattle.std.proofs.Common.{◌≡◌, ◌≢◌, ℕ, ◌<◌, Option, List, [], ◌∷◌, ◌++◌, length, Some, None, refl, sym, ap, subst, ◌∙◌, append_assoc, append-nil, arith}
-use Rattle.std.specs.Prelude.{MatchOption}
-use Rattle.latex2mathml_formulas.specs.Grammar.{node, Outcome, Read, Refused, Reads, ReadsAll, formula_ends, member_read, later_refused, member_refused, Reading, Refuses}
+use Rattle.latex2mathml_formulas.specs.Frames.{inside}
+use Rattle.latex2mathml_formulas.specs.Grammar.{core, first, gives, rule, node, Outcome, Read, Refused, Reads, ReadsAll, formula_ends, member_read, later_refused, member_refused, Reading, Refuses}
 use Rattle.latex2mathml_nodes.specs.Print.{print, prints}
 use Rattle.latex2mathml_tokens.specs.Refusal.{Refusal}
 use Rattle.latex2mathml_tokens.specs.Tok.{Tok}
-use Rattle.latex2mathml_nodes.specs.Tree.{Tree, tree, trees_of}
-use Rattle.latex2mathml_nodes.specs.declared.ast.Node.{Node}
+use Rattle.latex2mathml_nodes.specs.Tree.{Tree, trees_of}
+use Rattle.latex2mathml_formulas.specs.Levels.{Made, RuleLeads}
+use Rattle.latex2mathml_formulas.specs.Marks.{MarkStands}
+use Rattle.latex2mathml_formulas.specs.declared.parse.frames.Frame.{Frame}
+use Rattle.latex2mathml_formulas.specs.declared.reader.mark.Mark.{Mark}
+use Rattle.latex2mathml_formulas.proofs.Levels.{gives_read, lone_node}
+use Rattle.latex2mathml_formulas.proofs.Stacks.{token_begun}
 use Rattle.latex2mathml_formulas.proofs.Total.{some_taken}
 
 -- the outcome of a formula of which these trees were read first
@@ -72,18 +77,32 @@ pub node_refused : (input place : List Tok) (old new : List ℕ) (r : Refusal) �
 unfolding Refuses
 node_refused input place old new r d so_far = so_far.leads _ (one_refused place r d.0 d.1)
 
+-- where a token stands, some token does
+pub some_stands : (t : Tok) (place to : List Tok) → place ≡ t ∷ to → place ≢ []
+some_stands t place to e h = cc
+
 -- a node takes a token
 pub node_shortens : (place to : List Tok) (x : Tree) → place ≢ [] → Reads node place (Read x to) → length to < length place
 node_shortens [] to x some d = absurd (some refl)
 node_shortens (t ∷ ts) to x some d = let fewer = some_taken node t ts to x d in omega arith
 
--- the node that was found was read
-pub found_node : (found : Option Node) (x : Node) (place to : List Tok) → found ≡ Some x → MatchOption found ((place ≡ []) × (to ≡ [])) (λ y. (place ≢ []) × Reads node place (Read (tree y) to)) → (place ≢ []) × Reads node place (Read (tree x) to)
-found_node found x place to e h = subst (λ o. MatchOption o ((place ≡ []) × (to ≡ [])) (λ y. (place ≢ []) × Reads node place (Read (tree y) to))) e h
+-- The node that begins with a token.
 
--- no node was found
-pub no_node : (found : Option Node) (place to : List Tok) → found ≡ None → MatchOption found ((place ≡ []) × (to ≡ [])) (λ y. (place ≢ []) × Reads node place (Read (tree y) to)) → (place ≡ []) × (to ≡ [])
-no_node found place to e h = subst (λ o. MatchOption o ((place ≡ []) × (to ≡ [])) (λ y. (place ≢ []) × Reads node place (Read (tree y) to))) e h
+-- outside all rules
+pub node_begun : (input to : List Tok) (fs : List Frame) (ts : List Tree) (t : Tok) → fs ≡ [] → input ≡ t ∷ to → RuleLeads (rule t) (Made core (inside input fs ts)) to
+node_begun input to fs ts t none same =
+    subst (λ hs. RuleLeads (rule t) (Made core (inside input hs ts)) to) (sym none) (token_begun input [] ts input to t tt same (λ o d. d))
+
+-- a token without parts
+pub leaf_begun : (input place to : List Tok) (fs : List Frame) (ts : List Tree) (t : Tok) (x : Tree) → fs ≡ [] → input ≡ t ∷ place → to ≡ place → rule t ≡ gives x → Made core (inside input fs ts) (Read x to)
+leaf_begun input place to fs ts t x none same kept is =
+    subst (λ l. Made core (inside input fs ts) (Read x l)) (sym kept) (node_begun input place fs ts t none same _ (gives_read (rule t) x place is))
+
+-- .. behind which no mark stands
+pub leaf_read : (input place to : List Tok) (t : Tok) (x : Tree) (mark : Option Mark) → input ≡ t ∷ place → to ≡ place → rule t ≡ gives x → mark ≡ None → MarkStands mark (first place) → Reads node input (Read x to)
+leaf_read input place to t x mark same kept is none stands =
+    let no_mark = subst (λ m. MarkStands m (first place)) none stands in
+    subst (λ l. Reads node input (Read x l)) (sym kept) (lone_node t x input place same is no_mark.0 no_mark.1 no_mark.2)
 
 -- all nodes stand between what was written before them and what is written behind them
 pub finished : (input place : List Tok) (old new before after a c : List ℕ) → place ≡ [] → before ≡ old ++ a → Appends input place before after → new ≡ after ++ c → (xs : List Tree) × Reading input xs × (new ≡ old ++ (a ++ (prints (trees_of xs) ++ c)))

@@ -13,10 +13,10 @@ use Rattle.latex2mathml_tokens.specs.TokenText.{token_text}
 use Rattle.latex2mathml_nodes.specs.Tree.{Tree, undefined, superscript}
 use Rattle.latex2mathml_formulas.specs.declared.parse.frames.Due.TheVariants as due
 use Rattle.latex2mathml_formulas.specs.declared.parse.frames.GroupEnd.{GroupEnd}
-use Rattle.latex2mathml_formulas.specs.declared.parse.frames.Mark.{Mark}
-use Rattle.latex2mathml_formulas.specs.declared.parse.frames.Mark.TheVariants.{Prime, Script}
-use Rattle.latex2mathml_formulas.specs.declared.parse.frames.Sign.{Sign}
-use Rattle.latex2mathml_formulas.specs.declared.parse.frames.Sign.TheVariants.{Sub, Sup}
+use Rattle.latex2mathml_formulas.specs.declared.reader.mark.Mark.{Mark}
+use Rattle.latex2mathml_formulas.specs.declared.reader.mark.Mark.TheVariants.{Prime, Script}
+use Rattle.latex2mathml_formulas.specs.declared.reader.mark.Sign.{Sign}
+use Rattle.latex2mathml_formulas.specs.declared.reader.mark.Sign.TheVariants.{Sub, Sup}
 
 -- A rule that leads somewhere.
 

@@ -4,7 +4,7 @@ use Rattle.std.specs.Prelude.{IfOk, String, string_bytes}
 use Rattle.std.specs.List.{flat_map, list_all}
 use Rattle.latex2mathml_nodes.specs.Arguments.{HaveNoArgument}
 use Rattle.latex2mathml_tokens.specs.Attributes.{display_text}
-use Rattle.latex2mathml_nodes.specs.Markup.{plain, attribute, open_tag, Levels, lowest, above, at_start, add, Leads, IsElement, is_part, spell_part}
+use Rattle.latex2mathml_nodes.specs.Markup.{plain, attribute, open_tag, OpenElements, lowest, above, at_start, add, Runs, IsElement, is_part, spell_part}
 use Rattle.latex2mathml_nodes.specs.MathSchema.{child_table, IsMathElement}
 use Rattle.latex2mathml_nodes.specs.Print.{prints}
 use Rattle.latex2mathml_formulas.specs.Rendering.{IsRendering, math_print}
@@ -13,7 +13,7 @@ use Rattle.latex2mathml_tokens.specs.declared.DisplayStyle.{DisplayStyle}
 use Rattle.latex2mathml_tokens.specs.declared.DisplayStyle.TheVariants.{Block, Inline}
 use Rattle.latex2mathml_tokens.specs.declared.error.LatexError.{LatexError}
 use Rattle.latex2mathml_nodes.proofs.Elements.{some_children}
-use Rattle.latex2mathml_nodes.proofs.Leads.{closed, joined, plain-spells, single, spelled_as}
+use Rattle.latex2mathml_nodes.proofs.Runs.{closed, joined, plain-spells, single, spelled_as}
 use Rattle.latex2mathml_formulas.proofs.ReadArguments.{reading_has_no_argument}
 
 display-valid : (display : DisplayStyle) → IsTrue (list_all is_part (map plain (display_text display)))
@@ -21,7 +21,7 @@ display-valid Block = refl
 display-valid Inline = refl
 
 -- the open tag with its two attributes, and what follows it
-math_opened : (v : List ℕ) → IsTrue (list_all is_part (map plain v)) → (rest : List ℕ) (s t : Levels) → Leads child_table rest (above (codes "math") [] false (add (codes "math") s)) t → Leads child_table (codes "<math xmlns=\"http://www.w3.org/1998/Math/MathML\" display=\"" ++ (v ++ (codes "\">" ++ rest))) s t
+math_opened : (v : List ℕ) → IsTrue (list_all is_part (map plain v)) → (rest : List ℕ) (s t : OpenElements) → Runs child_table rest (above (codes "math") [] false (add (codes "math") s)) t → Runs child_table (codes "<math xmlns=\"http://www.w3.org/1998/Math/MathML\" display=\"" ++ (v ++ (codes "\">" ++ rest))) s t
 math_opened v h rest s t m =
     spelled_as (ap (λ l. codes "<math xmlns=\"http://www.w3.org/1998/Math/MathML\" display=\"" ++ l) (reach (flat_map spell_part (map plain v)) ∙ ap (λ l. l ++ (codes "\">" ++ rest)) (plain-spells v)))
     (joined (single child_table (open_tag (codes "math") (attribute (codes "xmlns") (map plain (codes "http://www.w3.org/1998/Math/MathML")) ∷ attribute (codes "display") (map plain v) ∷ [])) s _ (ap (λ b. b && true) h) refl) m)

@@ -4,9 +4,13 @@ use Rattle.std.specs.Prelude.{MatchOption}
 use Rattle.std.specs.Char.{encode_utf8}
 use Rattle.std.specs.Str.{encode_utf8_all}
 use Rattle.std.proofs.lemmas.Str.{encodes-append}
-use Rattle.latex2mathml_formulas.specs.Grammar.{AreLetters, first_letter}
-use Rattle.latex2mathml_formulas.specs.Marks.{LettersStand, rest_of}
-use Rattle.latex2mathml_tokens.specs.Tok.{Tok}
+use Rattle.latex2mathml_formulas.specs.Grammar.{AreLetters, first_letter, first_or_end, letter_of}
+use Rattle.latex2mathml_formulas.specs.Marks.{LettersStand, NameStands, rest_of}
+use Rattle.latex2mathml_tokens.specs.Lexemes.{lexeme_tok}
+use Rattle.latex2mathml_tokens.specs.Tok.{Tok, Letter}
+use Rattle.latex2mathml_tokens.specs.declared.attribute.Variant.{Variant}
+use Rattle.latex2mathml_tokens.specs.declared.lexeme.Lexeme.{Lexeme}
+use Rattle.latex2mathml_tokens.specs.declared.lexeme.Lexeme.TheVariants as lexeme
 
 -- letters of these bytes were taken, and whatever letters stand next belong to them
 abbrev pub AreTaken : List ℕ → List Tok → List Tok → Type 0
@@ -41,3 +45,24 @@ found_taken None c place next e h = absurd cc
 pub none_found : (found : Option ℕ) (place next : List Tok) → found ≡ None → MatchOption found (next ≡ place) (λ d. next ≡ rest_of place) → next ≡ place
 none_found (Some d) place next e h = absurd cc
 none_found None place next e h = h
+
+-- what was taken tells whether a letter stood next
+
+pub letter_first : (c : ℕ) (variant : Variant) (l : List Tok) → Letter c variant ≡ first_or_end l → first_letter l ≡ Some c
+letter_first c variant [] e = absurd cc
+letter_first c variant (t ∷ ts) e = ap letter_of (sym e)
+
+abbrev pub IsNoLetter : Lexeme → Type 0
+IsNoLetter x = (c : ℕ) (variant : Variant) → x ≡ lexeme.Letter c variant → ⊥
+
+no_letter : (x : Lexeme) → IsNoLetter x → letter_of (lexeme_tok x) ≡ None
+no_letter (lexeme.Letter c variant) h = absurd (h c variant refl)
+no_letter x h = refl
+
+pub none_first : (x : Lexeme) (l : List Tok) → lexeme_tok x ≡ first_or_end l → IsNoLetter x → first_letter l ≡ None
+none_first x [] e h = refl
+none_first x (t ∷ ts) e h = ap letter_of (sym e) ∙ no_letter x h
+
+-- letters of a name, and the token behind them
+pub name_taken : (bytes : List ℕ) (old place new : List Tok) → first_letter place ≡ None → new ≡ rest_of place → AreTaken bytes (rest_of old) place → NameStands bytes old new
+name_taken bytes old place new h passed k = (place, all_taken bytes (rest_of old) place place h refl k, passed)

@@ -7,7 +7,7 @@ use Rattle.latex2mathml_tokens.specs.Tok.{Tok, Number, Letter, Operator, Paren}
 use Rattle.latex2mathml_formulas.specs.Unread.{GoesOn, Left}
 
 -- a token opens one frame at most
-opens-≤ : (t : Tok) → opens t ≤ 1
+pub opens-≤ : (t : Tok) → opens t ≤ 1
 opens-≤ (Number digits) = omega arith
 opens-≤ (Letter c variant) = omega arith
 opens-≤ (Operator c) = omega arith
@@ -29,6 +29,14 @@ OpensFor-trans a b c l m n h i = record { taken = omega arith; openers = omega a
 -- a token is taken, which may open a frame
 pub OpensFor-taken : (t : Tok) (a b c : Left) (m n : ℕ) → a.list ≡ t ∷ b.list → GoesOn a b → OpensFor b c (m + opens t) n → OpensFor a c m n
 OpensFor-taken t a b c m n stood counts h =
+    let shorter : length a.list ≡ 1 + length b.list = ap length stood ∙ omega arith in
+    let fewer : openers a.list ≡ opens t + openers b.list = ap openers stood ∙ sum_by-cons opens t b.list in
+    let one = opens-≤ t in
+    record { taken = omega arith; openers = omega arith }
+
+-- .. and a frame is opened for the one before it
+pub OpensFor-one : (t : Tok) (a b : Left) (m n : ℕ) → a.list ≡ t ∷ b.list → GoesOn a b → n ≤ m + 1 → OpensFor a b (m + 1) (n + opens t)
+OpensFor-one t a b m n stood counts h =
     let shorter : length a.list ≡ 1 + length b.list = ap length stood ∙ omega arith in
     let fewer : openers a.list ≡ opens t + openers b.list = ap openers stood ∙ sum_by-cons opens t b.list in
     let one = opens-≤ t in

@@ -1,8 +1,8 @@
--- What each branch of the lexer has read is a slice that spells its token.
+-- What each branch of the reader has read is a slice that spells its token.
 use Rattle.std.proofs.Common.{◌≡◌, ℕ, ◌≤◌, Bool, true, false, ◌==◌, List, [], ◌∷◌, ◌++◌, codes, refl, sym, ap, subst, ◌∙◌, arith, append_assoc, append-nil, length}
 use Rattle.std.proofs.lemmas.Bool.Decides.{nat_tests}
-use Rattle.std.proofs.lemmas.Str.{encodes-chars, encodes-append, length-le-encodes, encode_ascii}
-use Rattle.std.specs.Char.{encode_utf8, is_ascii_digit, is_ascii_alphabetic}
+use Rattle.std.proofs.lemmas.Str.{encodes-chars, length-le-encodes}
+use Rattle.std.specs.Char.{is_ascii_digit, is_ascii_alphabetic}
 use Rattle.std.specs.Str.{byte, chars, encode_utf8_all, IsUtf8}
 use Rattle.latex2mathml_formulas.specs.Characters.{Begins, Stops, head, is_space, is_empty}
 use Rattle.std.specs.List.{AllPass}
@@ -30,17 +30,20 @@ whole_number text front back bs t run u begins stops e f =
     (chars front, run.0, number refl (number_whole _ _ _ run begins stops) (f ∙ ap Number (e ∙ sym (encodes-chars front u))))
 
 -- digits, a period, and the digits that follow it
-pub number_with_period : (text front back after part rest : List ℕ) (bs : List ℕ) (t : Tok) → IsLongestRun is_ascii_digit text (chars front) back → IsUtf8 front → Begins is_ascii_digit text → back ≡ byte "." ∷ after → IsLongestRun is_ascii_digit after (chars part) rest → IsUtf8 part → bs ≡ (front ++ byte "." ∷ []) ++ part → t ≡ Number bs → BeginsWith false text t rest
-number_with_period text front back after part rest bs t run u begins e more v e' g =
-    let w : List ℕ = chars front ++ byte "." ∷ chars part in
-    let whole : text ≡ w ++ rest = run.0 ∙ ap (λ b. chars front ++ b) (e ∙ ap (λ a. byte "." ∷ a) more.0) ∙ sym (append_assoc (chars front) (byte "." ∷ chars part) rest) in
-    let bytes : encode_utf8_all w ≡ bs =
-    encodes-append (chars front) (byte "." ∷ chars part) ∙ rw (encodes-chars front u, encodes-chars part v, encode_ascii (byte ".") (omega arith)) (sym (e' ∙ append_assoc front (byte "." ∷ []) part)) in
-    (w, whole, number refl (number_parts _ _ _ _ _ _ run begins e more) (g ∙ ap Number (sym bytes)))
+abbrev with_period : List ℕ → List ℕ → List ℕ
+with_period front part = chars front ++ byte "." ∷ chars part
 
--- the text to which the code has pushed the period and the part
-pub pushed : (b0 b1 b2 bs front part : List ℕ) → b0 ≡ front → b1 ≡ b0 ++ encode_utf8 (byte ".") → b2 ≡ b1 ++ part → bs ≡ b2 → bs ≡ (front ++ byte "." ∷ []) ++ part
-pushed b0 b1 b2 bs front part e f g h = h ∙ g ∙ ap (λ b. b ++ part) (f ∙ ap (λ b. b ++ encode_utf8 (byte ".")) e ∙ ap (λ k. front ++ k) (encode_ascii (byte ".") (omega arith)))
+with_period_whole : (text front back after part rest : List ℕ) → IsLongestRun is_ascii_digit text (chars front) back → back ≡ byte "." ∷ after → IsLongestRun is_ascii_digit after (chars part) rest → text ≡ with_period front part ++ rest
+with_period_whole text front back after part rest run e more =
+    run.0 ∙ ap (λ b. chars front ++ b) (e ∙ ap (λ a. byte "." ∷ a) more.0) ∙ sym (append_assoc (chars front) (byte "." ∷ chars part) rest)
+
+pub period_front : (text front back after part rest : List ℕ) → IsLongestRun is_ascii_digit text (chars front) back → back ≡ byte "." ∷ after → IsLongestRun is_ascii_digit after (chars part) rest → (w : List ℕ) × (text ≡ w ++ rest)
+period_front text front back after part rest run e more = (with_period front part, with_period_whole text front back after part rest run e more)
+
+pub number_with_period : (text front back after part rest bs : List ℕ) → IsLongestRun is_ascii_digit text (chars front) back → Begins is_ascii_digit text → back ≡ byte "." ∷ after → IsLongestRun is_ascii_digit after (chars part) rest → ((w : List ℕ) → text ≡ w ++ rest → bs ≡ encode_utf8_all w) → BeginsWith false text (Number bs) rest
+number_with_period text front back after part rest bs run begins e more bytes =
+    let whole : text ≡ with_period front part ++ rest = with_period_whole text front back after part rest run e more in
+    (with_period front part, whole, number refl (number_parts _ _ _ _ _ _ run begins e more) (ap Number (bytes (with_period front part) whole)))
 
 -- the letters of a command's name
 pub letters : (alone : Bool) (text front back : List ℕ) (t : Tok) → IsLongestRun is_ascii_alphabetic text front back → is_empty front ≡ false → t ≡ command_token (encode_utf8_all front) → BeginsWith alone (byte "\\" ∷ text) t back

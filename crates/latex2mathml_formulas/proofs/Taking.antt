@@ -18,11 +18,11 @@ not_short : 1 ≤ 0 → ⊥
 not_short h = omega arith
 
 -- a slice begins with a backslash where the text that it begins does
-same_first : (alone : Bool) (w rest start : List ℕ) (t : Tok) → SpellsAt alone w (head rest) t → start ≡ w ++ rest → backslash_count w ≡ backslash_count start
+pub same_first : (alone : Bool) (w rest start : List ℕ) (t : Tok) → SpellsAt alone w (head rest) t → start ≡ w ++ rest → backslash_count w ≡ backslash_count start
 same_first alone [] rest start t s e = absurd (not_short (not_empty alone [] (head rest) t s))
 same_first alone (c ∷ w) rest start t s e = ap backslash_count (sym e)
 
-backslashes-cons : (s : Slice) (ss : List Slice) → backslashes (s ∷ ss) ≡ backslash_count s.text + backslashes ss
+pub backslashes-cons : (s : Slice) (ss : List Slice) → backslashes (s ∷ ss) ≡ backslash_count s.text + backslashes ss
 backslashes-cons s ss = count_one (λ k. begins_with_backslash k.text) s ss
 
 -- white space, and the slice behind it

@@ -1,4 +1,4 @@
--- A step of the lexer takes something from the text.
+-- A step of the reader takes something from the text.
 use Rattle.std.proofs.Common.{◌≡◌, ℕ, ◌+◌, ◌≤◌, ◌<◌, Bool, List, [], ◌∷◌, ◌++◌, length, Option, sym, ap, subst, ◌∙◌, arith, length-append}
 use Rattle.std.specs.Char.{is_ascii_digit}
 use Rattle.latex2mathml_formulas.specs.Characters.{Begins}

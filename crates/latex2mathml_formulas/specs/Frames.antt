@@ -1,173 +1,163 @@
--- What the parser's frames stand for: each is a rule that was begun, at the part that it waits for. These words serve
+-- What the parser's frames stand for: each is a rule that was begun, at the part that it waits for. A frame holds no tree:
+-- what was read of its rule are the first of the trees that stand beside it, the last that was read first. These words serve
 -- the contracts of the parser's functions.
-use Rattle.std.specs.Prelude.{◌≡◌, ℕ, ◌+◌, ◌*◌, List, [], ◌∷◌, map, length, string_bytes, sum_by, IfSome, MatchResult, Result}
-use Rattle.latex2mathml_formulas.specs.Grammar.{Sort, core, single, node, operand, Rule, gives, of_one, of_degree, with_second, limits, under_slash, closing, stretching, ending, Read, Refused, Reads}
-use Rattle.latex2mathml_formulas.specs.Levels.{Standing, awaits_part, awaits_members, due_in, Level, part, Leads, Takes, Made, entered}
+use Rattle.std.specs.Prelude.{ℕ, ◌+◌, ◌-◌, Bool, true, false, List, [], ◌∷◌, drop, reverse, take}
+use Rattle.latex2mathml_formulas.specs.Grammar.{Sort, core, single, node, operand, Rule, gives, reads_part, reads_sign, of_one, of_degree, with_second, under_slash, closing, stretching, ending, Reads}
+use Rattle.latex2mathml_formulas.specs.Levels.{Standing, awaits_part, awaits_members, Level, part, entered}
 use Rattle.latex2mathml_formulas.specs.Marks.{sign_token}
-use Rattle.latex2mathml_nodes.specs.Productions.{binomial_tree, overbraced, overbraced_with, stretched_of, underbraced, underbraced_with, grouped}
-use Rattle.latex2mathml_tokens.specs.Refusal.{refusal_of}
+use Rattle.latex2mathml_nodes.specs.Productions.{grouped, stretched_of}
 use Rattle.latex2mathml_nodes.specs.Style.{styled}
-use Rattle.latex2mathml_tokens.specs.Tok.{Tok, tok}
-use Rattle.latex2mathml_nodes.specs.Tree.{Tree, tree, operator, function, subscript, superscript, sub_sup, over_op, under_op, overset, underset, under, under_over, root, sqrt, frac}
-use Rattle.latex2mathml_tokens.specs.declared.attribute.LineThickness.TheVariants.{Medium}
-use Rattle.latex2mathml_tokens.specs.declared.error.LatexError.{LatexError}
-use Rattle.latex2mathml_formulas.specs.declared.parse.State.{State}
-use Rattle.latex2mathml_formulas.specs.declared.parse.State.TheVariants as state
+use Rattle.latex2mathml_nodes.specs.Tree.{Tree, operator, subscript, superscript}
+use Rattle.latex2mathml_parts.specs.Parts.{arity, fence_text, put, top, words_of}
+use Rattle.latex2mathml_parts.specs.declared.kind.Kind.{Kind}
+use Rattle.latex2mathml_parts.specs.declared.kind.Kind.TheVariants as kind
+use Rattle.latex2mathml_tokens.specs.Lexemes.{lexeme_tok}
+use Rattle.latex2mathml_tokens.specs.Tok.{Tok, Circumflex, Underscore}
 use Rattle.latex2mathml_formulas.specs.declared.parse.frames.Due.{Due}
 use Rattle.latex2mathml_formulas.specs.declared.parse.frames.Due.TheVariants as due
 use Rattle.latex2mathml_formulas.specs.declared.parse.frames.Frame.{Frame}
 use Rattle.latex2mathml_formulas.specs.declared.parse.frames.Frame.TheVariants as frame
+use Rattle.latex2mathml_formulas.specs.declared.parse.frames.Group.{Group}
+use Rattle.latex2mathml_formulas.specs.declared.parse.frames.Group.TheVariants as group
+use Rattle.latex2mathml_formulas.specs.declared.parse.frames.GroupEnd.{GroupEnd}
 use Rattle.latex2mathml_formulas.specs.declared.parse.frames.GroupEnd.TheVariants as group_end
-use Rattle.latex2mathml_formulas.specs.declared.parse.frames.Sign.{Sign}
-use Rattle.latex2mathml_formulas.specs.declared.parse.frames.Sign.TheVariants.{Sub, Sup}
-use Rattle.latex2mathml_formulas.specs.declared.parse.operands.Binary.{Binary}
-use Rattle.latex2mathml_formulas.specs.declared.parse.operands.Binary.TheVariants as binary
-use Rattle.latex2mathml_formulas.specs.declared.parse.operands.Limited.{Limited}
-use Rattle.latex2mathml_formulas.specs.declared.parse.operands.Limited.TheVariants as limited
-use Rattle.latex2mathml_formulas.specs.declared.parse.operands.Pair.{Pair}
-use Rattle.latex2mathml_formulas.specs.declared.parse.operands.Pair.TheVariants as pair
-use Rattle.latex2mathml_formulas.specs.declared.parse.operands.Unary.{Unary}
-use Rattle.latex2mathml_formulas.specs.declared.parse.operands.Unary.TheVariants as unary
+use Rattle.latex2mathml_formulas.specs.declared.parse.frames.Pair.{Pair}
+use Rattle.latex2mathml_formulas.specs.declared.parse.frames.Pair.TheVariants as pair
+use Rattle.latex2mathml_formulas.specs.declared.reader.mark.Sign.{Sign}
+use Rattle.latex2mathml_formulas.specs.declared.reader.mark.Sign.TheVariants.{Sub, Sup}
 
 -- what carries a script, with the script of this sign
 abbrev pub script : Sign → Tree → Tree → Tree
 script Sub x y = subscript x y
 script Sup x y = superscript x y
 
--- what a rule of one operand makes of it
-abbrev pub unary_tree : Unary → Tree → Tree
-unary_tree unary.Sqrt x = sqrt x
-unary_tree (unary.Root degree) x = root (tree degree) x
-unary_tree (unary.Over c accent) x = over_op c accent x
-unary_tree (unary.Under c accent) x = under_op c accent x
-unary_tree (unary.Style variant) x = styled variant x
+-- the end of a group
+abbrev pub end_of : Group → GroupEnd
+end_of group.Brace = group_end.Brace
+end_of group.Degree = group_end.Bracket
+end_of (group.Fence opening) = group_end.Right
+end_of group.Environment = group_end.End
 
--- what a rule of two operands makes of them
-abbrev pub binary_tree : Binary → Tree → Tree → Tree
-binary_tree binary.Frac x y = frac x y Medium
-binary_tree (binary.Binom display) x y = binomial_tree display x y
-binary_tree binary.Overset x y = overset x y
-binary_tree binary.Underset x y = underset x y
-
--- an operator without limits, with the one of a sign, and with the one below and the one above
-abbrev pub bare : Limited → Tree
-bare (limited.BigOp c) = operator c
-bare (limited.Integral c) = operator c
-
-abbrev pub limit : Limited → Sign → Tree → Tree
-limit (limited.BigOp c) Sub x = under (operator c) x
-limit (limited.BigOp c) Sup y = overset y (operator c)
-limit (limited.Integral c) Sub x = subscript (operator c) x
-limit (limited.Integral c) Sup y = superscript (operator c) y
-
-abbrev pub both_limits : Limited → Tree → Tree → Tree
-both_limits (limited.BigOp c) x y = under_over (operator c) x y
-both_limits (limited.Integral c) x y = sub_sup (operator c) x y
+-- what follows the members of a group, where these trees were read before them
+abbrev pub after_members : Group → List Tree → List Tree → Rule
+after_members group.Brace ts xs = gives (grouped xs)
+after_members group.Degree ts xs = of_degree xs
+after_members (group.Fence opening) ts xs = closing (fence_text opening) xs
+after_members group.Environment ts xs = ending (words_of (top ts)) xs
 
 -- the sign that a second single stands behind
 abbrev pub pair_sign : Pair → Sign
 pair_sign (pair.Overbrace c) = Sup
 pair_sign (pair.Underbrace c) = Sub
-pair_sign (pair.Limits op Sub) = Sup
-pair_sign (pair.Limits op Sup) = Sub
+pair_sign (pair.BigOp c Sub) = Sup
+pair_sign (pair.BigOp c Sup) = Sub
+pair_sign (pair.Integral c Sub) = Sup
+pair_sign (pair.Integral c Sup) = Sub
 
 -- what a rule of one or two singles makes of one, and of two
-abbrev pub one_of_pair : Pair → Tree → Tree
-one_of_pair (pair.Overbrace c) x = overbraced c x
-one_of_pair (pair.Underbrace c) x = underbraced c x
-one_of_pair (pair.Limits op sign) x = limit op sign x
+abbrev pub one_of_pair : Pair → Kind
+one_of_pair (pair.Overbrace c) = kind.Overbrace c
+one_of_pair (pair.Underbrace c) = kind.Underbrace c
+one_of_pair (pair.BigOp c Sub) = kind.LimitBelow c
+one_of_pair (pair.BigOp c Sup) = kind.LimitAbove c
+one_of_pair (pair.Integral c Sub) = kind.LimitSub c
+one_of_pair (pair.Integral c Sup) = kind.LimitSup c
 
-abbrev pub pair_tree : Pair → Tree → Tree → Tree
-pair_tree (pair.Overbrace c) x y = overbraced_with c y x
-pair_tree (pair.Underbrace c) x y = underbraced_with c y x
-pair_tree (pair.Limits op Sub) x y = both_limits op x y
-pair_tree (pair.Limits op Sup) x y = both_limits op y x
+abbrev pub two_of_pair : Pair → Kind
+two_of_pair (pair.Overbrace c) = kind.OverbraceWith c
+two_of_pair (pair.Underbrace c) = kind.UnderbraceWith c
+two_of_pair (pair.BigOp c Sub) = kind.LimitsBelowAbove c
+two_of_pair (pair.BigOp c Sup) = kind.LimitsAboveBelow c
+two_of_pair (pair.Integral c Sub) = kind.LimitsSubSup c
+two_of_pair (pair.Integral c Sup) = kind.LimitsSupSub c
 
 -- what follows the first single
-abbrev pub after_first : Pair → Tree → Rule
-after_first p x = with_second (sign_token (pair_sign p)) (one_of_pair p) (pair_tree p) x
+abbrev pub after_first : Pair → List Tree → Tree → Rule
+after_first p ts =
+    with_second (sign_token (pair_sign p)) (λ x. top (put (one_of_pair p) (x ∷ ts))) (λ x y. top (put (two_of_pair p) (y ∷ x ∷ ts)))
 
--- the rule of an operator with its limits
-abbrev pub with_limits : Limited → Rule
-with_limits op = limits (bare op) (limit op Sub) (limit op Sup) (both_limits op)
+-- the rule of an operator with its limits, of which these read the rest where its sign stands first
+abbrev pub with_limits : ℕ → Pair → Pair → List Tree → Rule
+with_limits c below above ts =
+    reads_sign Underscore (reads_part single (after_first below ts))
+    (reads_sign Circumflex (reads_part single (after_first above ts)) (gives (operator c)))
 
 -- the rule that was begun, at the part that is to be read next
-abbrev pub stands : Frame → Standing
-stands (frame.Group members) = awaits_members group_end.Brace (map tree members.items) (λ xs. gives (grouped xs))
-stands (frame.Degree members) = awaits_members group_end.Bracket (map tree members.items) of_degree
-stands (frame.One rule) = awaits_part operand (λ x. gives (unary_tree rule x))
-stands (frame.First rule) = awaits_part operand (λ x. of_one (binary_tree rule x))
-stands (frame.Second rule x) = awaits_part operand (λ y. gives (binary_tree rule (tree x) y))
-stands (frame.Single rule) = awaits_part single (after_first rule)
-stands (frame.Behind rule x) = awaits_part single (λ y. gives (pair_tree rule (tree x) y))
-stands (frame.Limit name) = awaits_part single (λ x. gives (under (function name.now) x))
-stands frame.Slashed = awaits_part node under_slash
-stands (frame.Fence opening members) = awaits_members group_end.Right (map tree members.items) (closing opening.now)
-stands (frame.Stretch got) = awaits_part single (λ x. stretching (tok got) (stretched_of x))
-stands (frame.Environment name members) = awaits_members group_end.End (map tree members.items) (ending (string_bytes name))
-stands (frame.Script sign x) = awaits_part node (λ y. gives (script sign (tree x) y))
+abbrev pub stands : Frame → List Tree → Standing
+stands (frame.Members g n) ts = awaits_members (end_of g) (reverse (take n ts)) (after_members g (drop n ts))
+stands (frame.Operand k) ts = awaits_part operand (λ x. gives (top (put k (x ∷ ts))))
+stands (frame.First k) ts = awaits_part operand (λ x. of_one (λ y. top (put k (y ∷ x ∷ ts))))
+stands (frame.Style v) ts = awaits_part operand (λ x. gives (styled v x))
+stands (frame.Single p) ts = awaits_part single (after_first p ts)
+stands (frame.Last k) ts = awaits_part single (λ x. gives (top (put k (x ∷ ts))))
+stands frame.Slashed ts = awaits_part node under_slash
+stands (frame.Stretch got) ts = awaits_part single (λ x. stretching (lexeme_tok got) (stretched_of x))
+stands (frame.Script sign) ts = awaits_part node (λ y. gives (script sign (top ts) y))
 
 -- what the frame is a rule of
 abbrev pub made : Frame → Sort
-made (frame.Script sign x) = node
+made (frame.Script sign) = node
 made f = core
 
+-- what the frame waits for
 abbrev pub awaits : Frame → Due
-awaits f = due_in (stands f)
+awaits (frame.Members g n) = due.Member (end_of g)
+awaits (frame.Operand k) = due.Core
+awaits (frame.First k) = due.Core
+awaits (frame.Style v) = due.Core
+awaits (frame.Single p) = due.Single
+awaits (frame.Last k) = due.Single
+awaits frame.Slashed = due.Node
+awaits (frame.Stretch got) = due.Single
+awaits (frame.Script sign) = due.Node
 
--- what is due inside all frames, the outermost first, where this is due outside them
-abbrev pub due_inside : Due → List Frame → Due
-due_inside d [] = d
-due_inside d (f ∷ fs) = due_inside (awaits f) fs
+-- a script may follow what is due
+abbrev pub takes_script : Due → Bool
+takes_script (due.Member end) = true
+takes_script due.Node = true
+takes_script due.Single = false
+takes_script due.Core = false
 
--- a node of the formula is due outside all frames
-abbrev pub innermost : List Frame → Due
-innermost fs = due_inside due.Node fs
+-- how many of the trees beside it belong to the frame. The name of an environment stands below its members.
+abbrev pub held : Frame → ℕ
+held (frame.Members group.Environment n) = n + 1
+held (frame.Members g n) = n
+held (frame.Operand k) = arity k - 1
+held (frame.Last k) = arity k - 1
+held (frame.Script sign) = 1
+held f = 0
 
-abbrev pub enter : Frame → Level → Level
-enter f l = entered (stands f) (made f) l
+-- 0 where the part that the frame makes has as many operands as the frame waits for, with those that were read
+abbrev pub unfit : Frame → ℕ
+unfit (frame.Operand k) = 1 - arity k
+unfit (frame.Last k) = 1 - arity k
+unfit (frame.First k) = (2 - arity k) + (arity k - 2)
+unfit f = 0
 
--- the level inside all frames, the outermost first
-abbrev pub inside : Level → List Frame → Level
-inside l [] = l
-inside l (f ∷ fs) = inside (enter f l) fs
+abbrev pub enter : Frame → List Tree → Level → Level
+enter f ts l = entered (stands f ts) (made f) l
 
 -- the level of one node of the formula, where these tokens were left before it
 abbrev pub whole : List Tok → Level
 whole input = part node (Reads node input)
 
--- what holds between two steps
-abbrev pub Holds : List Tok → List Frame → List Tok → State → Type 0
-Holds input fs place state.Next = Leads (inside (whole input) fs) place
-Holds input fs place (state.Core x) = Made core (inside (whole input) fs) (Read (tree x) place)
-Holds input fs place (state.Part x) = Takes (inside (whole input) fs) (Read (tree x) place)
-Holds input fs place (state.End x) = (fs ≡ []) × Reads node input (Read (tree x) place)
+-- the level inside all frames, the innermost first
+abbrev pub inside_all : Level → List Frame → List Tree → Level
+inside_all l [] ts = l
+inside_all l (f ∷ fs) ts = enter f ts (inside_all l fs (drop (held f) ts))
 
--- what a step answers: a state that holds, want of memory, or a refusal of the node
-abbrev pub Answers : List Tok → List Frame → List Tok → Result State LatexError → Type 0
-Answers input fs place answer =
-    MatchResult answer (Holds input fs place) (λ error. IfSome (refusal_of error) (λ r. Reads node input (Refused r)))
+-- .. and the innermost last, as on the stack
+abbrev pub inside : List Tok → List Frame → List Tree → Level
+inside input fs ts = inside_all (whole input) (reverse fs) ts
 
--- how much a frame still brings, apart from the part that it waits for
-abbrev pub weight : Frame → ℕ
-weight (frame.Group members) = 1
-weight (frame.Degree members) = 1
-weight (frame.First rule) = 5
-weight (frame.Fence opening members) = 1
-weight (frame.Environment name members) = 1
-weight f = 2
+-- .. and one more frame inside them
+abbrev pub within : List Tok → List Frame → Frame → List Tree → Level
+within input fs f ts = enter f ts (inside input fs (drop (held f) ts))
 
-abbrev pub state_weight : State → Due → ℕ
-state_weight state.Next (due.Member end) = 2
-state_weight state.Next d = 5
-state_weight (state.Core x) d = 4
-state_weight (state.Part x) d = 3
-state_weight (state.End x) d = 0
+abbrev pub first_due : List Frame → Due
+first_due [] = due.Node
+first_due (f ∷ fs) = awaits f
 
--- how much is left to do besides the tokens that are left
-abbrev pub rest_of_work : State → List Frame → ℕ
-rest_of_work state fs = sum_by weight fs + state_weight state (innermost fs)
-
--- how much is left to do: it falls with every step
-abbrev pub work : State → List Frame → List Tok → ℕ
-work state fs place = 16 * length place + rest_of_work state fs
+-- what is due: what the innermost frame waits for, or a node of the formula
+abbrev pub innermost : List Frame → Due
+innermost fs = first_due (reverse fs)

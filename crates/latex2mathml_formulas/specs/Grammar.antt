@@ -5,7 +5,7 @@ use Rattle.std.specs.Str.{byte, encode_utf8_all}
 use Rattle.latex2mathml_nodes.specs.Productions.{binomial_tree, environment_tree, fence_of, overbraced, overbraced_with, stretched_of, underbraced, underbraced_with, grouped, prime_mark}
 use Rattle.latex2mathml_tokens.specs.Refusal.{Refusal, UnexpectedToken, MissingParensethis, UnknownEnvironment}
 use Rattle.latex2mathml_nodes.specs.Style.{styled}
-use Rattle.latex2mathml_tokens.specs.Tok.{Tok, EOF, Begin, End, Ampersand, Paren, LBrace, RBrace, NewLine, Left, Right, Middle, Frac, Underscore, Circumflex, Binom, Overset, Underset, Overbrace, Underbrace, Sqrt, Integral, Lim, Letter, Number, Operator, BigOp, Space, Style, Big, Over, Under, Function, OperatorName, Slashed, Text}
+use Rattle.latex2mathml_tokens.specs.Tok.{Tok, Illegal, EOF, Begin, End, Ampersand, Paren, LBrace, RBrace, NewLine, Left, Right, Middle, Frac, Underscore, Circumflex, Binom, Overset, Underset, Overbrace, Underbrace, Sqrt, Integral, Lim, Letter, Number, Operator, BigOp, Space, Style, Big, Over, Under, Function, OperatorName, Slashed, Text, Command}
 use Rattle.latex2mathml_tokens.specs.TokenText.{token_text}
 use Rattle.latex2mathml_nodes.specs.Tree.{Tree, number, letter, operator, function, space, other_operator, subscript, superscript, sub_sup, over_op, under_op, overset, underset, under, under_over, root, sqrt, frac, fenced, sized_paren, words, ampersand, new_line, slashed, undefined}
 use Rattle.latex2mathml_tokens.specs.declared.attribute.LineThickness.TheVariants.{Medium}
@@ -111,6 +111,10 @@ environment name None = refuses (UnknownEnvironment name)
 abbrev pub ending : List ℕ → List Tree → Rule
 ending name xs = a_name (λ again. environment name (environment_tree name (grouped xs)))
 
+-- a token that has no meaning where a core is due: its text, marked as an error
+abbrev pub marked : Tok → Rule
+marked t = gives (undefined (token_text t))
+
 -- the rule of a token that stands where a core begins
 abbrev pub rule : Tok → Rule
 rule (Number digits) = gives (number digits)
@@ -142,7 +146,15 @@ rule Slashed = takes_token (λ before. reads_part node under_slash)
 rule Left = a_fence Left (λ opening. reads_members Right (closing opening))
 rule Middle = sees_token (λ t. reads_part single (λ x. stretching t (stretched_of x)))
 rule Begin = a_name (λ name. reads_members End (ending name))
-rule t = gives (undefined (token_text t))
+-- a token that begins no rule is marked as an error
+rule (Illegal c) = marked (Illegal c)
+rule EOF = marked EOF
+rule RBrace = marked RBrace
+rule Right = marked Right
+rule End = marked End
+rule Underscore = marked Underscore
+rule Circumflex = marked Circumflex
+rule (Command name) = marked (Command name)
 
 -- a rule without parts: it gives its tree at once
 abbrev pub is_plain : Rule → Bool

@@ -1,14 +1,14 @@
--- What the lexer's functions answer, in the words of the spelling.
-use Rattle.std.specs.Prelude.{◌≡◌, ℕ, ◌*◌, ◌≤◌, Bool, List, ◌++◌}
+-- What the reader's functions return, in the words of the spelling.
+use Rattle.std.specs.Prelude.{◌≡◌, ℕ, ◌*◌, ◌≤◌, ◌&&◌, Bool, List, ◌++◌}
 use Rattle.std.specs.Char.{is_ascii_digit, is_ascii_alphabetic}
 use Rattle.std.specs.List.{AllPass}
-use Rattle.latex2mathml_formulas.specs.Characters.{Stops, head, is_space}
+use Rattle.latex2mathml_formulas.specs.Characters.{Stops, head, is_empty, is_space}
 use Rattle.latex2mathml_formulas.specs.Counts.{backslash_count}
 use Rattle.latex2mathml_formulas.specs.Cutting.{slice}
 use Rattle.latex2mathml_formulas.specs.Spelling.{SpellsAt, IsStep}
 use Rattle.latex2mathml_tokens.specs.Tok.{Tok}
-use Rattle.latex2mathml_formulas.specs.declared.lexer.characters.Class.{Class}
-use Rattle.latex2mathml_formulas.specs.declared.lexer.characters.Class.TheVariants.{Space, Digit, Letter}
+use Rattle.latex2mathml_formulas.specs.declared.reader.characters.Class.{Class}
+use Rattle.latex2mathml_formulas.specs.declared.reader.characters.Class.TheVariants.{Space, Digit, Letter}
 
 -- the test of a class of characters
 abbrev pub in_class : Class → ℕ → Bool
@@ -19,6 +19,12 @@ in_class Letter c = is_ascii_alphabetic c
 -- the text is front and back, and front is the longest run of characters that pass the test
 abbrev pub IsLongestRun : (ℕ → Bool) → List ℕ → List ℕ → List ℕ → Type 0
 IsLongestRun p text front back = (text ≡ front ++ back) × AllPass p front × Stops p (head back)
+
+-- the text is white space, and then a start that begins with none. `takes` says that a digit that follows directly is a
+-- number of its own, and `alone` that a digit at the start is.
+abbrev pub IsStart : Bool → List ℕ → List ℕ → Bool → Type 0
+IsStart takes text start alone =
+    (space : List ℕ) × IsLongestRun is_space text space start × (alone ≡ (takes && is_empty space))
 
 -- the text is a slice that spells t, and then the rest
 abbrev pub BeginsWith : Bool → List ℕ → Tok → List ℕ → Type 0

@@ -15,5 +15,6 @@ pub mod RenderingLaws
 pub mod SliceRefusals
 pub mod Slices
 pub mod Spelling
+pub mod Steps
 pub mod TokenLists
 pub mod Unread

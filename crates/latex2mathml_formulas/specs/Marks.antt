@@ -1,12 +1,13 @@
 -- What stands next in a list of tokens: the marks that go on with what was read, and names.
-use Rattle.std.specs.Prelude.{◌≡◌, ◌≢◌, ℕ, List, [], ◌∷◌, Option, Some, None}
-use Rattle.std.specs.Str.{encode_utf8_all}
-use Rattle.latex2mathml_formulas.specs.Grammar.{AreLetters, prime}
+use Rattle.std.specs.Prelude.{◌≡◌, ◌≢◌, ◌↔◌, ℕ, List, [], ◌∷◌, Option, Some, None}
+use Rattle.std.specs.Str.{byte, encode_utf8_all}
+use Rattle.latex2mathml_formulas.specs.Grammar.{AreLetters, first, prime}
+use Rattle.latex2mathml_formulas.specs.Spelling.{character_token}
 use Rattle.latex2mathml_tokens.specs.Tok.{Tok, Underscore, Circumflex}
-use Rattle.latex2mathml_formulas.specs.declared.parse.frames.Mark.{Mark}
-use Rattle.latex2mathml_formulas.specs.declared.parse.frames.Mark.TheVariants.{Prime, Script}
-use Rattle.latex2mathml_formulas.specs.declared.parse.frames.Sign.{Sign}
-use Rattle.latex2mathml_formulas.specs.declared.parse.frames.Sign.TheVariants.{Sub, Sup}
+use Rattle.latex2mathml_formulas.specs.declared.reader.mark.Mark.{Mark}
+use Rattle.latex2mathml_formulas.specs.declared.reader.mark.Mark.TheVariants.{Prime, Script}
+use Rattle.latex2mathml_formulas.specs.declared.reader.mark.Sign.{Sign}
+use Rattle.latex2mathml_formulas.specs.declared.reader.mark.Sign.TheVariants.{Sub, Sup}
 
 -- the tokens behind the first
 abbrev pub rest_of : List Tok → List Tok
@@ -25,6 +26,19 @@ mark_token (Script sign) = sign_token sign
 abbrev pub MarkStands : Option Mark → Option Tok → Type 0
 MarkStands (Some mark) t = t ≡ Some (mark_token mark)
 MarkStands None t = (t ≢ Some prime) × (t ≢ Some Underscore) × (t ≢ Some Circumflex)
+
+-- the token that stands next is that of the character d just where its first character c is d
+abbrev pub Shows : ℕ → ℕ → List Tok → Type 0
+Shows d c ts = (c ≡ d) ↔ (first ts ≡ Some (character_token d))
+
+-- what is known of the tokens by the first character of the text that is no white space, if there is one
+abbrev pub IsSeen : Option ℕ → List Tok → Type 0
+IsSeen None ts = ts ≡ []
+IsSeen (Some c) ts = (ts ≢ [])
+    × Shows (byte "'") c ts
+    × Shows (byte "_") c ts
+    × Shows (byte "^") c ts
+    × Shows (byte "[") c ts
 
 -- letters stand next, whose characters have these bytes, and the other tokens are left behind them
 abbrev pub LettersStand : List ℕ → List Tok → List Tok → Type 0

@@ -1,5 +1,5 @@
 -- What is left of a text that is taken token by token, and what was counted so far.
-use Rattle.std.specs.Prelude.{◌≡◌, ℕ, ◌+◌, ◌-◌, ◌*◌, ◌≤◌, Bool, true, false, List, ◌∷◌, map, length, Option, Some, None}
+use Rattle.std.specs.Prelude.{◌≡◌, ℕ, ◌+◌, ◌-◌, ◌*◌, ◌≤◌, List, ◌∷◌, map, length, Option, Some, None}
 use Rattle.latex2mathml_formulas.specs.Counts.{backslash_count, backslashes}
 use Rattle.latex2mathml_formulas.specs.Cutting.{slice}
 use Rattle.latex2mathml_formulas.specs.Spelling.{Slice}
@@ -20,17 +20,25 @@ pub record IsTaken (old : Unread) (t : Tok) (new : Unread) : Type 0 where
   pub at_least : old.comparisons + backslash_count text ≤ new.comparisons
   pub at_most : new.comparisons ≤ old.comparisons + 9 * backslash_count text
 
--- the tokens that are left, whether the first of them was looked at, how many were taken, and of what is not even looked
--- at how many slices begin with a backslash, with the names that were compared for the others
+-- the tokens that are left, how many were taken, how many of the slices that are left begin with a backslash, and how many
+-- names were compared for those that were taken
 pub record Left : Type 0 where
   pub list : List Tok
-  pub looked : Bool
   pub tokens : ℕ
   pub backslashes : ℕ
   pub comparisons : ℕ
 
 abbrev pub token_list : List Slice → List Tok
 token_list slices = map (λ s. s.token) slices
+
+-- what is left where these slices are, with the counts of what was taken
+abbrev pub left_in : List Slice → ℕ → ℕ → Left
+left_in slices tokens comparisons = record {
+  list = token_list slices;
+  tokens = tokens;
+  backslashes = backslashes slices;
+  comparisons = comparisons;
+}
 
 -- how many tokens were looked at
 abbrev pub ahead : Option Token → ℕ
@@ -41,14 +49,12 @@ ahead (Some token) = 1
 abbrev pub left_of : Option Token → Unread → Left
 left_of None unread = record {
   list = token_list unread.slices;
-  looked = false;
   tokens = unread.tokens;
   backslashes = backslashes unread.slices;
   comparisons = unread.comparisons;
 }
 left_of (Some token) unread = record {
   list = tok token ∷ token_list unread.slices;
-  looked = true;
   tokens = unread.tokens - 1;
   backslashes = backslashes unread.slices;
   comparisons = unread.comparisons;

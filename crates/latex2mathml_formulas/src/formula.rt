@@ -1,72 +1,115 @@
 //! From a formula to its markup.
-ghost use Rattle.std.specs.Prelude.{◌≡◌, ℕ, ◌++◌, [], IfOk, List, OnOk, string_bytes};
-ghost use Rattle.latex2mathml_formulas.specs.Openers.{OpensFor};
-ghost use Rattle.latex2mathml_formulas.specs.Grammar.{Reading, Refuses};
-ghost use Rattle.latex2mathml_nodes.specs.Print.{print};
-ghost use Rattle.latex2mathml_tokens.specs.Refusal.{IfRefused};
+ghost use Rattle.std.specs.Prelude.{◌≡◌, ℕ, ◌∷◌, ◌++◌, [], IfOk, List, OnOk, codes, string_bytes};
+ghost use Rattle.latex2mathml_formulas.specs.Grammar.{Reading, Reads, Refused, Refuses, node as a_node};
+ghost use Rattle.latex2mathml_formulas.specs.Openers.{opens};
 ghost use Rattle.latex2mathml_formulas.specs.Rendering.{IsFormulaRefusal, IsRendering, math_print};
-ghost use Rattle.latex2mathml_nodes.specs.Tree.{Tree, tree};
-ghost use Rattle.latex2mathml_formulas.specs.Unread.{GoesOn};
+ghost use Rattle.latex2mathml_formulas.specs.Steps.{Counted, HasTrees, Holds, IsAppended, spoken_of};
+ghost use Rattle.latex2mathml_tokens.specs.Attributes.{display_text};
+ghost use Rattle.latex2mathml_tokens.specs.Lexemes.{lexeme_tok};
+ghost use Rattle.latex2mathml_tokens.specs.Refusal.{IfRefused};
+ghost use Rattle.latex2mathml_tokens.specs.Tok.{Tok};
+ghost use Rattle.latex2mathml_nodes.specs.Tree.{Tree};
 
-use crate::parse::frames::Frames;
-use crate::parse::next_node;
-use crate::parse::tokens::Tokens;
-use latex2mathml_nodes::ast::Node;
+use crate::parse::begin::symbol;
+use crate::parse::{Parser, State};
+use latex2mathml_parts::write::write_leaf;
+use latex2mathml_tokens::lexeme::Lexeme;
 use latex2mathml_tokens::{DisplayStyle, LatexError};
 use std::alloc::{AllocError, Global};
 
-/// Appends the `math` element of the tokens that are left. Each node is printed and dropped before the next is read, so
+/// Appends the `math` element of the tokens that are left. Each node is written and dropped before the next is read, so
 /// memory for one node is enough.
 pub(crate) fn append_math(
-    alloc: Global,
+    parser: &mut Parser,
     display: DisplayStyle,
-    tokens: &mut Tokens,
-    frames: &mut Frames,
     markup: &mut String,
 ) -> Result<(), LatexError>
-    requires { frames.old.stack.items ≡ [] }
-    ensures rendering { OnOk result ((xs : List Tree) × Reading tokens.old.list xs
+    requires { parser.old.frames.stack.items ≡ [] }
+    ensures rendering { OnOk result ((xs : List Tree) × Reading parser.old.reader.list xs
         × (string_bytes markup.new ≡ string_bytes markup.old ++ math_print display xs)) }
-    ensures refused { IfRefused result (Refuses tokens.old.list) }
-    ensures all { OnOk result (tokens.new.list ≡ []) }
-    ensures counts { GoesOn tokens.old tokens.new }
-    ensures frames { OpensFor tokens.old tokens.new frames.old.greatest frames.new.greatest }
+    ensures refused { IfRefused result (Refuses parser.old.reader.list) }
+    ensures all { OnOk result (parser.new.reader.list ≡ []) }
+    ensures counted { Counted 0 parser.old parser.new }
 {
-    write!(
-        markup,
-        "<math xmlns=\"http://www.w3.org/1998/Math/MathML\" display=\"{display}\">"
-    )?;
-    'nodes: while let Some(node) = next_node(alloc, tokens, frames)? {
-        append_node(alloc, node, markup)?;
+    markup.push_str(opening_tag(display))?;
+    'nodes: loop {
+        let lexeme = parser.reader.take();
+        if let Lexeme::EOF = lexeme {
+            break 'nodes;
+        }
+        append_node(parser, lexeme, markup)?;
     }
     markup.push_str("</math>")?;
     Ok(())
 }
 
 /// Returns the `math` element of the tokens that are left.
-pub(crate) fn math(
-    alloc: Global,
-    display: DisplayStyle,
-    tokens: &mut Tokens,
-    frames: &mut Frames,
-) -> Result<String, LatexError>
-    requires { frames.old.stack.items ≡ [] }
-    ensures rendering { IfOk result (λ markup. (xs : List Tree) × Reading tokens.old.list xs
+pub(crate) fn math(parser: &mut Parser, display: DisplayStyle) -> Result<String, LatexError>
+    requires { parser.old.frames.stack.items ≡ [] }
+    ensures rendering { IfOk result (λ markup. (xs : List Tree) × Reading parser.old.reader.list xs
         × (string_bytes markup ≡ math_print display xs)) }
-    ensures refused { IfRefused result (Refuses tokens.old.list) }
-    ensures all { OnOk result (tokens.new.list ≡ []) }
-    ensures counts { GoesOn tokens.old tokens.new }
-    ensures frames { OpensFor tokens.old tokens.new frames.old.greatest frames.new.greatest }
+    ensures refused { IfRefused result (Refuses parser.old.reader.list) }
+    ensures all { OnOk result (parser.new.reader.list ≡ []) }
+    ensures counted { Counted 0 parser.old parser.new }
 {
-    let mut markup = String::new(alloc);
-    append_math(alloc, display, tokens, frames, &mut markup)?;
+    let mut markup = String::new(parser.alloc);
+    append_math(parser, display, &mut markup)?;
     Ok(markup)
 }
 
-fn append_node(alloc: Global, node: Node, markup: &mut String) -> Result<(), AllocError>
-    ensures { OnOk result (string_bytes markup.new ≡ string_bytes markup.old ++ print (tree node)) }
+/// The tag that opens the `math` element.
+fn opening_tag(display: DisplayStyle) -> &'static str
+    ensures { result.now ≡ codes "<math xmlns=\"http://www.w3.org/1998/Math/MathML\" display=\"" ++ (display_text display ++ codes "\">") }
 {
-    node.append_markup(alloc, markup)
+    match display {
+        DisplayStyle::Block =>
+            "<math xmlns=\"http://www.w3.org/1998/Math/MathML\" display=\"block\">",
+        DisplayStyle::Inline =>
+            "<math xmlns=\"http://www.w3.org/1998/Math/MathML\" display=\"inline\">",
+    }
+}
+
+/// Appends the node of the formula that begins with this lexeme, which was taken.
+#[inline(always)]
+fn append_node<'a>(
+    parser: &mut Parser<'a>,
+    lexeme: Lexeme<'a>,
+    markup: &mut String,
+) -> Result<(), LatexError>
+    requires { parser.old.frames.stack.items ≡ [] }
+    ensures node { (input : List Tok) → input ≡ lexeme_tok lexeme.entry ∷ parser.old.reader.list
+        → OnOk result (IsAppended input parser.new (string_bytes markup.old) (string_bytes markup.new)) }
+    ensures refused { (input : List Tok) → input ≡ lexeme_tok lexeme.entry ∷ parser.old.reader.list
+        → IfRefused result (λ r. Reads a_node input (Refused r)) }
+    ensures counted { Counted (opens (lexeme_tok lexeme.entry)) parser.old parser.new }
+{
+    let Some(leaf) = symbol(lexeme) else {
+        let state = parser.begin(lexeme)?;
+        return append_rest(parser, state, markup);
+    };
+    match parser.reader.mark() {
+        // Most nodes are one such lexeme that no mark follows. These need no part.
+        None => Ok(write_leaf(parser.alloc, leaf, markup)?),
+        Some(_) => {
+            let state = parser.leaf(leaf)?;
+            append_rest(parser, state, markup)
+        }
+    }
+}
+
+/// Goes on until the node is read, and appends it.
+fn append_rest(parser: &mut Parser, begun: State, markup: &mut String) -> Result<(), LatexError>
+    requires { HasTrees (spoken_of begun) parser.old }
+    ensures node { (input : List Tok) → Holds input parser.old begun
+        → OnOk result (IsAppended input parser.new (string_bytes markup.old) (string_bytes markup.new)) }
+    ensures refused { (input : List Tok) → Holds input parser.old begun
+        → IfRefused result (λ r. Reads a_node input (Refused r)) }
+    ensures counted { Counted 0 parser.old parser.new }
+{
+    parser.finish(begun)?;
+    parser.parts.write(parser.alloc, markup)?;
+    parser.parts.clear();
+    Ok(())
 }
 
 /// Appends the markup of a formula to the text.
@@ -80,7 +123,6 @@ pub fn append_formula(
         × (string_bytes text.new ≡ string_bytes text.old ++ markup)) }
     ensures refusal { IfRefused result (IsFormulaRefusal latex.now) }
 {
-    let mut tokens = Tokens::new(latex);
-    let mut frames = Frames::new(alloc);
-    append_math(alloc, display, &mut tokens, &mut frames, text)
+    let mut parser = Parser::new(alloc, latex);
+    append_math(&mut parser, display, text)
 }

@@ -1,6 +1,6 @@
 //! One formula, from its text to its markup.
 //!
-//! The crate `latex2mathml` hands on what its callers need of this one.
+//! The crate `latex2mathml` re-exports what its callers need from this one.
 #![tactic(auto)]
 
 ghost use Rattle.std.specs.Prelude.{◌≢◌, ◌≤◌, IfOk, is_ok, length, string_bytes};
@@ -13,13 +13,12 @@ ghost use Rattle.latex2mathml_formulas.specs.Rendering.{IsRendering, IsFormulaRe
 
 mod formula;
 pub mod laws;
-pub mod lexer;
 mod parse;
+mod reader;
 
 pub use formula::append_formula;
 use latex2mathml_tokens::{DisplayStyle, LatexError};
-use parse::frames::Frames;
-use parse::tokens::Tokens;
+use parse::Parser;
 use std::alloc::Global;
 
 /// The `math` element of a formula.
@@ -35,8 +34,7 @@ use std::alloc::Global;
 ///
 /// [`LatexError::InvalidNumberOfDollarSigns`] never comes: it is a refusal of documents.
 ///
-/// Neither reading nor printing recurses as deep as braces and scripts stand one in the other: what is nested deep takes
-/// memory for a list.
+/// Neither reading nor printing recurses, however deep the formula is nested: what is nested takes memory for a list.
 ///
 /// `x<y`, inline, is `<math xmlns="http://www.w3.org/1998/Math/MathML" display="inline"><mi>x</mi><mo>&lt;</mo><mi>y</mi></math>`.
 pub fn latex_to_mathml(
@@ -82,13 +80,12 @@ pub fn latex_to_mathml_counted(
         result.1.comparisons }
     ensures frames { IsFrameCount (chars latex.now) result.1.tokens result.1.frames }
 {
-    let mut tokens = Tokens::new(latex);
-    let mut frames = Frames::new(alloc);
-    let result = formula::math(alloc, display, &mut tokens, &mut frames);
+    let mut parser = Parser::new(alloc, latex);
+    let result = formula::math(&mut parser, display);
     let steps = Steps {
-        tokens: tokens.tokens(),
-        comparisons: tokens.comparisons(),
-        frames: frames.greatest,
+        tokens: parser.reader.tokens(),
+        comparisons: parser.reader.comparisons(),
+        frames: parser.frames.greatest,
     };
     (result, steps)
 }

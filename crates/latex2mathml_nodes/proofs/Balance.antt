@@ -4,7 +4,7 @@ use Rattle.std.proofs.lemmas.Option.{option_and_then_some}
 use Rattle.std.specs.Char.{encode_utf8}
 use Rattle.latex2mathml_tokens.specs.Attributes.{accent_text, align_text, thickness_text}
 use Rattle.latex2mathml_tokens.specs.Escape.{content, content_char, quoted}
-use Rattle.latex2mathml_nodes.specs.Markup.{Name, numbered, Piece, open_tag, close_tag, empty_tag, reference, data_byte, Levels, lowest, above, at_start, add, any_element, Leads, IsBalanced, is_piece, name_of, run, same_name, spell_piece, step}
+use Rattle.latex2mathml_nodes.specs.Markup.{Name, numbered, Event, open_tag, close_tag, empty_tag, reference, data_byte, OpenElements, lowest, above, at_start, add, any_element, Runs, IsBalanced, is_event, name_of, run, same_name, spell_event, step}
 use Rattle.latex2mathml_nodes.specs.MathSchema.{child_table}
 use Rattle.latex2mathml_nodes.specs.Print.{print, prints, member_print, members_print, slashed_print, style_open}
 use Rattle.latex2mathml_nodes.specs.Tree.{Tree, Trees, number, letter, operator, function, applied, space, subscript, superscript, sub_sup, over_op, under_op, overset, underset, under, under_over, root, sqrt, frac, row, fenced, stretched, other_operator, sized_paren, words, matrix, ampersand, new_line, slashed, style, undefined, no_trees, more_trees}
@@ -13,19 +13,19 @@ use Rattle.latex2mathml_tokens.specs.declared.attribute.ColumnAlign.{ColumnAlign
 use Rattle.latex2mathml_tokens.specs.declared.attribute.LineThickness.{LineThickness}
 use Rattle.latex2mathml_nodes.proofs.Cells.{table_opened}
 use Rattle.latex2mathml_nodes.proofs.Elements.{frac_opened, style_opened}
-use Rattle.latex2mathml_nodes.proofs.Leads.{closed, ending_as, joined, opened, spelled_as, staying}
+use Rattle.latex2mathml_nodes.proofs.Runs.{closed, ending_as, joined, opened, spelled_as, staying}
 use Rattle.latex2mathml_nodes.proofs.Leaves.{IsChild, accent_is_child, accent_last, error_is_child, fence, identifier, letter_is_child, numeral, operator_is_child, sign, sized_is_child, slashed_identifier, slashed_sign, space_is_child, stretched_is_child, wording}
 
 -- more children of the highest level, the last one first
-abbrev pub more : List Name → Levels → Levels
+abbrev pub more : List Name → OpenElements → OpenElements
 more [] s = s
 more (n ∷ ns) s = add n (more ns s)
 
-more-append : (ms ns : List Name) (s : Levels) → more (ms ++ ns) s ≡ more ms (more ns s)
+more-append : (ms ns : List Name) (s : OpenElements) → more (ms ++ ns) s ≡ more ms (more ns s)
 more-append [] ns s = refl
 more-append (m ∷ ms) ns s = ap (add m) (more-append ms ns s)
 
-more-above : (ms ks : List Name) (n : Name) (d : Bool) (s : Levels) → more ms (above n ks d s) ≡ above n (ms ++ ks) d s
+more-above : (ms ks : List Name) (n : Name) (d : Bool) (s : OpenElements) → more ms (above n ks d s) ≡ above n (ms ++ ks) d s
 more-above [] ks n d s = refl
 more-above (m ∷ ms) ks n d s = ap (add m) (more-above ms ks n d s)
 
@@ -35,7 +35,7 @@ more-lowest (n ∷ ns) ks d = ap (add n) (more-lowest ns ks d)
 
 -- the bytes are elements side by side, wherever they stand
 abbrev pub AreElements : List ℕ → Type 0
-AreElements bs = (ns : List Name) × ((s : Levels) → Leads any_element bs s (more ns s))
+AreElements bs = (ns : List Name) × ((s : OpenElements) → Runs any_element bs s (more ns s))
 
 none : AreElements []
 none = ([], λ s. staying)
@@ -44,16 +44,16 @@ both : (a b : List ℕ) → AreElements a → AreElements b → AreElements (a +
 both a b x y = (y.0 ++ x.0, λ s. ending_as (sym (more-append y.0 x.0 s)) (joined (x.1 s) (y.1 (more x.0 s))))
 
 -- what obeys the child table obeys no table as well
-close_any : (p q : Bool) (s t : Levels) → cond (p && q) (Some s) None ≡ Some t → cond (p && true) (Some s) None ≡ Some t
+close_any : (p q : Bool) (s t : OpenElements) → cond (p && q) (Some s) None ≡ Some t → cond (p && true) (Some s) None ≡ Some t
 close_any true true s t h = h
 close_any true false s t h = cc
 close_any false q s t h = h
 
-empty_any : (q : Bool) (s t : Levels) → cond q (Some s) None ≡ Some t → Some s ≡ Some t
+empty_any : (q : Bool) (s t : OpenElements) → cond q (Some s) None ≡ Some t → Some s ≡ Some t
 empty_any true s t h = h
 empty_any false s t h = cc
 
-step_any : (p : Piece) (s t : Levels) → step child_table p s ≡ Some t → step any_element p s ≡ Some t
+step_any : (p : Event) (s t : OpenElements) → step child_table p s ≡ Some t → step any_element p s ≡ Some t
 step_any (open_tag n attributes) s t h = h
 step_any (close_tag n) (lowest ks d) t h = h
 step_any (close_tag n) (above m ks d s) t h = close_any (same_name n m) (child_table (name_of s) m ks d) s t h
@@ -61,12 +61,12 @@ step_any (empty_tag n attributes) s t h = empty_any (child_table (name_of s) n [
 step_any (reference r) s t h = h
 step_any (data_byte b) s t h = h
 
-run_any : (ps : List Piece) (s t : Levels) → run child_table ps s ≡ Some t → run any_element ps s ≡ Some t
+run_any : (ps : List Event) (s t : OpenElements) → run child_table ps s ≡ Some t → run any_element ps s ≡ Some t
 run_any [] s t h = h
 run_any (p ∷ ps) s t h = option_and_then_some (run child_table ps) (step child_table p s) t h (λ u e f. ap (option_and_then (run any_element ps)) (step_any p s u e) ∙ run_any ps u t f)
 
-leads_any : (bs : List ℕ) (s t : Levels) → Leads child_table bs s t → Leads any_element bs s t
-leads_any bs s t m = record { pieces = m.pieces; are_pieces = m.are_pieces; spelled = m.spelled; runs = run_any m.pieces s t m.runs }
+leads_any : (bs : List ℕ) (s t : OpenElements) → Runs child_table bs s t → Runs any_element bs s t
+leads_any bs s t m = record { events = m.events; are_events = m.are_events; spelled = m.spelled; runs = run_any m.events s t m.runs }
 
 alone : (bs : List ℕ) → IsChild bs → AreElements bs
 alone bs x = (x.0 ∷ [], λ s. leads_any bs s (add x.0 s) (x.1 s))
@@ -75,27 +75,27 @@ spelled_elements : (a b : List ℕ) → a ≡ b → AreElements a → AreElement
 spelled_elements a b e x = (x.0, λ s. spelled_as e (x.1 s))
 
 -- elements within an element
-within : (n op a : List ℕ) → ((s : Levels) → Leads any_element op s (above n [] false (add n s))) → IsTrue (is_piece (close_tag n)) → ((ks : List Name) (s : Levels) → step any_element (close_tag n) (above n ks false s) ≡ Some s) → AreElements a → AreElements (op ++ (a ++ spell_piece (close_tag n)))
+within : (n op a : List ℕ) → ((s : OpenElements) → Runs any_element op s (above n [] false (add n s))) → IsTrue (is_event (close_tag n)) → ((ks : List Name) (s : OpenElements) → step any_element (close_tag n) (above n ks false s) ≡ Some s) → AreElements a → AreElements (op ++ (a ++ spell_event (close_tag n)))
 within n op a o w c x = (
   n ∷ [],
   λ s. joined (o s) (joined (ending_as (more-above x.0 [] n false (add n s)) (x.1 (above n [] false (add n s)))) (closed any_element n (x.0 ++ []) false (add n s) w (c (x.0 ++ []) (add n s)))),
 )
 
-within_one : (n : Name) → IsTrue (is_piece (open_tag n [])) → IsTrue (is_piece (close_tag n)) → ((ks : List Name) (s : Levels) → step any_element (close_tag n) (above n ks false s) ≡ Some s) → (a : List ℕ) → AreElements a → AreElements (spell_piece (open_tag n []) ++ (a ++ spell_piece (close_tag n)))
-within_one n v w c a x = within n (spell_piece (open_tag n [])) a (λ s. opened any_element n s v) w c x
+within_one : (n : Name) → IsTrue (is_event (open_tag n [])) → IsTrue (is_event (close_tag n)) → ((ks : List Name) (s : OpenElements) → step any_element (close_tag n) (above n ks false s) ≡ Some s) → (a : List ℕ) → AreElements a → AreElements (spell_event (open_tag n []) ++ (a ++ spell_event (close_tag n)))
+within_one n v w c a x = within n (spell_event (open_tag n [])) a (λ s. opened any_element n s v) w c x
 
-within_two : (n : Name) → IsTrue (is_piece (open_tag n [])) → IsTrue (is_piece (close_tag n)) → ((ks : List Name) (s : Levels) → step any_element (close_tag n) (above n ks false s) ≡ Some s) → (a b : List ℕ) → AreElements a → AreElements b → AreElements (spell_piece (open_tag n []) ++ (a ++ (b ++ spell_piece (close_tag n))))
+within_two : (n : Name) → IsTrue (is_event (open_tag n [])) → IsTrue (is_event (close_tag n)) → ((ks : List Name) (s : OpenElements) → step any_element (close_tag n) (above n ks false s) ≡ Some s) → (a b : List ℕ) → AreElements a → AreElements b → AreElements (spell_event (open_tag n []) ++ (a ++ (b ++ spell_event (close_tag n))))
 within_two n v w c a b x y =
-    spelled_elements _ _ (ap (λ l. spell_piece (open_tag n []) ++ l) (append_assoc a b (spell_piece (close_tag n)))) (within_one n v w c (a ++ b) (both a b x y))
+    spelled_elements _ _ (ap (λ l. spell_event (open_tag n []) ++ l) (append_assoc a b (spell_event (close_tag n)))) (within_one n v w c (a ++ b) (both a b x y))
 
-within_three : (n : Name) → IsTrue (is_piece (open_tag n [])) → IsTrue (is_piece (close_tag n)) → ((ks : List Name) (s : Levels) → step any_element (close_tag n) (above n ks false s) ≡ Some s) → (a b c : List ℕ) → AreElements a → AreElements b → AreElements c → AreElements (spell_piece (open_tag n []) ++ (a ++ (b ++ (c ++ spell_piece (close_tag n)))))
+within_three : (n : Name) → IsTrue (is_event (open_tag n [])) → IsTrue (is_event (close_tag n)) → ((ks : List Name) (s : OpenElements) → step any_element (close_tag n) (above n ks false s) ≡ Some s) → (a b c : List ℕ) → AreElements a → AreElements b → AreElements c → AreElements (spell_event (open_tag n []) ++ (a ++ (b ++ (c ++ spell_event (close_tag n)))))
 within_three n v w f a b c x y z =
-    spelled_elements _ _ (ap (λ l. spell_piece (open_tag n []) ++ (a ++ l)) (append_assoc b c (spell_piece (close_tag n)))) (within_two n v w f a (b ++ c) x (both b c y z))
+    spelled_elements _ _ (ap (λ l. spell_event (open_tag n []) ++ (a ++ l)) (append_assoc b c (spell_event (close_tag n)))) (within_two n v w f a (b ++ c) x (both b c y z))
 
 -- with an accent
-accented_elements : (n : Name) → IsTrue (is_piece (open_tag n [])) → IsTrue (is_piece (close_tag n)) → ((ks : List Name) (s : Levels) → step any_element (close_tag n) (above n ks false s) ≡ Some s) → (c : ℕ) (k : Accent) (a : List ℕ) → AreElements a → AreElements (spell_piece (open_tag n []) ++ (a ++ (codes "<mo accent=\"" ++ (accent_text k ++ (codes "\">" ++ (content_char c ++ (codes "</mo>" ++ spell_piece (close_tag n))))))))
+accented_elements : (n : Name) → IsTrue (is_event (open_tag n [])) → IsTrue (is_event (close_tag n)) → ((ks : List Name) (s : OpenElements) → step any_element (close_tag n) (above n ks false s) ≡ Some s) → (c : ℕ) (k : Accent) (a : List ℕ) → AreElements a → AreElements (spell_event (open_tag n []) ++ (a ++ (codes "<mo accent=\"" ++ (accent_text k ++ (codes "\">" ++ (content_char c ++ (codes "</mo>" ++ spell_event (close_tag n))))))))
 accented_elements n v w f c k a x =
-    spelled_elements _ _ (ap (λ l. spell_piece (open_tag n []) ++ (a ++ l)) (sym (accent_last (spell_piece (close_tag n)) c k))) (within_two n v w f a _ x (alone _ (accent_is_child c k)))
+    spelled_elements _ _ (ap (λ l. spell_event (open_tag n []) ++ (a ++ l)) (sym (accent_last (spell_event (close_tag n)) c k))) (within_two n v w f a _ x (alone _ (accent_is_child c k)))
 
 frac_elements : (t : LineThickness) (a b : List ℕ) → AreElements a → AreElements b → AreElements (codes "<mfrac" ++ (thickness_text t ++ (codes ">" ++ (a ++ (b ++ codes "</mfrac>")))))
 frac_elements t a b x y =
@@ -106,17 +106,17 @@ frac_elements t a b x y =
     )
 
 -- within a table, whatever its levels hold
-abbrev in_table : List Name → List Name → List Name → Levels → Levels
+abbrev in_table : List Name → List Name → List Name → OpenElements → OpenElements
 in_table ks cs rs s = above (codes "mtd") ks false (above (codes "mtr") cs false (above (codes "mtable") rs false s))
 
-record Inside (bs : List ℕ) (ks cs rs : List Name) (s : Levels) : Type 0 where
+record Inside (bs : List ℕ) (ks cs rs : List Name) (s : OpenElements) : Type 0 where
   ks' : List Name
   cs' : List Name
   rs' : List Name
-  leads : Leads any_element bs (in_table ks cs rs s) (in_table ks' cs' rs' s)
+  leads : Runs any_element bs (in_table ks cs rs s) (in_table ks' cs' rs' s)
 
 abbrev AreMembers : List ℕ → Type 0
-AreMembers bs = (ks cs rs : List Name) (s : Levels) → Inside bs ks cs rs s
+AreMembers bs = (ks cs rs : List Name) (s : OpenElements) → Inside bs ks cs rs s
 
 more_members : (a b : List ℕ) → AreMembers a → AreMembers b → AreMembers (a ++ b)
 more_members a b x y ks cs rs s =
@@ -149,7 +149,7 @@ fenced_elements o c a x =
 -- a function and its argument are two elements and those of the argument
 applied_elements : (name a : List ℕ) → AreElements a → AreElements (codes "<mi>" ++ (content name ++ (codes "</mi><mo>&#x2061;</mo>" ++ a)))
 applied_elements name a x =
-    let application : IsChild (codes "<mo>&#x2061;</mo>") = (codes "mo", λ s. record { pieces = open_tag (codes "mo") [] ∷ reference (numbered (codes "2061")) ∷ close_tag (codes "mo") ∷ []; are_pieces = refl; spelled = refl; runs = refl }) in
+    let application : IsChild (codes "<mo>&#x2061;</mo>") = (codes "mo", λ s. record { events = open_tag (codes "mo") [] ∷ reference (numbered (codes "2061")) ∷ close_tag (codes "mo") ∷ []; are_events = refl; spelled = refl; runs = refl }) in
     spelled_elements _ _ (ap (λ l. codes "<mi>" ++ l) (append_assoc (content name) (codes "</mi>") (codes "<mo>&#x2061;</mo>" ++ a)))
     (both _ _ (alone _ (identifier name)) (both (codes "<mo>&#x2061;</mo>") a (alone (codes "<mo>&#x2061;</mo>") application) x))
 

@@ -2,52 +2,52 @@
 use Rattle.std.proofs.Common.{ℕ, false, IsTrue, List, [], ◌∷◌, ◌++◌, Some, None, refl, ap, codes, map, cond}
 use Rattle.std.specs.List.{list_all}
 use Rattle.latex2mathml_tokens.specs.Attributes.{align_text}
-use Rattle.latex2mathml_nodes.specs.Markup.{Name, plain, attribute, open_tag, Levels, above, add, Schema, Leads, same_name}
+use Rattle.latex2mathml_nodes.specs.Markup.{Name, plain, attribute, open_tag, OpenElements, above, add, Schema, Runs, same_name}
 use Rattle.latex2mathml_nodes.specs.MathSchema.{child_table}
 use Rattle.latex2mathml_nodes.specs.Print.{member_print, print}
 use Rattle.latex2mathml_nodes.specs.Tree.{Tree, ampersand, new_line}
 use Rattle.latex2mathml_tokens.specs.declared.attribute.ColumnAlign.{ColumnAlign}
 use Rattle.latex2mathml_tokens.specs.declared.attribute.ColumnAlign.TheVariants as align
-use Rattle.latex2mathml_nodes.proofs.Leads.{closed, joined, opened, single, staying}
+use Rattle.latex2mathml_nodes.proofs.Runs.{closed, joined, opened, single, staying}
 use Rattle.latex2mathml_nodes.proofs.Leaves.{IsChild}
 
 -- an open cell in an open row of an open table: what the cell holds, the row's earlier cells, and the earlier rows
-abbrev pub in_cell : List Name → List Name → List Name → Levels → Levels
+abbrev pub in_cell : List Name → List Name → List Name → OpenElements → OpenElements
 in_cell ks cs rs s = above (codes "mtd") ks false (above (codes "mtr") (codes "mtd" ∷ cs) false (above (codes "mtable") (codes "mtr" ∷ rs) false s))
 
 -- a table opens, with its first row and cell
-pub table_opened : (schema : Schema) (a : ColumnAlign) (rest : List ℕ) (s t : Levels) → Leads schema rest (in_cell [] [] [] (add (codes "mtable") s)) t → Leads schema (codes "<mtable" ++ (align_text a ++ (codes "><mtr><mtd>" ++ rest))) s t
+pub table_opened : (schema : Schema) (a : ColumnAlign) (rest : List ℕ) (s t : OpenElements) → Runs schema rest (in_cell [] [] [] (add (codes "mtable") s)) t → Runs schema (codes "<mtable" ++ (align_text a ++ (codes "><mtr><mtd>" ++ rest))) s t
 table_opened schema align.Center rest s t m = joined (opened schema (codes "mtable") s refl) (joined (opened schema (codes "mtr") _ refl) (joined (opened schema (codes "mtd") _ refl) m))
 table_opened schema align.Left rest s t m = joined (single schema (open_tag (codes "mtable") (attribute (codes "columnalign") (map plain (codes "left")) ∷ [])) s _ refl refl) (joined (opened schema (codes "mtr") _ refl) (joined (opened schema (codes "mtd") _ refl) m))
 table_opened schema align.Right rest s t m = joined (single schema (open_tag (codes "mtable") (attribute (codes "columnalign") (map plain (codes "right")) ∷ [])) s _ refl refl) (joined (opened schema (codes "mtr") _ refl) (joined (opened schema (codes "mtd") _ refl) m))
 
-close_cell : (ks cs rs : List Name) (s : Levels) → Leads child_table (codes "</mtd>") (in_cell ks cs rs s) (above (codes "mtr") (codes "mtd" ∷ cs) false (above (codes "mtable") (codes "mtr" ∷ rs) false s))
+close_cell : (ks cs rs : List Name) (s : OpenElements) → Runs child_table (codes "</mtd>") (in_cell ks cs rs s) (above (codes "mtr") (codes "mtd" ∷ cs) false (above (codes "mtable") (codes "mtr" ∷ rs) false s))
 close_cell ks cs rs s = closed child_table (codes "mtd") ks false _ refl refl
 
-close_row : (cs rs : List Name) (s : Levels) → IsTrue (list_all (same_name (codes "mtd")) cs) → Leads child_table (codes "</mtr>") (above (codes "mtr") (codes "mtd" ∷ cs) false (above (codes "mtable") (codes "mtr" ∷ rs) false s)) (above (codes "mtable") (codes "mtr" ∷ rs) false s)
+close_row : (cs rs : List Name) (s : OpenElements) → IsTrue (list_all (same_name (codes "mtd")) cs) → Runs child_table (codes "</mtr>") (above (codes "mtr") (codes "mtd" ∷ cs) false (above (codes "mtable") (codes "mtr" ∷ rs) false s)) (above (codes "mtable") (codes "mtr" ∷ rs) false s)
 close_row cs rs s h = closed child_table (codes "mtr") (codes "mtd" ∷ cs) false _ refl (ap (λ b. cond b (Some (above (codes "mtable") (codes "mtr" ∷ rs) false s)) None) h)
 
-close_table : (rs : List Name) (s : Levels) → IsTrue (list_all (same_name (codes "mtr")) rs) → Leads child_table (codes "</mtable>") (above (codes "mtable") (codes "mtr" ∷ rs) false s) s
+close_table : (rs : List Name) (s : OpenElements) → IsTrue (list_all (same_name (codes "mtr")) rs) → Runs child_table (codes "</mtable>") (above (codes "mtable") (codes "mtr" ∷ rs) false s) s
 close_table rs s h = closed child_table (codes "mtable") (codes "mtr" ∷ rs) false s refl (ap (λ b. cond b (Some s) None) h)
 
-next_cell : (ks cs rs : List Name) (s : Levels) → Leads child_table (codes "</mtd><mtd>") (in_cell ks cs rs s) (in_cell [] (codes "mtd" ∷ cs) rs s)
+next_cell : (ks cs rs : List Name) (s : OpenElements) → Runs child_table (codes "</mtd><mtd>") (in_cell ks cs rs s) (in_cell [] (codes "mtd" ∷ cs) rs s)
 next_cell ks cs rs s = joined (close_cell ks cs rs s) (opened child_table (codes "mtd") _ refl)
 
-next_row : (ks cs rs : List Name) (s : Levels) → IsTrue (list_all (same_name (codes "mtd")) cs) → Leads child_table (codes "</mtd></mtr><mtr><mtd>") (in_cell ks cs rs s) (in_cell [] [] (codes "mtr" ∷ rs) s)
+next_row : (ks cs rs : List Name) (s : OpenElements) → IsTrue (list_all (same_name (codes "mtd")) cs) → Runs child_table (codes "</mtd></mtr><mtr><mtd>") (in_cell ks cs rs s) (in_cell [] [] (codes "mtr" ∷ rs) s)
 next_row ks cs rs s h = joined (close_cell ks cs rs s) (joined (close_row cs rs s h) (joined (opened child_table (codes "mtr") _ refl) (opened child_table (codes "mtd") _ refl)))
 
 -- the bytes lead from cell to cell, and leave rows of cells
-pub record Inside (bs : List ℕ) (ks cs rs : List Name) (s : Levels) : Type 0 where
+pub record Inside (bs : List ℕ) (ks cs rs : List Name) (s : OpenElements) : Type 0 where
   pub ks' : List Name
   pub cs' : List Name
   pub rs' : List Name
   pub cells : IsTrue (list_all (same_name (codes "mtd")) cs')
   pub rows : IsTrue (list_all (same_name (codes "mtr")) rs')
-  pub leads : Leads child_table bs (in_cell ks cs rs s) (in_cell ks' cs' rs' s)
+  pub leads : Runs child_table bs (in_cell ks cs rs s) (in_cell ks' cs' rs' s)
 
 -- the bytes are members of a table
 abbrev pub AreMembers : List ℕ → Type 0
-AreMembers bs = (ks cs rs : List Name) (s : Levels) → IsTrue (list_all (same_name (codes "mtd")) cs) → IsTrue (list_all (same_name (codes "mtr")) rs) → Inside bs ks cs rs s
+AreMembers bs = (ks cs rs : List Name) (s : OpenElements) → IsTrue (list_all (same_name (codes "mtd")) cs) → IsTrue (list_all (same_name (codes "mtr")) rs) → Inside bs ks cs rs s
 
 pub no_members : AreMembers []
 no_members ks cs rs s h i = record { ks' = ks; cs' = cs; rs' = rs; cells = h; rows = i; leads = staying }

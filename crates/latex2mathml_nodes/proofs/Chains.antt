@@ -1,5 +1,5 @@
 -- How many nodes and lists are in lists of nodes.
-use Rattle.std.proofs.Common.{◌≡◌, ◌+◌, ◌<◌, List, [], ◌∷◌, ◌++◌, length, arith}
+use Rattle.std.proofs.Common.{◌≡◌, ℕ, zero, suc, ◌+◌, ◌<◌, List, [], ◌∷◌, ◌++◌, length, get_or, ap, arith}
 use Rattle.latex2mathml_nodes.specs.declared.ast.Node.{Node}
 use Rattle.latex2mathml_nodes.specs.Tree.{tree, trees}
 use Rattle.latex2mathml_nodes.specs.Weight.{weight, weights, hung_in}
@@ -12,3 +12,9 @@ weights-push (y ∷ ys) x = omega (arith, weights-push ys x)
 pub hung_in-push : (all xs : List Node) (x : Node) → all ≡ xs ++ x ∷ [] → 0 < length xs → hung_in (trees all) ≡ hung_in (trees xs) + weight (tree x) + 1
 hung_in-push all [] x e h = absurd (omega arith)
 hung_in-push all (y ∷ ys) x e h = rw e (omega (arith, weights-push ys x))
+
+-- all members weigh more than the one at index i
+pub weights-at : (xs : List Node) (i : ℕ) (x : Node) → i < length xs → x ≡ get_or xs i x → weight (tree x) < weights (trees xs)
+weights-at [] i x h e = absurd (omega arith)
+weights-at (y ∷ ys) zero x h e = omega (arith, ap (λ z. weight (tree z)) e)
+weights-at (y ∷ ys) (suc i) x h e = omega (arith, weights-at ys i x (omega arith) e)

@@ -5,7 +5,7 @@ use Rattle.std.specs.Fmt.{decimal}
 use Rattle.latex2mathml_nodes.specs.Arguments.{HasNoArgument, HaveNoArgument}
 use Rattle.latex2mathml_tokens.specs.Attributes.{accent_text, thickness_text}
 use Rattle.latex2mathml_tokens.specs.Escape.{content, content_char, quoted}
-use Rattle.latex2mathml_nodes.specs.Markup.{Name, plain, attribute, open_tag, close_tag, Levels, above, add, Schema, Leads, is_piece, spell_piece, step}
+use Rattle.latex2mathml_nodes.specs.Markup.{Name, plain, attribute, open_tag, close_tag, OpenElements, above, add, Schema, Runs, is_event, spell_event, step}
 use Rattle.latex2mathml_nodes.specs.MathSchema.{child_table}
 use Rattle.latex2mathml_nodes.specs.Print.{print, prints, member_print, members_print, slashed_print, style_open}
 use Rattle.latex2mathml_nodes.specs.Tree.{Tree, Trees, number, letter, operator, function, applied, space, subscript, superscript, sub_sup, over_op, under_op, overset, underset, under, under_over, root, sqrt, frac, row, fenced, stretched, other_operator, sized_paren, words, matrix, ampersand, new_line, slashed, style, undefined, no_trees, more_trees}
@@ -15,15 +15,15 @@ use Rattle.latex2mathml_tokens.specs.declared.attribute.Accent.{Accent}
 use Rattle.latex2mathml_tokens.specs.declared.attribute.LineThickness.{LineThickness}
 use Rattle.latex2mathml_tokens.specs.declared.attribute.LineThickness.TheVariants.{Thin, Medium, Thick, Length}
 use Rattle.latex2mathml_nodes.proofs.Cells.{AreMembers, more_members, no_members, one_member, table_is_child}
-use Rattle.latex2mathml_nodes.proofs.Leads.{closed, joined, opened, opened_with, plain-spells, single, spelled_as, staying}
+use Rattle.latex2mathml_nodes.proofs.Runs.{closed, joined, opened, opened_with, plain-spells, single, spelled_as, staying}
 use Rattle.latex2mathml_nodes.proofs.Leaves.{IsChild, accent_is_child, accent_last, error_is_child, fence, identifier, letter_is_child, numeral, operator_is_child, sign, sized_is_child, slashed_identifier, slashed_sign, space_is_child, stretched_is_child, wording}
 use Rattle.latex2mathml_nodes.proofs.ValueTexts.{plain-valid, plain_decimal}
 
 -- elements with two and with three children
-two : (n : Name) → IsTrue (is_piece (open_tag n [])) → IsTrue (is_piece (close_tag n)) → ((x y : Name) (s : Levels) → step child_table (close_tag n) (above n (y ∷ x ∷ []) false s) ≡ Some s) → (a b : List ℕ) → IsChild a → IsChild b → IsChild (spell_piece (open_tag n []) ++ (a ++ (b ++ spell_piece (close_tag n))))
+two : (n : Name) → IsTrue (is_event (open_tag n [])) → IsTrue (is_event (close_tag n)) → ((x y : Name) (s : OpenElements) → step child_table (close_tag n) (above n (y ∷ x ∷ []) false s) ≡ Some s) → (a b : List ℕ) → IsChild a → IsChild b → IsChild (spell_event (open_tag n []) ++ (a ++ (b ++ spell_event (close_tag n))))
 two n v w f a b x y = (n, λ s. joined (opened child_table n s v) (joined (x.1 _) (joined (y.1 _) (closed child_table n _ _ _ w (f x.0 y.0 (add n s))))))
 
-three : (n : Name) → IsTrue (is_piece (open_tag n [])) → IsTrue (is_piece (close_tag n)) → ((x y z : Name) (s : Levels) → step child_table (close_tag n) (above n (z ∷ y ∷ x ∷ []) false s) ≡ Some s) → (a b c : List ℕ) → IsChild a → IsChild b → IsChild c → IsChild (spell_piece (open_tag n []) ++ (a ++ (b ++ (c ++ spell_piece (close_tag n)))))
+three : (n : Name) → IsTrue (is_event (open_tag n [])) → IsTrue (is_event (close_tag n)) → ((x y z : Name) (s : OpenElements) → step child_table (close_tag n) (above n (z ∷ y ∷ x ∷ []) false s) ≡ Some s) → (a b c : List ℕ) → IsChild a → IsChild b → IsChild c → IsChild (spell_event (open_tag n []) ++ (a ++ (b ++ (c ++ spell_event (close_tag n)))))
 three n v w f a b c x y z = (n, λ s. joined (opened child_table n s v) (joined (x.1 _) (joined (y.1 _) (joined (z.1 _) (closed child_table n _ _ _ w (f x.0 y.0 z.0 (add n s)))))))
 
 root_is_child : (a : List ℕ) → IsChild a → IsChild (codes "<msqrt>" ++ (a ++ codes "</msqrt>"))
@@ -31,7 +31,7 @@ root_is_child a x = (codes "msqrt", λ s. joined (opened child_table (codes "msq
 
 -- the bytes are children of any element that holds no text yet
 abbrev pub AreChildren : List ℕ → Type 0
-AreChildren bs = (n : Name) (ks : List Name) (s : Levels) → (ks' : List Name) × Leads child_table bs (above n ks false s) (above n ks' false s)
+AreChildren bs = (n : Name) (ks : List Name) (s : OpenElements) → (ks' : List Name) × Runs child_table bs (above n ks false s) (above n ks' false s)
 
 no_children : AreChildren []
 no_children n ks s = (ks, staying)
@@ -42,14 +42,14 @@ more_children a b x y n ks s = let r = y n (x.0 ∷ ks) s in (r.0, joined (x.1 (
 row_is_child : (a : List ℕ) → AreChildren a → IsChild (codes "<mrow>" ++ (a ++ codes "</mrow>"))
 row_is_child a x = (codes "mrow", λ s. let r = x (codes "mrow") [] (add (codes "mrow") s) in joined (opened child_table (codes "mrow") s refl) (joined r.1 (closed child_table (codes "mrow") _ _ _ refl refl)))
 
-accented_is_child : (n : Name) → IsTrue (is_piece (open_tag n [])) → IsTrue (is_piece (close_tag n)) → ((x y : Name) (s : Levels) → step child_table (close_tag n) (above n (y ∷ x ∷ []) false s) ≡ Some s) → (c : ℕ) (k : Accent) (a : List ℕ) → IsChild a → IsChild (spell_piece (open_tag n []) ++ (a ++ (codes "<mo accent=\"" ++ (accent_text k ++ (codes "\">" ++ (content_char c ++ (codes "</mo>" ++ spell_piece (close_tag n))))))))
+accented_is_child : (n : Name) → IsTrue (is_event (open_tag n [])) → IsTrue (is_event (close_tag n)) → ((x y : Name) (s : OpenElements) → step child_table (close_tag n) (above n (y ∷ x ∷ []) false s) ≡ Some s) → (c : ℕ) (k : Accent) (a : List ℕ) → IsChild a → IsChild (spell_event (open_tag n []) ++ (a ++ (codes "<mo accent=\"" ++ (accent_text k ++ (codes "\">" ++ (content_char c ++ (codes "</mo>" ++ spell_event (close_tag n))))))))
 unfolding two
 accented_is_child n v w f c k a x =
     let r = two n v w f a (codes "<mo accent=\"" ++ (accent_text k ++ (codes "\">" ++ (content_char c ++ codes "</mo>")))) x (accent_is_child c k) in
-    (n, λ s. spelled_as (ap (λ l. spell_piece (open_tag n []) ++ (a ++ l)) (sym (accent_last (spell_piece (close_tag n)) c k))) (r.1 s))
+    (n, λ s. spelled_as (ap (λ l. spell_event (open_tag n []) ++ (a ++ l)) (sym (accent_last (spell_event (close_tag n)) c k))) (r.1 s))
 
 -- the open tag of a fraction, and what follows it
-pub frac_opened : (schema : Schema) (t : LineThickness) (rest : List ℕ) (s u : Levels) → Leads schema rest (above (codes "mfrac") [] false (add (codes "mfrac") s)) u → Leads schema (codes "<mfrac" ++ (thickness_text t ++ (codes ">" ++ rest))) s u
+pub frac_opened : (schema : Schema) (t : LineThickness) (rest : List ℕ) (s u : OpenElements) → Runs schema rest (above (codes "mfrac") [] false (add (codes "mfrac") s)) u → Runs schema (codes "<mfrac" ++ (thickness_text t ++ (codes ">" ++ rest))) s u
 frac_opened schema Thin rest s u m = joined (single schema (open_tag (codes "mfrac") (attribute (codes "linethickness") (map plain (codes "thin")) ∷ [])) s _ refl refl) m
 frac_opened schema Medium rest s u m = joined (opened schema (codes "mfrac") s refl) m
 frac_opened schema Thick rest s u m = joined (single schema (open_tag (codes "mfrac") (attribute (codes "linethickness") (map plain (codes "thick")) ∷ [])) s _ refl refl) m
@@ -61,7 +61,7 @@ frac_is_child : (t : LineThickness) (a b : List ℕ) → IsChild a → IsChild b
 frac_is_child t a b x y = (
   codes "mfrac",
   λ s.
-      let parts : Leads child_table (a ++ (b ++ codes "</mfrac>")) (above (codes "mfrac") [] false (add (codes "mfrac") s)) (add (codes "mfrac") s) = joined (x.1 _) (joined (y.1 _) (closed child_table (codes "mfrac") (y.0 ∷ x.0 ∷ []) false (add (codes "mfrac") s) refl refl)) in
+      let parts : Runs child_table (a ++ (b ++ codes "</mfrac>")) (above (codes "mfrac") [] false (add (codes "mfrac") s)) (add (codes "mfrac") s) = joined (x.1 _) (joined (y.1 _) (closed child_table (codes "mfrac") (y.0 ∷ x.0 ∷ []) false (add (codes "mfrac") s) refl refl)) in
       frac_opened child_table t (a ++ (b ++ codes "</mfrac>")) s (add (codes "mfrac") s) parts,
 )
 
@@ -84,7 +84,7 @@ slashed_is_child (letter c v) g = slashed_identifier (encode_utf8 c) v
 slashed_is_child (operator c) g = slashed_sign (encode_utf8 c)
 slashed_is_child x g = g
 
-pub style_opened : (schema : Schema) (d : Option DisplayStyle) (s : Levels) → Leads schema (style_open d) s (above (codes "mstyle") [] false (add (codes "mstyle") s))
+pub style_opened : (schema : Schema) (d : Option DisplayStyle) (s : OpenElements) → Runs schema (style_open d) s (above (codes "mstyle") [] false (add (codes "mstyle") s))
 style_opened schema None s = opened schema (codes "mstyle") s refl
 style_opened schema (Some Block) s = single schema (open_tag (codes "mstyle") (attribute (codes "displaystyle") (map plain (codes "true")) ∷ [])) s _ refl refl
 style_opened schema (Some Inline) s = single schema (open_tag (codes "mstyle") (attribute (codes "displaystyle") (map plain (codes "false")) ∷ [])) s _ refl refl

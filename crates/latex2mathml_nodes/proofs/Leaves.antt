@@ -6,7 +6,7 @@ use Rattle.std.proofs.lemmas.Grind.{flat_map-append}
 use Rattle.std.proofs.lemmas.List.Folds.{list_all-append}
 use Rattle.latex2mathml_tokens.specs.Attributes.{accent_text, bool_text, variant_text}
 use Rattle.latex2mathml_tokens.specs.Escape.{content, content_byte, content_char, value}
-use Rattle.latex2mathml_nodes.specs.Markup.{Name, numbered, Part, plain, attribute, open_tag, close_tag, reference, Levels, above, add, Leads, is_name, is_part, is_piece, spell_part, spell_piece, step}
+use Rattle.latex2mathml_nodes.specs.Markup.{Name, numbered, Part, plain, attribute, open_tag, close_tag, reference, OpenElements, above, add, Runs, is_name, is_part, is_event, spell_part, spell_event, step}
 use Rattle.latex2mathml_nodes.specs.MathSchema.{child_table}
 use Rattle.latex2mathml_nodes.specs.Print.{error_print, letter_print, operator_print}
 use Rattle.latex2mathml_nodes.specs.Width.{width_text}
@@ -14,15 +14,15 @@ use Rattle.latex2mathml_tokens.specs.declared.attribute.Accent.{Accent}
 use Rattle.latex2mathml_tokens.specs.declared.attribute.Accent.TheVariants as accent
 use Rattle.latex2mathml_tokens.specs.declared.attribute.Variant.{Variant}
 use Rattle.latex2mathml_tokens.specs.declared.attribute.Variant.TheVariants.{Normal, Italic, Bold, BoldItalic, DoubleStruck, BoldFraktur, Script, BoldScript, Fraktur, SansSerif, BoldSansSerif, SansSerifItalic, SansSerifBoldItalic, Monospace}
-use Rattle.latex2mathml_nodes.proofs.Leads.{closed, content_leads, empty_with, has_bytes, joined, opened, opened_with, parts, parts-spell, parts-valid, plain-spells, single, spelled_as}
+use Rattle.latex2mathml_nodes.proofs.Runs.{closed, content_leads, empty_with, has_bytes, joined, opened, opened_with, parts, parts-spell, parts-valid, plain-spells, single, spelled_as}
 use Rattle.latex2mathml_nodes.proofs.ValueTexts.{is_plain_byte, plain-valid, plain_width}
 
 -- the bytes are one element that obeys the child table, wherever they stand
 abbrev pub IsChild : List ℕ → Type 0
-IsChild bs = (n : Name) × ((s : Levels) → Leads child_table bs s (add n s))
+IsChild bs = (n : Name) × ((s : OpenElements) → Runs child_table bs s (add n s))
 
 -- an element of text without attributes
-pub leaf : (n : Name) → IsTrue (is_piece (open_tag n [])) → IsTrue (is_piece (close_tag n)) → ((d : Bool) (s : Levels) → step child_table (close_tag n) (above n [] d s) ≡ Some s) → (bs : List ℕ) → IsChild (spell_piece (open_tag n []) ++ (content bs ++ spell_piece (close_tag n)))
+pub leaf : (n : Name) → IsTrue (is_event (open_tag n [])) → IsTrue (is_event (close_tag n)) → ((d : Bool) (s : OpenElements) → step child_table (close_tag n) (above n [] d s) ≡ Some s) → (bs : List ℕ) → IsChild (spell_event (open_tag n []) ++ (content bs ++ spell_event (close_tag n)))
 leaf n v w f bs = (n, λ s. joined (opened child_table n s v) (joined (content_leads child_table bs (above n [] false (add n s))) (closed child_table n [] (has_bytes bs) (add n s) w (f (has_bytes bs) (add n s)))))
 
 pub identifier : (bs : List ℕ) → IsChild (codes "<mi>" ++ (content bs ++ codes "</mi>"))
@@ -38,10 +38,10 @@ pub wording : (bs : List ℕ) → IsChild (codes "<mtext>" ++ (content bs ++ cod
 wording = leaf (codes "mtext") refl refl (λ d s. refl)
 
 -- an element of text with one attribute
-leaf_with : (n a : Name) → IsTrue (is_name n) → IsTrue (is_name a) → IsTrue (is_piece (close_tag n)) → ((d : Bool) (s : Levels) → step child_table (close_tag n) (above n [] d s) ≡ Some s) → (u : List Part) (v bs : List ℕ) → IsTrue (list_all is_part u) → flat_map spell_part u ≡ v → IsChild ((codes "<" ++ (n ++ (codes " " ++ (a ++ codes "=\"")))) ++ (v ++ (codes "\">" ++ (content bs ++ spell_piece (close_tag n)))))
+leaf_with : (n a : Name) → IsTrue (is_name n) → IsTrue (is_name a) → IsTrue (is_event (close_tag n)) → ((d : Bool) (s : OpenElements) → step child_table (close_tag n) (above n [] d s) ≡ Some s) → (u : List Part) (v bs : List ℕ) → IsTrue (list_all is_part u) → flat_map spell_part u ≡ v → IsChild ((codes "<" ++ (n ++ (codes " " ++ (a ++ codes "=\"")))) ++ (v ++ (codes "\">" ++ (content bs ++ spell_event (close_tag n)))))
 leaf_with n a hn ha w f u v bs hu e = (
   n,
-  λ s. opened_with child_table n a u v (content bs ++ spell_piece (close_tag n)) s (add n s)
+  λ s. opened_with child_table n a u v (content bs ++ spell_event (close_tag n)) s (add n s)
       (ap (λ b. b && ((is_name a && list_all is_part u) && true)) hn ∙ ap (λ b. (b && list_all is_part u) && true) ha ∙ ap (λ b. b && true) hu) e
       (joined (content_leads child_table bs (above n [] false (add n s))) (closed child_table n [] (has_bytes bs) (add n s) w (f (has_bytes bs) (add n s)))),
 )
@@ -121,7 +121,7 @@ space_is_child n =
     (codes "mspace", λ s. spelled_as (ap (λ l. codes "<mspace width=\"" ++ l) (ap (λ l. l ++ codes "\"/>") (plain-spells width) ∙ append_assoc (width_text n) (codes "em") (codes "\"/>"))) (empty_with child_table (codes "mspace") (codes "width") (map plain width) s (add (codes "mspace") s) (ap (λ b. b && true) valid) refl))
 
 -- a fence: an operator with two attributes
-pub fence : (form : List ℕ) → IsTrue (list_all is_part (map plain form)) → (bs : List ℕ) (s : Levels) → Leads child_table ((codes "<mo stretchy=\"true\" form=\"" ++ (form ++ codes "\">")) ++ (content bs ++ codes "</mo>")) s (add (codes "mo") s)
+pub fence : (form : List ℕ) → IsTrue (list_all is_part (map plain form)) → (bs : List ℕ) (s : OpenElements) → Runs child_table ((codes "<mo stretchy=\"true\" form=\"" ++ (form ++ codes "\">")) ++ (content bs ++ codes "</mo>")) s (add (codes "mo") s)
 fence form h bs s =
     joined
     (spelled_as (ap (λ l. codes "<mo stretchy=\"true\" form=\"" ++ l) (reach (flat_map spell_part (map plain form)) ∙ ap (λ l. l ++ codes "\">") (plain-spells form)))
@@ -142,7 +142,7 @@ sized_is_child z p = (
       let inner = above (codes "mrow") [] false (add (codes "mrow") s) in
       let u = parts z in
       let start = single child_table (open_tag (codes "mo") (attribute (codes "maxsize") u ∷ attribute (codes "minsize") u ∷ [])) inner (above (codes "mo") [] false (add (codes "mo") inner)) (ap (λ b. b && (b && true)) (parts-valid z)) refl in
-      let rest : Leads child_table (content p ++ codes "</mo></mrow>") (above (codes "mo") [] false (add (codes "mo") inner)) (add (codes "mrow") s) = joined (content_leads child_table p (above (codes "mo") [] false (add (codes "mo") inner))) (joined (closed child_table (codes "mo") [] (has_bytes p) (add (codes "mo") inner) refl refl) (closed child_table (codes "mrow") (codes "mo" ∷ []) false (add (codes "mrow") s) refl refl)) in
+      let rest : Runs child_table (content p ++ codes "</mo></mrow>") (above (codes "mo") [] false (add (codes "mo") inner)) (add (codes "mrow") s) = joined (content_leads child_table p (above (codes "mo") [] false (add (codes "mo") inner))) (joined (closed child_table (codes "mo") [] (has_bytes p) (add (codes "mo") inner) refl refl) (closed child_table (codes "mrow") (codes "mo" ∷ []) false (add (codes "mrow") s) refl refl)) in
       joined (opened child_table (codes "mrow") s refl)
       (spelled_as (ap (λ l. codes "<mo maxsize=\"" ++ l) (reach_sizes (flat_map spell_part u) (codes "\"") (codes " minsize=\"") (codes ">") (content p ++ codes "</mo></mrow>")) ∙ ap (λ w. codes "<mo maxsize=\"" ++ (w ++ (codes "\" minsize=\"" ++ (w ++ (codes "\">" ++ (content p ++ codes "</mo></mrow>")))))) (parts-spell z))
       (joined start rest)),

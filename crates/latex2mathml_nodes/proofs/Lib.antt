@@ -2,14 +2,11 @@ pub mod Balance
 pub mod Cells
 pub mod Chains
 pub mod Elements
-pub mod Leads
 pub mod Leaves
 pub mod Members
 pub mod Pages
-pub mod Pieces
-pub mod PrintWeights
 pub mod Prints
+pub mod Runs
 pub mod Styles
-pub mod Styling
 pub mod ValueTexts
 pub mod Widths

@@ -1,23 +1,23 @@
 -- Markup on top of other markup: what runs alone runs wherever it is put, so balanced markup stays balanced.
-use Rattle.std.proofs.Common.{◌≡◌, ℕ, Bool, true, false, not, ◌&&◌, ◌||◌, cond, IsTrue, List, [], ◌∷◌, ◌++◌, Option, Some, None, option_and_then, is_some, refl, sym, ap, ◌∙◌, subst, codes, if◌then◌else◌}
+use Rattle.std.proofs.Common.{◌≡◌, ℕ, Bool, true, false, not, ◌&&◌, ◌||◌, cond, IsTrue, List, [], ◌∷◌, ◌++◌, Option, Some, None, option_and_then, refl, sym, ap, ◌∙◌, subst, codes}
 use Rattle.std.specs.Cmp.Lexicographic.{bytes_decides}
 use Rattle.std.specs.List.{list_all}
-use Rattle.latex2mathml_nodes.specs.Markup.{Name, Attribute, Piece, open_tag, close_tag, empty_tag, reference, data_byte, Levels, lowest, above, at_start, add, mark, name_of, same_name, Schema, any_element, step, run, Leads, IsBalanced, spell_piece, is_attribute, is_name}
-use Rattle.latex2mathml_nodes.specs.MathSchema.{IsMathElement, child_table, holding, holding_table, holds, is_outermost, is_parent, may_stand_in}
+use Rattle.latex2mathml_nodes.specs.Markup.{Name, Attribute, Event, open_tag, close_tag, empty_tag, reference, data_byte, OpenElements, lowest, above, at_start, add, mark, name_of, same_name, Schema, any_element, step, run, Runs, IsBalanced, spell_event, is_attribute, is_name}
+use Rattle.latex2mathml_nodes.specs.MathSchema.{IsMathElement, child_table, holding, holding_table, holds, is_parent, may_stand_in}
 use Rattle.latex2mathml_nodes.specs.Pages.{IsPage, JoinsBalanced, JoinsMarkup, JoinsPages, is_in_table, may_stand_in_page, page_schema, takes_math}
-use Rattle.latex2mathml_nodes.proofs.Leads.{closed, joined, single, staying}
+use Rattle.latex2mathml_nodes.proofs.Runs.{closed, joined, single, staying}
 
 -- the levels with these children more in the highest of them
-abbrev with_children : List Name → Levels → Levels
+abbrev with_children : List Name → OpenElements → OpenElements
 with_children [] base = base
 with_children (name ∷ names) base = add name (with_children names base)
 
 -- the levels on top of others: their lowest is the highest of those
-abbrev onto : Levels → Levels → Levels
+abbrev onto : OpenElements → OpenElements → OpenElements
 onto base (lowest children met) = mark met (with_children children base)
 onto base (above own children met below) = above own children met (onto base below)
 
-add_marked : (name : Name) (met : Bool) (base : Levels) → mark met (add name base) ≡ add name (mark met base)
+add_marked : (name : Name) (met : Bool) (base : OpenElements) → mark met (add name base) ≡ add name (mark met base)
 add_marked name met (lowest children has_text) = refl
 add_marked name met (above own children has_text below) = refl
 
@@ -25,27 +25,27 @@ or_true : (a b : Bool) → (a || (b || true)) ≡ ((a || b) || true)
 or_true true b = refl
 or_true false b = refl
 
-mark_marked : (met : Bool) (base : Levels) → mark (met || true) base ≡ mark true (mark met base)
+mark_marked : (met : Bool) (base : OpenElements) → mark (met || true) base ≡ mark true (mark met base)
 mark_marked met (lowest children has_text) = ap (λ b. lowest children b) (or_true has_text met)
 mark_marked met (above own children has_text below) = ap (λ b. above own children b below) (or_true has_text met)
 
-added : (base : Levels) (name : Name) (s : Levels) → onto base (add name s) ≡ add name (onto base s)
+added : (base : OpenElements) (name : Name) (s : OpenElements) → onto base (add name s) ≡ add name (onto base s)
 added base name (lowest children met) = add_marked name met (with_children children base)
 added base name (above own children met below) = refl
 
-marked : (base s : Levels) → onto base (mark true s) ≡ mark true (onto base s)
+marked : (base s : OpenElements) → onto base (mark true s) ≡ mark true (onto base s)
 marked base (lowest children met) = mark_marked met (with_children children base)
 marked base (above own children met below) = refl
 
-name_marked : (met : Bool) (s : Levels) → name_of (mark met s) ≡ name_of s
+name_marked : (met : Bool) (s : OpenElements) → name_of (mark met s) ≡ name_of s
 name_marked met (lowest children has_text) = refl
 name_marked met (above own children has_text below) = refl
 
-name_added : (name : Name) (s : Levels) → name_of (add name s) ≡ name_of s
+name_added : (name : Name) (s : OpenElements) → name_of (add name s) ≡ name_of s
 name_added name (lowest children has_text) = refl
 name_added name (above own children has_text below) = refl
 
-name_with : (children : List Name) (base : Levels) → name_of (with_children children base) ≡ name_of base
+name_with : (children : List Name) (base : OpenElements) → name_of (with_children children base) ≡ name_of base
 name_with [] base = refl
 name_with (name ∷ names) base = name_added name (with_children names base) ∙ name_with names base
 
@@ -54,26 +54,26 @@ record Fits (own other : Schema) (base : Option Name) : Type 0 where
   pub outer : (name : Name) (children : List Name) (met : Bool) → IsTrue (own None name children met) → IsTrue (other base name children met)
   pub inner : (parent : Name) (name : Name) (children : List Name) (met : Bool) → IsTrue (own (Some parent) name children met) → IsTrue (other (Some parent) name children met)
 
-module _ (schema other : Schema) (base : Levels) (fits : Fits schema other (name_of base)) where
-  obeys_onto : (s : Levels) (name : Name) (children : List Name) (met : Bool) → IsTrue (schema (name_of s) name children met) → IsTrue (other (name_of (onto base s)) name children met)
+module _ (schema other : Schema) (base : OpenElements) (fits : Fits schema other (name_of base)) where
+  obeys_onto : (s : OpenElements) (name : Name) (children : List Name) (met : Bool) → IsTrue (schema (name_of s) name children met) → IsTrue (other (name_of (onto base s)) name children met)
   obeys_onto (lowest names has_text) name children met h =
       subst (λ n. IsTrue (other n name children met)) (sym (name_marked has_text (with_children names base) ∙ name_with names base)) (fits.outer name children met h)
   obeys_onto (above parent names has_text below) name children met h = fits.inner parent name children met h
 
-  close_step : (same fit fits_onto : Bool) (below t : Levels) → (IsTrue fit → IsTrue fits_onto) → cond (same && fit) (Some below) None ≡ Some t → cond (same && fits_onto) (Some (onto base below)) None ≡ Some (onto base t)
+  close_step : (same fit fits_onto : Bool) (below t : OpenElements) → (IsTrue fit → IsTrue fits_onto) → cond (same && fit) (Some below) None ≡ Some t → cond (same && fits_onto) (Some (onto base below)) None ≡ Some (onto base t)
   close_step true true fits_onto below t k e =
       let same : below ≡ t = cc in
       ap (λ b. cond b (Some (onto base below)) None) (k refl) ∙ ap (λ l. Some (onto base l)) same
   close_step true false fits_onto below t k e = cc
   close_step false fit fits_onto below t k e = cc
 
-  empty_step : (fit fits_onto : Bool) (name : Name) (s t : Levels) → (IsTrue fit → IsTrue fits_onto) → cond fit (Some (add name s)) None ≡ Some t → cond fits_onto (Some (add name (onto base s))) None ≡ Some (onto base t)
+  empty_step : (fit fits_onto : Bool) (name : Name) (s t : OpenElements) → (IsTrue fit → IsTrue fits_onto) → cond fit (Some (add name s)) None ≡ Some t → cond fits_onto (Some (add name (onto base s))) None ≡ Some (onto base t)
   empty_step true fits_onto name s t k e =
       let same : add name s ≡ t = cc in
       ap (λ b. cond b (Some (add name (onto base s))) None) (k refl) ∙ ap (λ l. Some l) (sym (added base name s)) ∙ ap (λ l. Some (onto base l)) same
   empty_step false fits_onto name s t k e = cc
 
-  step_onto : (p : Piece) (s t : Levels) → step schema p s ≡ Some t → step other p (onto base s) ≡ Some (onto base t)
+  step_onto : (p : Event) (s t : OpenElements) → step schema p s ≡ Some t → step other p (onto base s) ≡ Some (onto base t)
   step_onto (open_tag name attributes) s t e =
       let same : above name [] false (add name s) ≡ t = cc in
       ap (λ l. Some (above name [] false l)) (sym (added base name s)) ∙ ap (λ l. Some (onto base l)) same
@@ -89,36 +89,36 @@ module _ (schema other : Schema) (base : Levels) (fits : Fits schema other (name
       let same : mark true s ≡ t = cc in
       ap (λ l. Some l) (sym (marked base s)) ∙ ap (λ l. Some (onto base l)) same
 
-  run_from : (p : Piece) (ps : List Piece) (s t : Levels) (o : Option Levels) → ((u : Levels) → run schema ps u ≡ Some t → run other ps (onto base u) ≡ Some (onto base t)) → step schema p s ≡ o → option_and_then (run schema ps) o ≡ Some t → option_and_then (run other ps) (step other p (onto base s)) ≡ Some (onto base t)
+  run_from : (p : Event) (ps : List Event) (s t : OpenElements) (o : Option OpenElements) → ((u : OpenElements) → run schema ps u ≡ Some t → run other ps (onto base u) ≡ Some (onto base t)) → step schema p s ≡ o → option_and_then (run schema ps) o ≡ Some t → option_and_then (run other ps) (step other p (onto base s)) ≡ Some (onto base t)
   run_from p ps s t None rest h e = cc
   run_from p ps s t (Some u) rest h e =
       ap (option_and_then (run other ps)) (step_onto p s u h) ∙ rest u e
 
   -- what runs by one schema runs by the other on top of the levels
-  run_onto : (ps : List Piece) (s t : Levels) → run schema ps s ≡ Some t → run other ps (onto base s) ≡ Some (onto base t)
+  run_onto : (ps : List Event) (s t : OpenElements) → run schema ps s ≡ Some t → run other ps (onto base s) ≡ Some (onto base t)
   run_onto [] s t e = let same : s ≡ t = cc in ap (λ l. Some (onto base l)) same
   run_onto (p ∷ ps) s t e = run_from p ps s t (step schema p s) (λ u. run_onto ps u t) refl e
 
-  leads_onto : (bytes : List ℕ) (s t : Levels) → Leads schema bytes s t → Leads other bytes (onto base s) (onto base t)
-  leads_onto bytes s t m = record { pieces = m.pieces; are_pieces = m.are_pieces; spelled = m.spelled; runs = run_onto m.pieces s t m.runs }
+  leads_onto : (bytes : List ℕ) (s t : OpenElements) → Runs schema bytes s t → Runs other bytes (onto base s) (onto base t)
+  leads_onto bytes s t m = record { events = m.events; are_events = m.are_events; spelled = m.spelled; runs = run_onto m.events s t m.runs }
 
 -- every schema fits the one that every element obeys
 any_fits : (schema : Schema) (base : Option Name) → Fits schema any_element base
 any_fits schema base = record { outer = λ name children met h. refl; inner = λ parent name children met h. refl }
 
-unmarked : (s : Levels) → mark false s ≡ s
+unmarked : (s : OpenElements) → mark false s ≡ s
 unmarked (lowest children true) = refl
 unmarked (lowest children false) = refl
 unmarked (above own children true below) = refl
 unmarked (above own children false below) = refl
 
 -- what a schema balances, on top of levels that it fits
-adds_to : (schema other : Schema) (base : Levels) (bytes : List ℕ) (children : List Name) (met : Bool) → Fits schema other (name_of base) → Leads schema bytes at_start (lowest children met) → Leads other bytes base (mark met (with_children children base))
+adds_to : (schema other : Schema) (base : OpenElements) (bytes : List ℕ) (children : List Name) (met : Bool) → Fits schema other (name_of base) → Runs schema bytes at_start (lowest children met) → Runs other bytes base (mark met (with_children children base))
 adds_to schema other base bytes children met fits m =
-    subst (λ s. Leads other bytes s (mark met (with_children children base))) (unmarked base) (leads_onto schema other base fits bytes at_start (lowest children met) m)
+    subst (λ s. Runs other bytes s (mark met (with_children children base))) (unmarked base) (leads_onto schema other base fits bytes at_start (lowest children met) m)
 
 -- the lowest level alone, whatever it holds
-abbrev IsLowest : Levels → Type 0
+abbrev IsLowest : OpenElements → Type 0
 IsLowest s = (children : List Name) × ((met : Bool) × (s ≡ lowest children met))
 
 stays_lowest : (children names : List Name) (met has_text : Bool) → IsLowest (mark met (with_children children (lowest names has_text)))
@@ -130,14 +130,14 @@ stays_lowest children names met has_text = by (with_children children (lowest na
         let rest = lowest_with more in
         (name ∷ rest.0, (rest.1.0, ap (add name) rest.1.1))
 
-    by : (s : Levels) → IsLowest s → IsLowest (mark met s)
+    by : (s : OpenElements) → IsLowest s → IsLowest (mark met s)
     by s (all, (any, e)) = (all, (any || met, ap (mark met) e))
 
 -- an element above a level, whatever it holds
-abbrev IsWithin : Name → Levels → Levels → Type 0
+abbrev IsWithin : Name → OpenElements → OpenElements → Type 0
 IsWithin name below s = (children : List Name) × ((met : Bool) × (s ≡ above name children met below))
 
-stays_within : (children : List Name) (met : Bool) (name : Name) (below : Levels) → IsWithin name below (mark met (with_children children (above name [] false below)))
+stays_within : (children : List Name) (met : Bool) (name : Name) (below : OpenElements) → IsWithin name below (mark met (with_children children (above name [] false below)))
 stays_within children met name below = by (with_children children (above name [] false below)) (within children)
   where
     within : (children : List Name) → IsWithin name below (with_children children (above name [] false below))
@@ -146,32 +146,32 @@ stays_within children met name below = by (with_children children (above name []
         let rest = within more in
         (one ∷ rest.0, (rest.1.0, ap (add one) rest.1.1))
 
-    by : (s : Levels) → IsWithin name below s → IsWithin name below (mark met s)
+    by : (s : OpenElements) → IsWithin name below s → IsWithin name below (mark met s)
     by s (all, (any, e)) = (all, (any || met, ap (mark met) e))
 
 -- each element is closed, and obeys the schema
 abbrev IsClosed : Schema → List ℕ → Type 0
-IsClosed schema bytes = (children : List Name) × ((has_text : Bool) × Leads schema bytes at_start (lowest children has_text))
+IsClosed schema bytes = (children : List Name) × ((has_text : Bool) × Runs schema bytes at_start (lowest children has_text))
 
 one_after_other : (schema : Schema) (markup other : List ℕ) → Fits schema schema None → IsClosed schema markup → IsClosed schema other → IsClosed schema (markup ++ other)
 one_after_other schema markup other fits (names, (has_text, m)) (children, (met, n)) =
     let on = adds_to schema schema (lowest names has_text) other children met fits n in
     let low = stays_lowest children names met has_text in
-    (low.0, (low.1.0, subst (λ s. Leads schema (markup ++ other) at_start s) low.1.1 (joined m on)))
+    (low.0, (low.1.0, subst (λ s. Runs schema (markup ++ other) at_start s) low.1.1 (joined m on)))
 
 same_self : (name : Name) → same_name name name ≡ true
 same_self name = (bytes_decides name name).1 refl
 
-within_element : (schema : Schema) (name : Name) (attributes : List Attribute) (markup : List ℕ) → Fits schema schema (Some name) → ((children : List Name) (met : Bool) → IsTrue (schema None name children met)) → IsTrue (is_name name) → IsTrue (list_all is_attribute attributes) → IsClosed schema markup → IsClosed schema (spell_piece (open_tag name attributes) ++ (markup ++ spell_piece (close_tag name)))
+within_element : (schema : Schema) (name : Name) (attributes : List Attribute) (markup : List ℕ) → Fits schema schema (Some name) → ((children : List Name) (met : Bool) → IsTrue (schema None name children met)) → IsTrue (is_name name) → IsTrue (list_all is_attribute attributes) → IsClosed schema markup → IsClosed schema (spell_event (open_tag name attributes) ++ (markup ++ spell_event (close_tag name)))
 within_element schema name attributes markup fits free valid valids (children, (met, m)) =
-    let below : Levels = lowest (name ∷ []) false in
+    let below : OpenElements = lowest (name ∷ []) false in
     let on = adds_to schema schema (above name [] false below) markup children met fits m in
     let within = stays_within children met name below in (
       name ∷ [],
       (
         false,
         joined (single schema (open_tag name attributes) at_start (above name [] false below) (ap (λ b. b && list_all is_attribute attributes) valid ∙ valids) refl)
-            (joined (subst (λ s. Leads schema markup (above name [] false below) s) within.1.1 on)
+            (joined (subst (λ s. Runs schema markup (above name [] false below) s) within.1.1 on)
             (closed schema name within.0 within.1.0 below valid (ap (λ b. cond (b && schema None name within.0 within.1.0) (Some below) None) (same_self name) ∙ ap (λ b. cond b (Some below) None) (free within.0 within.1.0)))),
       ),
     )
@@ -207,16 +207,16 @@ table_fits base takes = record {
 }
 
 -- a `math` element on top of any levels
-math_onto : (other : Schema) (base : Levels) (markup : List ℕ) → Fits child_table other (name_of base) → IsMathElement markup → Leads other markup base (add (codes "math") base)
+math_onto : (other : Schema) (base : OpenElements) (markup : List ℕ) → Fits child_table other (name_of base) → IsMathElement markup → Runs other markup base (add (codes "math") base)
 unfolding IsMathElement
 math_onto other base markup fits m =
-    subst (λ s. Leads other markup base s) (unmarked (add (codes "math") base)) (adds_to child_table other base markup (codes "math" ∷ []) false fits m)
+    subst (λ s. Runs other markup base s) (unmarked (add (codes "math") base)) (adds_to child_table other base markup (codes "math" ∷ []) false fits m)
 
 page_balanced : (markup : List ℕ) → IsPage markup → IsBalanced markup
 page_balanced markup (children, (met, m)) =
     let on = adds_to page_schema any_element at_start markup children met (any_fits page_schema None) m in
     let low = stays_lowest children [] met false in
-    (low.0, (low.1.0, subst (λ s. Leads any_element markup at_start s) low.1.1 on))
+    (low.0, (low.1.0, subst (λ s. Runs any_element markup at_start s) low.1.1 on))
 
 -- a page fits itself on top of a level, and within an element that the table does not name
 page_outside : Fits page_schema page_schema None

@@ -1,16 +1,13 @@
 pub mod Arguments
 pub mod Discreteness
 pub mod Held
-pub mod Layout
 pub mod Markup
 pub mod MathSchema
 pub mod Pages
-pub mod Piece
 pub mod Print
 pub mod PrintWeight
 pub mod Productions
 pub mod Style
-pub mod Styling
 pub mod Tree
 pub mod Weight
 pub mod Width

@@ -1,4 +1,5 @@
--- Markup: the pieces that bytes are cut into, and when they are balanced. Nothing here knows of formulas.
+-- Markup: the events that bytes are cut into (tags, references and data), and when their elements are balanced. Nothing here
+-- knows of formulas.
 use Rattle.std.specs.Prelude.{◌≡◌, ℕ, Bool, true, false, not, ◌&&◌, ◌||◌, ◌==◌, IsTrue, List, [], ◌∷◌, ◌++◌, Option, Some, None, option_and_then, if◌then◌else◌, codes}
 use Rattle.std.specs.Char.{is_ascii_alphabetic, is_ascii_hexdigit, is_ascii_lowercase}
 use Rattle.std.specs.Cmp.Lexicographic.{pointwise}
@@ -22,13 +23,13 @@ pub data Part : Type 0 where
 pub data Attribute : Type 0 where
   attribute : Name → List Part → Attribute
 
--- a piece of markup
-pub data Piece : Type 0 where
-  open_tag : Name → List Attribute → Piece
-  close_tag : Name → Piece
-  empty_tag : Name → List Attribute → Piece
-  reference : Reference → Piece
-  data_byte : ℕ → Piece
+-- an event of markup: a tag, a reference, or a byte of data
+pub data Event : Type 0 where
+  open_tag : Name → List Attribute → Event
+  close_tag : Name → Event
+  empty_tag : Name → List Attribute → Event
+  reference : Reference → Event
+  data_byte : ℕ → Event
 
 -- the byte is one of these
 abbrev pub is_among : ℕ → List ℕ → Bool
@@ -61,12 +62,12 @@ is_part (plain b) = not (is_among b (codes "<>&\""))
 abbrev pub is_attribute : Attribute → Bool
 is_attribute (attribute name parts) = is_name name && list_all is_part parts
 
-abbrev pub is_piece : Piece → Bool
-is_piece (open_tag name attributes) = is_name name && list_all is_attribute attributes
-is_piece (close_tag name) = is_name name
-is_piece (empty_tag name attributes) = is_name name && list_all is_attribute attributes
-is_piece (reference r) = is_reference r
-is_piece (data_byte b) = is_data b
+abbrev pub is_event : Event → Bool
+is_event (open_tag name attributes) = is_name name && list_all is_attribute attributes
+is_event (close_tag name) = is_name name
+is_event (empty_tag name attributes) = is_name name && list_all is_attribute attributes
+is_event (reference r) = is_reference r
+is_event (data_byte b) = is_data b
 
 -- the bytes of each
 abbrev pub spell_reference : Reference → List ℕ
@@ -80,38 +81,38 @@ spell_part (plain b) = b ∷ []
 abbrev pub spell_attribute : Attribute → List ℕ
 spell_attribute (attribute name parts) = codes " " ++ (name ++ (codes "=\"" ++ (flat_map spell_part parts ++ codes "\"")))
 
-abbrev pub spell_piece : Piece → List ℕ
-spell_piece (open_tag name attributes) = codes "<" ++ (name ++ (flat_map spell_attribute attributes ++ codes ">"))
-spell_piece (close_tag name) = codes "</" ++ (name ++ codes ">")
-spell_piece (empty_tag name attributes) = codes "<" ++ (name ++ (flat_map spell_attribute attributes ++ codes "/>"))
-spell_piece (reference r) = spell_reference r
-spell_piece (data_byte b) = b ∷ []
+abbrev pub spell_event : Event → List ℕ
+spell_event (open_tag name attributes) = codes "<" ++ (name ++ (flat_map spell_attribute attributes ++ codes ">"))
+spell_event (close_tag name) = codes "</" ++ (name ++ codes ">")
+spell_event (empty_tag name attributes) = codes "<" ++ (name ++ (flat_map spell_attribute attributes ++ codes "/>"))
+spell_event (reference r) = spell_reference r
+spell_event (data_byte b) = b ∷ []
 
-abbrev pub spell : List Piece → List ℕ
-spell = flat_map spell_piece
+abbrev pub spell : List Event → List ℕ
+spell = flat_map spell_event
 
 -- The open elements, each above the one that it stands in. Each has its name, the names of its children so far, the
 -- last one first, and whether data or a reference was met in it. The lowest level is the markup itself, without a name.
-pub data Levels : Type 0 where
-  lowest : List Name → Bool → Levels
-  above : Name → List Name → Bool → Levels → Levels
+pub data OpenElements : Type 0 where
+  lowest : List Name → Bool → OpenElements
+  above : Name → List Name → Bool → OpenElements → OpenElements
 
--- before any piece
-abbrev pub at_start : Levels
+-- before any event
+abbrev pub at_start : OpenElements
 at_start = lowest [] false
 
 -- one more child of the highest level
-abbrev pub add : Name → Levels → Levels
+abbrev pub add : Name → OpenElements → OpenElements
 add name (lowest children has_text) = lowest (name ∷ children) has_text
 add name (above own children has_text below) = above own (name ∷ children) has_text below
 
 -- data or a reference was met in the highest level, if the flag says so
-abbrev pub mark : Bool → Levels → Levels
+abbrev pub mark : Bool → OpenElements → OpenElements
 mark met (lowest children has_text) = lowest children (has_text || met)
 mark met (above own children has_text below) = above own children (has_text || met) below
 
 -- the name of the highest level, where it has one
-abbrev pub name_of : Levels → Option Name
+abbrev pub name_of : OpenElements → Option Name
 name_of (lowest children has_text) = None
 name_of (above own children has_text below) = Some own
 
@@ -129,7 +130,7 @@ any_element parent name children has_text = true
 
 -- An open tag is a child of the highest level, and becomes the highest one. A close tag needs its own name there, and
 -- takes it off. An empty tag is a child that ends at once.
-abbrev pub step : Schema → Piece → Levels → Option Levels
+abbrev pub step : Schema → Event → OpenElements → Option OpenElements
 step schema (open_tag name attributes) levels = Some (above name [] false (add name levels))
 step schema (close_tag name) (lowest children has_text) = None
 step schema (close_tag name) (above own children has_text below) =
@@ -138,21 +139,21 @@ step schema (empty_tag name attributes) levels = if schema (name_of levels) name
 step schema (reference r) levels = Some (mark true levels)
 step schema (data_byte b) levels = Some (mark true levels)
 
-abbrev pub run : Schema → List Piece → Levels → Option Levels
+abbrev pub run : Schema → List Event → OpenElements → Option OpenElements
 run schema [] levels = Some levels
-run schema (piece ∷ pieces) levels = option_and_then (run schema pieces) (step schema piece levels)
+run schema (event ∷ events) levels = option_and_then (run schema events) (step schema event levels)
 
--- the bytes have a cut into pieces, and its run under the schema leads from some levels to others
-pub record Leads (schema : Schema) (bytes : List ℕ) (start end : Levels) : Type 0 where
-  pub pieces : List Piece
-  pub are_pieces : IsTrue (list_all is_piece pieces)
-  pub spelled : spell pieces ≡ bytes
-  pub runs : run schema pieces start ≡ Some end
+-- the bytes have a cut into events, and under the schema it runs from these open elements to those
+pub record Runs (schema : Schema) (bytes : List ℕ) (start end : OpenElements) : Type 0 where
+  pub events : List Event
+  pub are_events : IsTrue (list_all is_event events)
+  pub spelled : spell events ≡ bytes
+  pub runs : run schema events start ≡ Some end
 
 -- each element is closed: at the end the lowest level is alone, whatever it holds
 abbrev pub IsBalanced : List ℕ → Type 0
-IsBalanced bytes = (children : List Name) × ((has_text : Bool) × Leads any_element bytes at_start (lowest children has_text))
+IsBalanced bytes = (children : List Name) × ((has_text : Bool) × Runs any_element bytes at_start (lowest children has_text))
 
 -- one element of this name, with nothing beside it, which obeys the schema with all that stands in it
 abbrev pub IsElement : Schema → Name → List ℕ → Type 0
-IsElement schema name bytes = Leads schema bytes at_start (lowest (name ∷ []) false)
+IsElement schema name bytes = Runs schema bytes at_start (lowest (name ∷ []) false)

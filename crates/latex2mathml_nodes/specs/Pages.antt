@@ -1,7 +1,7 @@
 -- Markup that is put together: balanced markup side by side and in elements, and pages with `math` elements in them.
 use Rattle.std.specs.Prelude.{ℕ, Bool, true, not, ◌&&◌, IsTrue, List, [], ◌++◌, Option, Some, None, is_some, if◌then◌else◌, codes}
 use Rattle.std.specs.List.{list_all}
-use Rattle.latex2mathml_nodes.specs.Markup.{Name, Attribute, Levels, Schema, Leads, IsBalanced, add, any_element, at_start, lowest, name_of, open_tag, close_tag, spell_piece, is_attribute, is_name, same_name}
+use Rattle.latex2mathml_nodes.specs.Markup.{Name, Attribute, OpenElements, Schema, Runs, IsBalanced, add, any_element, at_start, lowest, name_of, open_tag, close_tag, spell_event, is_attribute, is_name, same_name}
 use Rattle.latex2mathml_nodes.specs.MathSchema.{IsMathElement, holding, holding_table, holds, is_parent}
 
 -- the child table names the element
@@ -28,7 +28,7 @@ page_schema parent name children has_text =
 
 -- each element is closed, and those of the table obey it
 abbrev pub IsPage : List ℕ → Type 0
-IsPage bytes = (children : List Name) × ((has_text : Bool) × Leads page_schema bytes at_start (lowest children has_text))
+IsPage bytes = (children : List Name) × ((has_text : Bool) × Runs page_schema bytes at_start (lowest children has_text))
 
 -- what is put together of balanced markup is balanced
 pub record JoinsBalanced : Type 0 where
@@ -36,26 +36,26 @@ pub record JoinsBalanced : Type 0 where
   -- one behind the other
   pub joined : (markup other : List ℕ) → IsBalanced markup → IsBalanced other → IsBalanced (markup ++ other)
   -- within an element
-  pub wrapped : (name : Name) (attributes : List Attribute) (markup : List ℕ) → IsTrue (is_name name) → IsTrue (list_all is_attribute attributes) → IsBalanced markup → IsBalanced (spell_piece (open_tag name attributes) ++ (markup ++ spell_piece (close_tag name)))
+  pub wrapped : (name : Name) (attributes : List Attribute) (markup : List ℕ) → IsTrue (is_name name) → IsTrue (list_all is_attribute attributes) → IsBalanced markup → IsBalanced (spell_event (open_tag name attributes) ++ (markup ++ spell_event (close_tag name)))
   -- a page, and so a `math` element
   pub page : (markup : List ℕ) → IsPage markup → IsBalanced markup
   -- a `math` element is a child of whatever element it stands in
-  pub inserted : (markup : List ℕ) (levels : Levels) → IsMathElement markup → Leads any_element markup levels (add (codes "math") levels)
+  pub inserted : (markup : List ℕ) (levels : OpenElements) → IsMathElement markup → Runs any_element markup levels (add (codes "math") levels)
 
 -- what is put together of pages is a page
 pub record JoinsPages : Type 0 where
   pub nothing : IsPage []
   pub joined : (page other : List ℕ) → IsPage page → IsPage other → IsPage (page ++ other)
   -- within an element that the table does not name
-  pub wrapped : (name : Name) (attributes : List Attribute) (page : List ℕ) → IsTrue (is_name name) → IsTrue (list_all is_attribute attributes) → IsTrue (not (is_in_table name)) → IsPage page → IsPage (spell_piece (open_tag name attributes) ++ (page ++ spell_piece (close_tag name)))
+  pub wrapped : (name : Name) (attributes : List Attribute) (page : List ℕ) → IsTrue (is_name name) → IsTrue (list_all is_attribute attributes) → IsTrue (not (is_in_table name)) → IsPage page → IsPage (spell_event (open_tag name attributes) ++ (page ++ spell_event (close_tag name)))
   pub element : (markup : List ℕ) → IsMathElement markup → IsPage markup
   -- a `math` element is a child of whatever element it stands in, where it may stand there
-  pub inserted : (markup : List ℕ) (levels : Levels) → IsTrue (takes_math (name_of levels)) → IsMathElement markup → Leads page_schema markup levels (add (codes "math") levels)
+  pub inserted : (markup : List ℕ) (levels : OpenElements) → IsTrue (takes_math (name_of levels)) → IsMathElement markup → Runs page_schema markup levels (add (codes "math") levels)
 
 -- what markup that is put together comes to
 pub record JoinsMarkup : Type 0 where
   -- no byte leads nowhere, and one run goes on where the other ends
-  pub nowhere : (schema : Schema) (levels : Levels) → Leads schema [] levels levels
-  pub onwards : (schema : Schema) (markup other : List ℕ) (start middle end : Levels) → Leads schema markup start middle → Leads schema other middle end → Leads schema (markup ++ other) start end
+  pub nowhere : (schema : Schema) (levels : OpenElements) → Runs schema [] levels levels
+  pub onwards : (schema : Schema) (markup other : List ℕ) (start middle end : OpenElements) → Runs schema markup start middle → Runs schema other middle end → Runs schema (markup ++ other) start end
   pub balanced : JoinsBalanced
   pub pages : JoinsPages

@@ -55,11 +55,6 @@ stretched_of (operator c) = Some (stretched true (encode_utf8 c))
 stretched_of (other_operator text) = Some (stretched true text)
 stretched_of x = None
 
--- the members, if a tree is a row
-abbrev pub members_of : Tree → Option Trees
-members_of (row members) = Some members
-members_of x = None
-
 -- what a group gives to a matrix: the members if it is a row, otherwise itself as the one member
 abbrev pub spread : Tree → Trees
 spread (row members) = members

@@ -4,10 +4,8 @@ ghost use Rattle.latex2mathml_nodes.specs.Tree.{optional_tree, tree};
 
 mod dismantle;
 mod equality;
-mod make;
-pub(crate) mod print;
+pub mod print;
 mod style;
-mod styling;
 
 use crate::ast::dismantle::dismantle;
 use latex2mathml_tokens::DisplayStyle;
@@ -16,9 +14,9 @@ use std::alloc::{AllocError, Global};
 
 /// A part of a formula. Its `Display` prints the markup, and escapes texts and characters there.
 ///
-/// `Display`, copying, comparing and [`Node::set_variant`] recurse to the node's depth. [`Node::append_markup`] and
-/// [`Node::styled`] do not: they allocate instead. Dropping is a loop that allocates nothing, at any depth. A `Node` has a
-/// `drop` of its own, so match on a reference to it: only its methods take it apart by value.
+/// `Display`, copying, comparing and [`Node::set_variant`] recurse to the node's depth. Dropping is a loop that allocates
+/// nothing, at any depth. A `Node` has a `drop` of its own, so match on a reference to it: only its methods take it apart by
+/// value.
 #[derive(Debug)]
 pub enum Node {
     Number(String),

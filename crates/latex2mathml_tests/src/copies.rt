@@ -1,4 +1,4 @@
-//! Copies, equality and both ways to print, of nodes of each kind.
+//! Copies and equality of nodes of each kind.
 
 use crate::samples::{Frame, Pair, Sample, Triple, Words};
 use latex2mathml::DisplayStyle;
@@ -135,29 +135,6 @@ fn different_nodes_differ(rt: HostRuntime) -> Result<(), Fail> {
         for (j, b) in nodes.iter().enumerate() {
             assert!(rt; (*a == *b) == (i == j), "{i} {j}");
         }
-    }
-    Ok(())
-}
-
-/// Whether the markup of a node that is put behind a text is what its `Display` prints.
-fn appends_its_print(alloc: Global, node: &Node) -> Result<bool, AllocError> {
-    let mut text = String::from_str(alloc, "before ")?;
-    node.append_markup(alloc, &mut text)?;
-    let printed = node.to_string(alloc)?;
-    Ok(text.as_str().strip_prefix("before ") == Some(printed.as_str()))
-}
-
-/// A node of each kind prints alike in both ways, by itself and far below others.
-#[test]
-fn appended_markup(rt: HostRuntime) -> Result<(), Fail> {
-    let alloc = rt.alloc();
-    for node in nodes(alloc)? {
-        assert!(rt; appends_its_print(alloc, &node)?, "{node}");
-        let mut deep = node;
-        for _ in 0..100 {
-            deep = Frame::Root.around(alloc, deep)?;
-        }
-        assert!(rt; appends_its_print(alloc, &deep)?, "{deep}");
     }
     Ok(())
 }

@@ -1,5 +1,5 @@
 //! How many tokens a reading takes that ends in a refusal, and how many frames it held at once: all tokens up to the refusal
-//! count, also one that was only looked at.
+//! count, but none that was only looked at.
 
 use latex2mathml::{DisplayStyle, Steps, latex_to_mathml_counted};
 use std::alloc::Global;
@@ -34,15 +34,15 @@ fn open_groups(rt: HostRuntime) -> Result<(), Fail> {
     Ok(())
 }
 
-/// What stands behind the token that is refused is not read, unless it was looked at.
+/// What stands behind the token that is refused is not taken.
 #[test]
 fn other_refusals(rt: HostRuntime) -> Result<(), Fail> {
     for (formula, tokens, frames, commands) in [
         ("\\left<xy", 2, 0, 1),
         ("\\left", 1, 0, 1),
         ("\\left(x\\right<yz", 5, 1, 2),
-        ("\\middle xyz", 3, 1, 1),
-        ("\\middle x_y", 3, 1, 1),
+        ("\\middle xyz", 2, 1, 1),
+        ("\\middle x_y", 2, 1, 1),
         ("\\middle", 1, 1, 1),
         ("\\bigl xy", 2, 0, 1),
         ("\\bigl", 1, 0, 1),

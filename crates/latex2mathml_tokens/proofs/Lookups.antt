@@ -1,5 +1,5 @@
 -- What one comparison in a sorted table says about a look-up.
-use Rattle.std.proofs.Common.{◌≡◌, ℕ, ◌+◌, ◌*◌, ◌^◌, ◌<◌, ◌≤◌, Bool, true, false, ◌&&◌, List, [], ◌∷◌, ◌++◌, refl, sym, ap, subst, ◌∙◌, arith, map, take, drop, get_or, ◌/◌, ◌==◌, take-append-drop, drop-cons, add-one, Some, None, length}
+use Rattle.std.proofs.Common.{◌≡◌, ℕ, zero, suc, ◌+◌, ◌*◌, ◌^◌, ◌<◌, ◌≤◌, Bool, true, false, ◌&&◌, List, [], ◌∷◌, ◌++◌, refl, sym, ap, subst, ◌∙◌, arith, map, take, drop, get_or, ◌/◌, ◌==◌, take-append-drop, drop-cons, add-one, Some, None, length}
 use Rattle.std.specs.declared.cmp.Ordering.{Ordering}
 use Rattle.std.specs.declared.cmp.Ordering.TheVariants.{Less, Equal, Greater}
 use Rattle.std.specs.Ordering.{nat_cmp, is_lt, is_eq, ordering_reverse}
@@ -57,6 +57,25 @@ InOrder-ascending [] h = tt
 InOrder-ascending (r ∷ rs) h =
     let rest : InOrder rs = InOrder-ascending rs (and_right _ _ h) in
     (first_after r.0 rs (and_left _ _ h) rest, rest)
+
+-- a part of a sorted table is sorted
+
+pub ascending-drop : (n : ℕ) (rs : Entries) → ascending rs ≡ true → ascending (drop n rs) ≡ true
+unfolding ascending
+ascending-drop zero rs h = h
+ascending-drop (suc n) [] h = refl
+ascending-drop (suc n) (r ∷ rs) h = ascending-drop n rs (and_right _ _ h)
+
+before-take : (name : List ℕ) (n : ℕ) (rs : Entries) → before_first name rs ≡ true → before_first name (take n rs) ≡ true
+before-take name zero rs h = refl
+before-take name (suc n) [] h = refl
+before-take name (suc n) (r ∷ rs) h = h
+
+pub ascending-take : (n : ℕ) (rs : Entries) → ascending rs ≡ true → ascending (take n rs) ≡ true
+unfolding ascending
+ascending-take zero rs h = refl
+ascending-take (suc n) [] h = refl
+ascending-take (suc n) (r ∷ rs) h = rw (before-take r.0 n rs (and_left _ _ h)) (ascending-take n rs (and_right _ _ h))
 
 -- names that compare as unequal differ
 less_apart : (a b : List ℕ) → slice_cmp nat_cmp a b ≡ Less → pointwise nat_eq a b ≡ false

@@ -3,6 +3,9 @@ pub mod Commands
 pub mod Discreteness
 pub mod Entries
 pub mod Escape
+pub mod Index
+pub mod Lexemes
+pub mod Names
 pub mod Ordered
 pub mod Refusal
 pub mod Same

@@ -7,6 +7,8 @@ ghost use Rattle.std.specs.Prelude.{Some};
 
 pub mod attribute;
 mod error;
+pub mod lexeme;
+pub mod names;
 pub mod token;
 
 pub use error::LatexError;

@@ -5,8 +5,9 @@ ghost use Rattle.latex2mathml_tokens.specs.Discreteness.{same_tok, tok-discrete}
 ghost use Rattle.latex2mathml_tokens.specs.Same.{same_laws};
 ghost use Rattle.latex2mathml_tokens.specs.Tok.{tok};
 
-mod meaning;
-mod search;
+mod index;
+pub(crate) mod meaning;
+pub(crate) mod search;
 mod table;
 pub mod text;
 
@@ -121,7 +122,7 @@ impl Token {
         ensures at_most { compared.new ≤ 9 }
     {
         let (entry, comparisons) = look_up(command);
-        *compared = comparisons;
+        *compared = u128::from(comparisons);
         match entry {
             Some(entry) => Ok(entry.meaning.token()),
             None => Ok(Token::Command(String::from_str(alloc, command)?)),

@@ -1,4 +1,4 @@
--- What a page shows for a formula of anyone.
+-- What a page shows for a user-supplied formula.
 use Rattle.std.specs.Prelude.{◌≡◌, ◌⊎◌, ℕ, List, ◌++◌, codes}
 use Rattle.latex2mathml.specs.Print.{print}
 use Rattle.latex2mathml.specs.Formulas.{Refusal, refusal_text, IsFormulaRefusal, IsRendering, Inline}

@@ -16,7 +16,7 @@ pub fn blank(alloc: Global) -> String
     String::new(alloc)
 }
 
-/// Puts a formula of anyone at the end of a page. Whatever it says, a page whose tags balance stays so, and where the
+/// Puts a user-supplied formula at the end of a page. Whatever it says, a page whose tags balance stays so, and if the
 /// formula is refused the page stays as it is.
 pub fn insert(
     alloc: Global,

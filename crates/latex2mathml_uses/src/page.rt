@@ -18,7 +18,7 @@ pub fn paragraph(alloc: Global, formula: &str) -> Result<String, LatexError>
     Ok(format!(in alloc; "<p>{markup}</p>")?)
 }
 
-/// What stands in a page for a formula of anyone: its markup in a line of text, or, where it is refused, the reason,
+/// What stands in a page for a user-supplied formula: its markup in a line of text, or, if it is refused, the reason,
 /// escaped as a node's text is.
 pub fn shown(alloc: Global, formula: &str) -> Result<String, LatexError>
     ensures { IfOk result (λ shown. IsShown formula.now (string_bytes shown)) }

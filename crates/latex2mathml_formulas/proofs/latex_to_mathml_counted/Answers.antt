@@ -3,25 +3,25 @@ use Rattle.latex2mathml_formulas.proofs.MathElements.{answered_is_math}
 use Rattle.latex2mathml_formulas.proofs.latex_to_mathml_counted.Goals as goal
 
 pub returns-clause-rendering : goal.returns-clause-rendering
-returns-clause-rendering c = rendered _ _ _ c.math-result.result c.new-tokens.ensures.list c.math-result.ensures.rendering
+returns-clause-rendering c = rendered _ _ _ c.math-result.result c.new-parser.ensures.list c.math-result.ensures.rendering
 
 pub returns-clause-element : goal.returns-clause-element
-returns-clause-element c = answered_is_math _ _ c.math-result.result (rendered _ _ _ c.math-result.result c.new-tokens.ensures.list c.math-result.ensures.rendering)
+returns-clause-element c = answered_is_math _ _ c.math-result.result (rendered _ _ _ c.math-result.result c.new-parser.ensures.list c.math-result.ensures.rendering)
 
 pub returns-clause-refusal : goal.returns-clause-refusal
-returns-clause-refusal c = refused _ _ c.math-result.result c.new-tokens.ensures.list c.math-result.ensures.refused
+returns-clause-refusal c = refused _ _ c.math-result.result c.new-parser.ensures.list c.math-result.ensures.refused
 
 pub returns-clause-dollars : goal.returns-clause-dollars
-returns-clause-dollars c = refused_otherwise c.args.latex.now c.math-result.result (refused _ _ c.math-result.result c.new-tokens.ensures.list c.math-result.ensures.refused)
+returns-clause-dollars c = refused_otherwise c.args.latex.now c.math-result.result (refused _ _ c.math-result.result c.new-parser.ensures.list c.math-result.ensures.refused)
 
 pub returns-clause-tokens : goal.returns-clause-tokens
-returns-clause-tokens c = token_count _ c.math-result.result _ _ _ c.new-tokens.ensures.list c.new-tokens.ensures.tokens c.math-result.ensures.counts c.math-result.ensures.all c.tokens-2.ensures.at_least c.tokens-2.ensures.at_most
+returns-clause-tokens c = token_count _ c.math-result.result _ _ _ c.new-parser.ensures.list c.new-parser.ensures.tokens c.math-result.ensures.counted.counts c.math-result.ensures.all c.tokens.ensures
 
 pub returns-clause-length : goal.returns-clause-length
-returns-clause-length c = tokens_within_text c.args.latex.now _ _ c.utf8.latex (token_count _ c.math-result.result _ _ _ c.new-tokens.ensures.list c.new-tokens.ensures.tokens c.math-result.ensures.counts c.math-result.ensures.all c.tokens-2.ensures.at_least c.tokens-2.ensures.at_most)
+returns-clause-length c = tokens_within_text c.args.latex.now _ _ c.utf8.latex (token_count _ c.math-result.result _ _ _ c.new-parser.ensures.list c.new-parser.ensures.tokens c.math-result.ensures.counted.counts c.math-result.ensures.all c.tokens.ensures)
 
 pub returns-clause-comparisons : goal.returns-clause-comparisons
-returns-clause-comparisons c = comparison_count _ c.math-result.result _ _ _ c.new-tokens.ensures.backslashes c.new-tokens.ensures.comparisons c.math-result.ensures.counts c.math-result.ensures.all c.comparisons.ensures.at_end c.comparisons.ensures.at_least c.comparisons.ensures.at_most
+returns-clause-comparisons c = comparison_count _ c.math-result.result _ _ _ c.new-parser.ensures.backslashes c.new-parser.ensures.comparisons c.math-result.ensures.counted.counts c.math-result.ensures.all c.comparisons.ensures.at_end c.comparisons.ensures.same
 
 pub returns-clause-frames : goal.returns-clause-frames
-returns-clause-frames c = frame_count _ _ _ _ _ _ c.new-tokens.ensures.list c.new-tokens.ensures.tokens c.new-frames.ensures.greatest c.math-result.ensures.frames c.tokens-2.ensures.at_least
+returns-clause-frames c = frame_count _ _ _ _ _ _ c.new-parser.ensures.list c.new-parser.ensures.tokens c.new-parser.ensures.greatest c.math-result.ensures.counted.frames c.tokens.ensures

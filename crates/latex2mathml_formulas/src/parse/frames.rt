@@ -1,43 +1,23 @@
-//! The parser's stack of frames: rules that were begun, with the parts read so far.
-ghost use Rattle.std.specs.Prelude.{◌≡◌, ◌≢◌, ◌⊎◌, ◌∷◌, ◌++◌, ◌+◌, ◌<◌, ◌≤◌, ◌↔◌, [], IsTrue, List, MatchBool, max, vec_len, MatchOption, OnOk};
-ghost use Rattle.latex2mathml_formulas.specs.Frames.{awaits, innermost};
+//! The parser's stack of frames: rules that were begun, and how much of each was read.
+//!
+//! A frame holds no tree. What was read for it are the last trees of the parser's parts.
+ghost use Rattle.std.specs.Prelude.{◌≡◌, ◌∷◌, ◌++◌, ◌+◌, ◌<◌, ◌≤◌, ◌↔◌, [], IsTrue, List, MatchBool, MatchOption, OnOk, max, sum_by, vec_len};
+ghost use Rattle.latex2mathml_formulas.specs.Frames.{awaits, end_of, innermost, one_of_pair, pair_sign, takes_script, two_of_pair, unfit};
 ghost use Rattle.latex2mathml_formulas.specs.Levels.{MayBegin, end_token};
-ghost use Rattle.latex2mathml_formulas.specs.Marks.{sign_token};
+ghost use Rattle.latex2mathml_tokens.specs.Lexemes.{lexeme_tok};
 ghost use Rattle.latex2mathml_tokens.specs.Tok.{Tok, tok};
 ghost use Rattle.latex2mathml_formulas.specs.declared.parse.frames.GroupEnd.{GroupEnd};
 
-use crate::parse::operands::{Binary, Pair, Unary};
-use latex2mathml_nodes::ast::Node;
+use crate::reader::mark::Sign;
+use latex2mathml_parts::kind::Kind;
+use latex2mathml_tokens::attribute::Variant;
+use latex2mathml_tokens::lexeme::Lexeme;
+use latex2mathml_tokens::names::Paren;
 use latex2mathml_tokens::token::Token;
 use std::alloc::{AllocError, Global};
 
-/// Which script follows.
-#[derive(Debug, Clone, Copy)]
-pub(crate) enum Sign {
-    Sub,
-    Sup,
-}
-
-impl Sign {
-    pub(crate) fn token(self) -> Token
-        ensures { tok result ≡ sign_token self }
-    {
-        match self {
-            Sign::Sub => Token::Underscore,
-            Sign::Sup => Token::Circumflex,
-        }
-    }
-}
-
-/// A token that goes on with what stands before it.
-#[derive(Debug, Clone, Copy)]
-pub(crate) enum Mark {
-    Prime,
-    Script(Sign),
-}
-
 /// The token that ends a group.
-#[derive(Debug, Clone, Copy)]
+#[derive(Clone, Copy)]
 pub(crate) enum GroupEnd {
     Brace,
     /// `]`
@@ -58,21 +38,24 @@ impl GroupEnd {
         }
     }
 
-    /// Whether the token ends such a group.
-    pub(crate) fn is(self, token: &Token) -> bool
-        ensures { IsTrue result ↔ (tok token.now ≡ end_token self) }
+    /// Whether the lexeme ends such a group.
+    pub(crate) fn is(self, lexeme: Lexeme) -> bool
+        ensures { IsTrue result ↔ (lexeme_tok lexeme.entry ≡ end_token self) }
     {
         match self {
-            GroupEnd::Brace => matches!(token, Token::RBrace),
-            GroupEnd::Bracket => matches!(token, Token::Paren("]")),
-            GroupEnd::Right => matches!(token, Token::Right),
-            GroupEnd::End => matches!(token, Token::End),
+            GroupEnd::Brace => matches!(lexeme, Lexeme::RBrace),
+            GroupEnd::Bracket => match lexeme {
+                Lexeme::Paren(paren) => matches!(paren, Paren::RightSquare),
+                _ => false,
+            },
+            GroupEnd::Right => matches!(lexeme, Lexeme::Right),
+            GroupEnd::End => matches!(lexeme, Lexeme::End),
         }
     }
 }
 
 /// What is due: a member of a group with this end, or a part.
-#[derive(Debug, Clone, Copy)]
+#[derive(Clone, Copy)]
 pub(crate) enum Due {
     Member(GroupEnd),
     Node,
@@ -81,86 +64,154 @@ pub(crate) enum Due {
 }
 
 impl Due {
-    /// Whether the token is the end of the group whose member is due.
-    pub(crate) fn ends_at(self, token: &Token) -> bool
+    /// Whether the lexeme ends the group whose member is due.
+    pub(crate) fn ends_at(self, lexeme: Lexeme) -> bool
         ensures { MatchBool result
-            ((end : GroupEnd) × (self ≡ Due.Member end) × (tok token.now ≡ end_token end))
-            ((place : List Tok) → MayBegin self (tok token.now ∷ place)) }
+            ((end : GroupEnd) × (self ≡ Due.Member end) × (lexeme_tok lexeme.entry ≡ end_token end))
+            ((place : List Tok) → MayBegin self (lexeme_tok lexeme.entry ∷ place)) }
     {
         match self {
-            Due::Member(end) => end.is(token),
+            Due::Member(end) => end.is(lexeme),
             Due::Node | Due::Single | Due::Core => false,
         }
     }
 
     /// Whether a script may follow what is due.
     pub(crate) fn takes_script(self) -> bool
-        ensures { MatchBool result ((self ≢ Due.Core) × (self ≢ Due.Single))
-            ((self ≡ Due.Core) ⊎ (self ≡ Due.Single)) }
+        ensures { result ≡ takes_script self }
     {
         matches!(self, Due::Member(_) | Due::Node)
     }
 }
 
-/// A rule that was begun, with the parts read so far.
-#[derive(Debug, Drop)]
-pub(crate) enum Frame {
-    /// The members of a group in braces.
-    Group(Vec<Node>),
-    /// The members of the degree of a root.
-    Degree(Vec<Node>),
-    /// A rule that waits for its one operand.
-    One(Unary),
-    /// A rule that waits for the first of its two operands.
-    First(Binary),
-    /// A rule that waits for the second, and the first.
-    Second(Binary, Node),
-    /// A rule that waits for its single, or for the first of two.
-    Single(Pair),
-    /// A rule that waits for its second single, and the first.
-    Behind(Pair, Node),
-    /// The name of a function that waits for the limit under it.
-    Limit(&'static str),
-    /// A slash that waits for what it strikes through.
-    Slashed,
-    /// The opening fence, and the members behind it.
-    Fence(&'static str, Vec<Node>),
-    /// The token behind `\middle`, where the operator is due.
-    Stretch(Token),
-    /// The name of an environment, and its members.
-    Environment(String, Vec<Node>),
-    /// The base of a script.
-    Script(Sign, Node),
+/// What is made of members that stand side by side up to an end.
+#[derive(Clone, Copy)]
+pub(crate) enum Group {
+    Brace,
+    /// The degree of a root.
+    Degree,
+    /// What stands between two fences, of which this one opens. A period is none.
+    Fence(Option<Paren>),
+    /// An environment, whose name stands before its members, as words.
+    Environment,
 }
 
-impl Frame {
+impl Group {
+    fn end(self) -> GroupEnd
+        ensures { result ≡ end_of self }
+    {
+        match self {
+            Group::Brace => GroupEnd::Brace,
+            Group::Degree => GroupEnd::Bracket,
+            Group::Fence(_) => GroupEnd::Right,
+            Group::Environment => GroupEnd::End,
+        }
+    }
+}
+
+/// A rule of a single, and of a second one if a sign stands between them.
+#[derive(Clone, Copy)]
+pub(crate) enum Pair {
+    Overbrace(char),
+    Underbrace(char),
+    /// The limits of an operator, which stand under and over it. This sign stood before the first.
+    BigOp(char, Sign),
+    /// The limits of an integral, which stand behind it.
+    Integral(char, Sign),
+}
+
+impl Pair {
+    /// The sign that the second single stands behind.
+    pub(crate) fn sign(self) -> Sign
+        ensures { result ≡ pair_sign self }
+    {
+        match self {
+            Pair::Overbrace(_) | Pair::BigOp(_, Sign::Sub) | Pair::Integral(_, Sign::Sub) => {
+                Sign::Sup
+            }
+            Pair::Underbrace(_) | Pair::BigOp(_, Sign::Sup) | Pair::Integral(_, Sign::Sup) => {
+                Sign::Sub
+            }
+        }
+    }
+
+    /// What is made of one single.
+    pub(crate) fn one(self) -> Kind<'static>
+        ensures { result ≡ one_of_pair self }
+    {
+        match self {
+            Pair::Overbrace(c) => Kind::Overbrace(c),
+            Pair::Underbrace(c) => Kind::Underbrace(c),
+            Pair::BigOp(c, Sign::Sub) => Kind::LimitBelow(c),
+            Pair::BigOp(c, Sign::Sup) => Kind::LimitAbove(c),
+            Pair::Integral(c, Sign::Sub) => Kind::LimitSub(c),
+            Pair::Integral(c, Sign::Sup) => Kind::LimitSup(c),
+        }
+    }
+
+    /// What is made of two.
+    pub(crate) fn two(self) -> Kind<'static>
+        ensures { result ≡ two_of_pair self }
+    {
+        match self {
+            Pair::Overbrace(c) => Kind::OverbraceWith(c),
+            Pair::Underbrace(c) => Kind::UnderbraceWith(c),
+            Pair::BigOp(c, Sign::Sub) => Kind::LimitsBelowAbove(c),
+            Pair::BigOp(c, Sign::Sup) => Kind::LimitsAboveBelow(c),
+            Pair::Integral(c, Sign::Sub) => Kind::LimitsSubSup(c),
+            Pair::Integral(c, Sign::Sup) => Kind::LimitsSupSub(c),
+        }
+    }
+}
+
+/// A rule that was begun. What was read of it are the last trees.
+#[derive(Clone, Copy)]
+pub(crate) enum Frame<'a> {
+    /// A group, of which so many members were read.
+    Members(Group, usize),
+    /// A rule that waits for its last operand, and what is made of its operands.
+    Operand(Kind<'a>),
+    /// A rule that waits for the first of two operands.
+    First(Kind<'a>),
+    /// A style that waits for its operand.
+    Style(Variant),
+    /// A rule that waits for its single, or for the first of two.
+    Single(Pair),
+    /// A rule that waits for its last single.
+    Last(Kind<'a>),
+    /// A slash that waits for what it strikes through.
+    Slashed,
+    /// The lexeme behind `\middle`. The operator is due.
+    Stretch(Lexeme<'a>),
+    /// A script, whose base was read.
+    Script(Sign),
+}
+
+impl<'a> Frame<'a> {
     /// What the rule waits for.
-    pub(crate) fn awaits(&self) -> Due
+    fn awaits(&self) -> Due
         ensures { result ≡ awaits self.now }
     {
         match self {
-            Frame::Group(_) => Due::Member(GroupEnd::Brace),
-            Frame::Degree(_) => Due::Member(GroupEnd::Bracket),
-            Frame::Fence(_, _) => Due::Member(GroupEnd::Right),
-            Frame::Environment(_, _) => Due::Member(GroupEnd::End),
-            Frame::One(_) | Frame::First(_) | Frame::Second(_, _) => Due::Core,
-            Frame::Slashed | Frame::Script(_, _) => Due::Node,
-            Frame::Single(_) | Frame::Behind(_, _) => Due::Single,
-            Frame::Limit(_) | Frame::Stretch(_) => Due::Single,
+            Frame::Members(group, _) => Due::Member(group.end()),
+            Frame::Operand(_) | Frame::First(_) | Frame::Style(_) => Due::Core,
+            Frame::Single(_) | Frame::Last(_) | Frame::Stretch(_) => Due::Single,
+            Frame::Slashed | Frame::Script(_) => Due::Node,
         }
     }
 }
 
 /// The frames, the innermost last, and the greatest number of them at any time.
 #[derive(Drop)]
-pub(crate) struct Frames {
-    pub(crate) stack: Vec<Frame>,
+pub(crate) struct Frames<'a> {
+    pub(crate) stack: Vec<Frame<'a>>,
     pub(crate) greatest: u128,
     ghost covered: { vec_len stack ≤ greatest },
+    ghost fit: { sum_by unfit stack.items ≡ 0 },
 }
 
-impl Frames {
-    pub(crate) fn new(alloc: Global) -> Frames
+impl<'a> Frames<'a> {
+    pub(crate) fn new(alloc: Global) -> Frames<'a>
         ensures empty { result.stack.items ≡ [] }
         ensures greatest { result.greatest ≡ 0 }
     {
@@ -171,8 +222,9 @@ impl Frames {
     }
 
     /// Opens a frame.
-    pub(crate) fn open(&mut self, frame: Frame) -> Result<(), AllocError>
-        ensures stack { OnOk result (self.new.stack.items ≡ self.old.stack.items ++ frame ∷ []) }
+    pub(crate) fn open(&mut self, frame: Frame<'a>) -> Result<(), AllocError>
+        requires { unfit frame ≡ 0 }
+        ensures stack { OnOk result (self.new.stack.items ≡ self.old.stack.items ++ frame.entry ∷ []) }
         ensures greatest { self.new.greatest ≤ max self.old.greatest (vec_len self.old.stack + 1) }
     {
         self.stack.push(frame)?;
@@ -180,10 +232,11 @@ impl Frames {
         Ok(())
     }
 
-    /// Puts a frame back that was taken off, with one more part. This is no opening, so it leaves the greatest number.
-    pub(crate) fn put_back(&mut self, frame: Frame) -> Result<(), AllocError>
-        requires { vec_len self.old.stack < self.old.greatest }
-        ensures stack { OnOk result (self.new.stack.items ≡ self.old.stack.items ++ frame ∷ []) }
+    /// Puts a frame back that was taken off. This is no opening, so it leaves the greatest number.
+    pub(crate) fn put_back(&mut self, frame: Frame<'a>) -> Result<(), AllocError>
+        requires room { vec_len self.old.stack < self.old.greatest }
+        requires fit { unfit frame ≡ 0 }
+        ensures stack { OnOk result (self.new.stack.items ≡ self.old.stack.items ++ frame.entry ∷ []) }
         ensures greatest { self.new.greatest ≡ self.old.greatest }
     {
         self.stack.push(frame)?;
@@ -191,16 +244,17 @@ impl Frames {
     }
 
     /// Takes the innermost frame off.
-    pub(crate) fn pop(&mut self) -> Option<Frame>
+    pub(crate) fn pop(&mut self) -> Option<Frame<'a>>
         ensures stack { MatchOption result ((self.old.stack.items ≡ []) × (self.new.stack.items ≡ []))
             (λ frame. self.old.stack.items ≡ self.new.stack.items ++ frame ∷ []) }
+        ensures fit { MatchOption result (self.old.stack.items ≡ []) (λ frame. unfit frame ≡ 0) }
         ensures greatest { self.new.greatest ≡ self.old.greatest }
     {
         self.stack.pop()
     }
 
     /// What is due: what the innermost frame waits for, or a node of the formula.
-    #[tactic(auto, using(crate::proofs::Stacks::due_inside_push))]
+    #[tactic(auto, using(crate::proofs::Stacks::innermost_push))]
     pub(crate) fn due(&self) -> Due
         ensures { result ≡ innermost self.now.stack.items }
     {

@@ -123,7 +123,7 @@ fn of_two(mut x: Box<Node>, y: Box<Node>, chain: Node) -> (Parts, Node)
         < weight (tree x.value) + weight (tree y.value) + 2 + hung (tree chain) }
 {
     if x.is_leaf() {
-        let_go(Box::into_inner(x));
+        drop_leaf(Box::into_inner(x));
         return (Box::into_inner(y).parts(), chain);
     }
     let first = mem::replace(&mut *x, chain);
@@ -131,7 +131,7 @@ fn of_two(mut x: Box<Node>, y: Box<Node>, chain: Node) -> (Parts, Node)
 }
 
 /// Drops a leaf.
-fn let_go(leaf: Node)
+fn drop_leaf(leaf: Node)
     requires { weight (tree leaf) ≡ 0 }
 {
     match leaf.parts() {

@@ -6,18 +6,41 @@ ghost use Rattle.latex2mathml_tokens.specs.Commands.{command_entries, entry_toke
 ghost use Rattle.latex2mathml_tokens.specs.Ordered.{ascending};
 ghost use Rattle.latex2mathml_tokens.specs.Entries.{entry_of};
 
+use crate::token::index::places;
 use crate::token::meaning::Entry;
 use crate::token::table::table;
 use std::cmp::Ordering;
 
 /// Returns the entry of the command with this name, if there is one, and the number of names that were compared.
-pub(crate) fn look_up(name: &str) -> (Option<Entry>, u128)
+pub(crate) fn look_up(name: &str) -> (Option<Entry>, u64)
     ensures entry { MatchOption result.0 (entry_token command_entries name.now ≡ None)
         (λ entry. entry_token command_entries name.now ≡ Some (entry_of entry).1) }
     ensures at_least { 1 ≤ result.1 }
     ensures at_most { result.1 ≤ 9 }
 {
-    search(entries(), name)
+    search(candidates(name), name)
+}
+
+/// The entries whose names begin with the first byte of this one. Where there are none, all entries of the table.
+fn candidates(name: &str) -> &'static [Entry]
+    ensures same { entry_token (map entry_of result.now) name.now ≡ entry_token command_entries name.now }
+    ensures ordered { IsTrue (ascending (map entry_of result.now)) }
+    ensures few { length result.now < 512 }
+    ensures some { 0 < length result.now }
+{
+    let entries = entries();
+    let Some(&byte) = name.as_bytes().first() else {
+        return entries;
+    };
+    if byte >= 128 {
+        return entries;
+    }
+    let (start, end) = places(byte);
+    if start < end {
+        &entries[start..end]
+    } else {
+        entries
+    }
 }
 
 /// The entries of the table: each name is less than the next, and there are fewer than 512.
@@ -32,7 +55,7 @@ fn entries() -> &'static [Entry]
 
 /// Returns the entry with this name among sorted entries, and the number of names that were compared. Each comparison
 /// halves the entries that are left, until one is equal or none is left.
-fn search(table: &[Entry], name: &str) -> (Option<Entry>, u128)
+fn search(table: &[Entry], name: &str) -> (Option<Entry>, u64)
     requires ordered { IsTrue (ascending (map entry_of table.now)) }
     requires few { length table.now < 512 }
     ensures entry { MatchOption result.0 (entry_token (map entry_of table.now) name.now ≡ None)
@@ -56,8 +79,8 @@ fn search(table: &[Entry], name: &str) -> (Option<Entry>, u128)
 
 /// Compares the name with the entry's name, and counts the comparison. Nothing else in the look-up
 /// reads an entry's name.
-fn compare(name: &str, entry: &Entry, comparisons: &mut u128) -> Ordering
-    requires { comparisons.old + 1 < 2 ^ 128 }
+fn compare(name: &str, entry: &Entry, comparisons: &mut u64) -> Ordering
+    requires { comparisons.old + 1 < 2 ^ 64 }
     ensures counts { comparisons.new ≡ comparisons.old + 1 }
     ensures order { result ≡ slice_cmp nat_cmp name.now entry.now.name.now }
 {

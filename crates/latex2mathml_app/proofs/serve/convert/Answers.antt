@@ -1,5 +1,5 @@
 use Rattle.std.proofs.Common.{refl}
-use Rattle.latex2mathml_app.specs.Serving.{NoMemory, Told}
+use Rattle.latex2mathml_app.specs.Serving.{NoMemory, WalkEnded}
 use Rattle.latex2mathml_app.proofs.serve.convert.Goals as goal
 
 pub returns-in_default : goal.returns-in_default
@@ -7,5 +7,5 @@ returns-in_default g c = record { told = NoMemory refl c.put_line.ensures.put }
 
 pub returns : goal.returns
 returns g c = record {
-  told = Told c.in-Ok.unconverted.items c.in-Ok.ensures.listed (rw c.as_slice.ensures.value at c.tell.ensures.told);
+  told = WalkEnded c.in-Ok.unconverted.items c.in-Ok.ensures.listed (rw c.as_slice.ensures.value at c.tell.ensures.told);
 }

@@ -1,6 +1,6 @@
 use Rattle.std.proofs.Common.{◌≡◌, refl, subst, map, arith, false, true}
 use Rattle.std.proofs.lemmas.List.{take_all}
-use Rattle.latex2mathml_app.specs.Serving.{AreSaid, AllPut, unconverted_line}
+use Rattle.latex2mathml_app.specs.Serving.{JoinsSomeOf, AllPut, unconverted_line}
 use Rattle.latex2mathml_app.proofs.Lines.{put_last, put_next}
 use Rattle.latex2mathml_app.proofs.serve.put_all_unconverted.Goals as goal
 
@@ -21,5 +21,5 @@ pub returns : goal.returns
 returns g c =
     let so_far = c.loop-unconverted.invariant in
     record {
-      put = AllPut so_far.0 so_far.1.0 (subst (λ l. AreSaid (map unconverted_line l) so_far.1.0) (take_all c.loop-unconverted.unconverted-index c.args.all.now (omega arith)) so_far.1.1) so_far.1.2;
+      put = AllPut so_far.0 so_far.1.0 (subst (λ l. JoinsSomeOf (map unconverted_line l) so_far.1.0) (take_all c.loop-unconverted.unconverted-index c.args.all.now (omega arith)) so_far.1.1) so_far.1.2;
     }

@@ -1,42 +1,58 @@
-use Rattle.std.proofs.Common.{append_assoc, refl, ◌∙◌}
-use Rattle.std.specs.Prelude.{string_bytes}
+use Rattle.std.proofs.Common.{◌≡◌, ◌∷◌, ◌++◌, append_assoc, refl, ap, ◌∙◌}
+use Rattle.std.specs.Prelude.{codes, string_bytes}
+use Rattle.latex2mathml_nodes.specs.Print.{prints}
+use Rattle.latex2mathml_nodes.specs.Tree.{trees_of}
+use Rattle.std.proofs.lemmas.Result.{err_from_is_err_and}
 use Rattle.latex2mathml_tokens.proofs.Errors.{passed_on}
-use Rattle.latex2mathml_formulas.proofs.Appending.{finished, found_node, no_node, no_nodes, node_refused, node_shortens, one_node}
-use Rattle.latex2mathml_formulas.proofs.Progress.{GoesOn-refl, GoesOn-trans, OpensFor-refl, OpensFor-trans}
+use Rattle.latex2mathml_tokens.specs.Lexemes.{lexeme_tok}
+use Rattle.latex2mathml_formulas.specs.Marks.{rest_of}
+use Rattle.latex2mathml_formulas.proofs.Appending.{finished, no_nodes, node_refused, node_shortens, one_node, some_stands}
+use Rattle.latex2mathml_formulas.proofs.Beginning.{stood}
+use Rattle.latex2mathml_formulas.proofs.Stepping.{counted_none, counted_on, counted_skipped, counted_taken}
 use Rattle.latex2mathml_formulas.proofs.formula.append_math.Goals as goal
 
 pub nodes-init : goal.nodes-init
 nodes-init c = record {
   closed = c.requires;
   nodes = no_nodes _ _ _ refl;
-  counts = GoesOn-refl _;
-  frames = OpensFor-refl _ _;
+  counted = counted_none _;
 }
 
 pub nodes-preserved : goal.nodes-preserved
 nodes-preserved c =
-    let read = found_node c.in_ok-node.field-0 c.in-Some.node _ _ c.in-Some.is c.in_ok-node.ensures.node in
+    let t = c.take-lexeme.result in
+    let place = c.nodes.parser.reader.list in
+    let found = stood t place c.take-lexeme.new.self.list c.in_default.not-EOF c.take-lexeme.ensures.token c.take-lexeme.ensures.list in
+    let read = c.in_ok-append_node.ensures.node place found in
     record {
-      closed = c.in_ok-node.ensures.closed;
-      nodes = one_node _ _ _ _ _ _ _ read.0 read.1 c.in_ok-append_node.ensures c.nodes.invariant.nodes;
-      counts = GoesOn-trans _ _ _ c.nodes.invariant.counts c.in_ok-node.ensures.counts;
-      frames = OpensFor-trans _ _ _ _ _ _ c.nodes.invariant.frames c.in_ok-node.ensures.frames;
+      closed = read.0;
+      nodes = one_node _ _ _ _ _ _ _ (some_stands (lexeme_tok t) place _ found) read.1.1 read.1.2 c.nodes.invariant.nodes;
+      counted = counted_on 0 0 _ _ _ c.nodes.invariant.counted (counted_taken (lexeme_tok t) c.nodes.parser _ _ found c.take-lexeme.ensures.counts refl c.in_ok-append_node.ensures.counted);
     }
 
 pub nodes-smaller : goal.nodes-smaller
 nodes-smaller c =
-    let read = found_node c.in_ok-node.field-0 c.in-Some.node _ _ c.in-Some.is c.in_ok-node.ensures.node in
-    node_shortens _ _ _ read.0 read.1
+    let t = c.take-lexeme.result in
+    let place = c.nodes.parser.reader.list in
+    let found = stood t place c.take-lexeme.new.self.list c.in_default.not-EOF c.take-lexeme.ensures.token c.take-lexeme.ensures.list in
+    let read = c.in_ok-append_node.ensures.node place found in
+    node_shortens _ _ _ (some_stands (lexeme_tok t) place _ found) read.1.1
 
-pub returns-in_err-node-clause-refused : goal.returns-in_err-node-clause-refused
-returns-in_err-node-clause-refused c =
-    passed_on _ _ _ c.from_residual-in_err-node.result c.from_residual-in_err-node.ensures.1 c.in_err-node.ensures.refused (λ r d. node_refused _ _ _ _ r d c.nodes.invariant.nodes)
+pub returns-in_err-append_node : goal.returns-in_err-append_node
+returns-in_err-append_node c =
+    let t = c.take-lexeme.result in
+    let place = c.nodes.parser.reader.list in
+    let found = stood t place c.take-lexeme.new.self.list c.in_default.not-EOF c.take-lexeme.ensures.token c.take-lexeme.ensures.list in
+    let p = err_from_is_err_and c.from_residual-in_err-append_node.result c.from_residual-in_err-append_node.ensures.1 in
+    record {
+      rendering = rw (p.1) tt;
+      refused = passed_on _ _ _ c.from_residual-in_err-append_node.result c.from_residual-in_err-append_node.ensures.1 (c.in_err-append_node.ensures.refused place found) (λ r d. node_refused _ _ _ _ r (some_stands (lexeme_tok t) place _ found, d) c.nodes.invariant.nodes);
+      all = rw (p.1) tt;
+      counted = counted_on 0 0 _ _ _ c.nodes.invariant.counted (counted_taken (lexeme_tok t) c.nodes.parser _ _ found c.take-lexeme.ensures.counts refl c.in_err-append_node.ensures.counted);
+    }
 
 pub returns-clause-rendering : goal.returns-clause-rendering
 returns-clause-rendering c =
-    let none = no_node c.in_ok-node.field-0 c.nodes.tokens.list c.next_node.new.tokens.list c.in_default.is c.in_ok-node.ensures.node in
-    let all = finished c.args.tokens.now.list c.nodes.tokens.list (string_bytes c.args.markup.now) (string_bytes c.push_str.new.self) (string_bytes c.write.new.self) (string_bytes c.nodes.markup) _ _ none.0 c.in_ok-write.ensures.bytes c.nodes.invariant.nodes c.in_ok-push_str.ensures.bytes in
-    (all.0, all.1, all.2 ∙ simp append_assoc)
-
-pub returns-clause-all : goal.returns-clause-all
-returns-clause-all c = (no_node c.in_ok-node.field-0 c.nodes.tokens.list c.next_node.new.tokens.list c.in_default.is c.in_ok-node.ensures.node).1
+    let none = c.take-lexeme.ensures.ended (ap lexeme_tok c.in-EOF.is) in
+    let all = finished c.args.parser.now.reader.list c.nodes.parser.reader.list (string_bytes c.args.markup.now) (string_bytes c.push_str-2.new.self) (string_bytes c.push_str.new.self) (string_bytes c.nodes.markup) _ _ none c.in_ok-push_str.ensures.bytes c.nodes.invariant.nodes c.in_ok-push_str-2.ensures.bytes in
+    (all.0, all.1, all.2 ∙ ap (λ tag. string_bytes c.args.markup.now ++ (tag ++ (prints (trees_of all.0) ++ codes "</math>"))) c.opening_tag.ensures ∙ simp append_assoc)

@@ -1,0 +1,131 @@
+-- What the reader takes from the slices that are left of a text, and what it leaves where it only looks.
+use Rattle.std.proofs.Common.{◌≡◌, ◌≢◌, ℕ, ◌+◌, ◌*◌, ◌^◌, ◌<◌, ◌≤◌, Bool, true, false, ◌&&◌, List, [], ◌∷◌, ◌++◌, length, refl, sym, ap, subst, ◌∙◌, Some, inl, inr, append_assoc, arith}
+use Rattle.std.proofs.lemmas.Bool.{cases_Bool}
+use Rattle.std.proofs.lemmas.Bool.Decides.{nat_tests}
+use Rattle.std.proofs.lemmas.List.Elements.{All-append, All-cons, All-nil}
+use Rattle.std.specs.List.{AllPass}
+use Rattle.std.specs.Str.{byte}
+use Rattle.latex2mathml_formulas.specs.Characters.{◌∈◌, head, is_space}
+use Rattle.latex2mathml_formulas.specs.Counts.{backslash_count, backslashes}
+use Rattle.latex2mathml_formulas.specs.Cutting.{slice, slices_of}
+use Rattle.latex2mathml_formulas.specs.Grammar.{first_or_end}
+use Rattle.latex2mathml_formulas.specs.Lexing.{BeginsWith, IsLongestRun, IsStart}
+use Rattle.latex2mathml_formulas.specs.Marks.{rest_of}
+use Rattle.latex2mathml_formulas.specs.Spelling.{Slice, SpellsAt, IsStep, takes_digit}
+use Rattle.latex2mathml_formulas.specs.Unread.{GoesOn, left_in, token_list}
+use Rattle.latex2mathml_tokens.specs.Tok.{Tok}
+use Rattle.latex2mathml_formulas.proofs.OneList.{Begun, begun, cut_end, cut_step}
+use Rattle.latex2mathml_formulas.proofs.Spellings.{only_space}
+use Rattle.latex2mathml_formulas.proofs.Taking.{backslashes-cons, same_first}
+use Rattle.latex2mathml_formulas.proofs.Tokenizing.{step_shortens}
+
+and_true : (b : Bool) → (b && true) ≡ b
+and_true true = refl
+and_true false = refl
+
+and_false : (b : Bool) → (b && false) ≡ false
+and_false true = refl
+and_false false = refl
+
+-- a text that begins with no white space starts there
+pub starts_here : (takes : Bool) (text : List ℕ) (c : ℕ) (after : List ℕ) → text ≡ c ∷ after → is_space c ≡ false → IsStart takes text text takes
+starts_here takes text c after e dark = ([], (refl, All-nil (λ x. is_space x ≡ true), rw e dark), sym (and_true takes))
+
+pub starts_at_end : (takes : Bool) (text : List ℕ) → text ≡ [] → IsStart takes text text takes
+starts_at_end takes text e = ([], (refl, All-nil (λ x. is_space x ≡ true), rw e tt), sym (and_true takes))
+
+-- a character more of white space
+pub more_space : (text rest : List ℕ) (c : ℕ) (after : List ℕ) → (space : List ℕ) × (text ≡ space ++ rest) × AllPass is_space space → rest ≡ c ∷ after → is_space c ≡ true → (space : List ℕ) × (text ≡ space ++ after) × AllPass is_space space
+more_space text rest c after (space, e, white) f light =
+    (space ++ c ∷ [], e ∙ ap (λ k. space ++ k) f ∙ sym (append_assoc space (c ∷ []) after), All-append (λ x. is_space x ≡ true) space (c ∷ []) white (All-cons (λ x. is_space x ≡ true) c [] light (All-nil (λ x. is_space x ≡ true))))
+
+-- a text that begins with white space starts behind it
+pub starts_behind : (takes : Bool) (text : List ℕ) (c : ℕ) (after start : List ℕ) → text ≡ c ∷ after → is_space c ≡ true → (space : List ℕ) × IsLongestRun is_space after space start → IsStart takes text start false
+starts_behind takes text c after start e light (space, run) =
+    (c ∷ space, (e ∙ ap (λ k. c ∷ k) run.0, All-cons (λ x. is_space x ≡ true) c space light run.1, run.2), sym (and_false takes))
+
+-- the first slice of a text, from where it starts
+pub step_from : (takes alone : Bool) (text start : List ℕ) (t : Tok) (rest : List ℕ) → IsStart takes text start alone → (begins : BeginsWith alone start t rest) → IsStep takes text (slice begins.0 t) rest
+step_from takes alone text start t rest (space, run, e) begins =
+    (space, run.0 ∙ ap (λ s. space ++ s) begins.1, run.1, subst (λ b. SpellsAt b begins.0 (head rest) t) e begins.2)
+
+-- the text from its start has the same slices
+pub same_slices : (takes alone : Bool) (text start : List ℕ) → IsStart takes text start alone → slices_of alone start ≡ slices_of takes text
+same_slices takes alone text [] (space, run, e) =
+    cut_end alone [] (All-nil (λ x. is_space x ≡ true)) ∙ sym (cut_end takes text (only_space text space [] run refl))
+same_slices takes alone text (c ∷ cs) (space, run, e) =
+    let first : Begun alone (c ∷ cs) = begun alone c cs run.2 in
+    let s : Slice = slice first.2.0 first.0 in
+    let here : IsStart alone (c ∷ cs) (c ∷ cs) alone = starts_here alone (c ∷ cs) c cs refl run.2 in
+    cut_step alone (c ∷ cs) s first.1 (step_from alone alone (c ∷ cs) (c ∷ cs) first.0 first.1 here first.2) ∙ sym (cut_step takes text s first.1 (step_from takes alone text (c ∷ cs) first.0 first.1 (space, run, e) first.2))
+
+pub none_left : (takes alone : Bool) (text start : List ℕ) → IsStart takes text start alone → start ≡ [] → slices_of takes text ≡ []
+none_left takes alone text start (space, run, e) f = cut_end takes text (only_space text space start run f)
+
+-- a slice is taken, and n names were compared for it
+abbrev pub IsTaken : Bool → List ℕ → Tok → ℕ → Bool → List ℕ → Type 0
+IsTaken takes text t n takes' rest =
+    (w : List ℕ)
+    × (slices_of takes text ≡ slice w t ∷ slices_of takes' rest)
+    × (backslash_count w ≤ n)
+    × (n ≤ 9 * backslash_count w)
+    × (length rest < length text)
+
+-- .. where the text starts with it, with a backslash just where names were compared
+pub taken : (takes alone takes' : Bool) (text start : List ℕ) (t : Tok) (n : ℕ) (rest : List ℕ) → IsStart takes text start alone → BeginsWith alone start t rest → takes' ≡ takes_digit (Some t) → backslash_count start ≤ n → n ≤ 9 * backslash_count start → IsTaken takes text t n takes' rest
+taken takes alone takes' text start t n rest starts begins e least most =
+    let step : IsStep takes text (slice begins.0 t) rest = step_from takes alone text start t rest starts begins in
+    let same : backslash_count begins.0 ≡ backslash_count start = same_first alone begins.0 rest start t begins.2 begins.1 in
+    (begins.0, cut_step takes text (slice begins.0 t) rest step ∙ ap (λ b. slice begins.0 t ∷ slices_of b rest) (sym e), rw same least, rw same most, step_shortens takes text rest (slice begins.0 t) step)
+
+no_backslash_count : (c : ℕ) (after : List ℕ) → c ≢ byte "\\" → backslash_count (c ∷ after) ≡ 0
+no_backslash_count c after h = grind (arith, nat_tests)
+
+-- .. which is no command
+pub taken_uncounted : (takes alone : Bool) (text start : List ℕ) (c : ℕ) (after : List ℕ) (t : Tok) (rest : List ℕ) → IsStart takes text start alone → start ≡ c ∷ after → c ≢ byte "\\" → BeginsWith alone start t rest → takes_digit (Some t) ≡ false → IsTaken takes text t 0 false rest
+taken_uncounted takes alone text start c after t rest starts e dark begins no_digit =
+    let none : backslash_count start ≡ 0 = ap backslash_count e ∙ no_backslash_count c after dark in
+    taken takes alone false text start t 0 rest starts begins (sym no_digit) (omega arith) (omega arith)
+
+-- .. which is a command
+pub taken_command : (takes alone takes' : Bool) (text start : List ℕ) (c : ℕ) (after : List ℕ) (t : Tok) (n : ℕ) (rest : List ℕ) → IsStart takes text start alone → start ≡ c ∷ after → c ≡ byte "\\" → BeginsWith alone (byte "\\" ∷ after) t rest → takes' ≡ takes_digit (Some t) → 1 ≤ n → n ≤ 9 → IsTaken takes text t n takes' rest
+taken_command takes alone takes' text start c after t n rest starts e backslash begins f least most =
+    let whole : start ≡ byte "\\" ∷ after = e ∙ ap (λ x. x ∷ after) backslash in
+    let one : backslash_count start ≡ 1 = ap backslash_count whole in
+    taken takes alone takes' text start t n rest starts (subst (λ s. BeginsWith alone s t rest) (sym whole) begins) f (omega arith) (omega arith)
+
+-- what stands first of the tokens that are left, and what is left behind it
+
+pub first_taken : (takes : Bool) (text : List ℕ) (t : Tok) (n : ℕ) (takes' : Bool) (rest : List ℕ) → IsTaken takes text t n takes' rest → t ≡ first_or_end (token_list (slices_of takes text))
+first_taken takes text t n takes' rest h = sym (ap (λ ss. first_or_end (token_list ss)) h.1)
+
+pub rest_taken : (takes : Bool) (text : List ℕ) (t : Tok) (n : ℕ) (takes' : Bool) (rest : List ℕ) → IsTaken takes text t n takes' rest → token_list (slices_of takes' rest) ≡ rest_of (token_list (slices_of takes text))
+rest_taken takes text t n takes' rest h = sym (ap (λ ss. rest_of (token_list ss)) h.1)
+
+pub counts_taken : (takes : Bool) (text : List ℕ) (t : Tok) (n : ℕ) (takes' : Bool) (rest : List ℕ) (tokens tokens' comparisons comparisons' : ℕ) → IsTaken takes text t n takes' rest → tokens' ≡ tokens + 1 → comparisons' ≡ comparisons + n → GoesOn (left_in (slices_of takes text) tokens comparisons) (left_in (slices_of takes' rest) tokens' comparisons')
+counts_taken takes text t n takes' rest tokens tokens' comparisons comparisons' h e f =
+    let s : Slice = slice h.0 t in
+    let shorter : length (token_list (slices_of takes text)) ≡ 1 + length (token_list (slices_of takes' rest)) = ap (λ ss. length (token_list ss)) h.1 ∙ omega arith in
+    let fewer : backslashes (slices_of takes text) ≡ backslash_count h.0 + backslashes (slices_of takes' rest) = ap backslashes h.1 ∙ backslashes-cons s (slices_of takes' rest) in
+    let least : backslash_count h.0 ≤ n = h.2 in
+    let most : n ≤ 9 * backslash_count h.0 = h.3 in
+    record { tokens = omega arith; at_least = omega arith; at_most = omega arith }
+
+-- the counts stay below what their types hold
+
+nine_more : (n a m k : ℕ) → n ≤ 9 * a → a ≤ 1 → m < k → n + 9 * m ≤ 9 * k
+nine_more n a m k h i l = omega arith
+
+one_at_most : (w : List ℕ) → backslash_count w ≤ 1
+one_at_most [] = omega arith
+one_at_most (c ∷ w) = elim (cases_Bool (c ∈ "\\")) [ inl h ↦ rw h (omega arith) | inr h ↦ rw h (omega arith) ]
+
+pub fits_tokens : (takes : Bool) (text : List ℕ) (t : Tok) (n : ℕ) (takes' : Bool) (rest : List ℕ) (tokens : ℕ) → IsTaken takes text t n takes' rest → tokens + length text < 2 ^ 64 → (tokens + 1) + length rest < 2 ^ 64
+fits_tokens takes text t n takes' rest tokens h l =
+    let shorter : length rest < length text = h.4 in
+    omega arith
+
+pub fits_comparisons : (takes : Bool) (text : List ℕ) (t : Tok) (n : ℕ) (takes' : Bool) (rest : List ℕ) (comparisons : ℕ) → IsTaken takes text t n takes' rest → comparisons + 9 * length text < 2 ^ 68 → (comparisons + n) + 9 * length rest < 2 ^ 68
+fits_comparisons takes text t n takes' rest comparisons h l =
+    let more : n + 9 * length rest ≤ 9 * length text = nine_more n (backslash_count h.0) (length rest) (length text) h.3 (one_at_most h.0) h.4 in
+    omega arith

@@ -1,0 +1,38 @@
+use Rattle.std.proofs.Common.{◌≡◌, ◌∷◌, ◌+◌, ◌*◌, ◌<◌, ◌≤◌, [], length, max, sum_by, ap, ◌∙◌, arith}
+use Rattle.std.proofs.lemmas.List.Sums.{sum_by_push}
+use Rattle.latex2mathml_formulas.specs.Frames.{held}
+use Rattle.latex2mathml_formulas.specs.Openers.{openers, opens}
+use Rattle.latex2mathml_formulas.specs.Steps.{weight}
+use Rattle.latex2mathml_parts.specs.Parts.{trees}
+use Rattle.latex2mathml_tokens.specs.Lexemes.{lexeme_tok}
+use Rattle.latex2mathml_formulas.specs.declared.parse.frames.Frame.TheVariants as frame
+use Rattle.latex2mathml_formulas.proofs.Beginning.{stood, stretch_begun}
+use Rattle.latex2mathml_formulas.proofs.Progress.{OpensFor-one, rest-shorter}
+use Rattle.latex2mathml_formulas.proofs.parse.Parser.stretch.Goals as goal
+
+pub returns-clause-holds : goal.returns-clause-holds
+returns-clause-holds c = λ input k.
+    let p = c.args.self.now in
+    stretch_begun input p.frames.stack.items _ (trees p.parts) c.take-got.result p.reader.list _ c.in_ok-open.ensures.stack c.take-got.ensures.token c.take-got.ensures.list k
+
+pub returns-clause-taken : goal.returns-clause-taken
+returns-clause-taken c =
+    let p = c.args.self.now in
+    let fs = p.frames.stack.items in
+    let got = c.take-got.result in
+    let to = c.take-got.new.self in
+    let shorter = rest-shorter p.reader to c.take-got.ensures.list in
+    let room = p.frames.covered in
+    let most = c.open.ensures.greatest in
+    let on = c.in_ok-open.ensures.stack in
+    let heavier : sum_by weight c.open.new.self.stack.items ≡ sum_by weight fs + 2 = ap (sum_by weight) on ∙ sum_by_push weight fs (frame.Stretch got) in
+    let holding : sum_by held c.open.new.self.stack.items ≡ sum_by held fs + 0 = ap (sum_by held) on ∙ sum_by_push held fs (frame.Stretch got) in
+    let enough = c.requires in
+    record {
+      trees = omega arith;
+      more = λ h.
+          let found : p.reader.list ≡ lexeme_tok got ∷ to.list = stood got p.reader.list to.list h c.take-got.ensures.token c.take-got.ensures.list in
+          let one : length p.reader.list ≡ 1 + length to.list = ap length found ∙ omega arith in
+          (omega arith, omega arith, OpensFor-one (lexeme_tok got) p.reader to p.frames.greatest c.open.new.self.greatest found c.take-got.ensures.counts (omega arith));
+      falls = omega arith;
+    }

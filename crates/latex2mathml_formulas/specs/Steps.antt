@@ -1,0 +1,104 @@
+-- The steps of the parser: what holds between two of them, what is counted, and how much is left to do.
+use Rattle.std.specs.Prelude.{◌≡◌, ℕ, ◌+◌, ◌*◌, ◌<◌, ◌≤◌, List, [], ◌++◌, drop, length, sum_by, IfSome}
+use Rattle.latex2mathml_formulas.specs.Frames.{held, innermost, inside}
+use Rattle.latex2mathml_formulas.specs.Grammar.{core, node, Outcome, Read, Reads, Refused, Rule}
+use Rattle.latex2mathml_formulas.specs.Levels.{Leads, Level, Made, RuleLeads, Takes}
+use Rattle.latex2mathml_formulas.specs.Openers.{OpensFor, opens}
+use Rattle.latex2mathml_formulas.specs.Unread.{GoesOn}
+use Rattle.latex2mathml_nodes.specs.Print.{print}
+use Rattle.latex2mathml_nodes.specs.Tree.{Tree}
+use Rattle.latex2mathml_parts.specs.Parts.{top, trees}
+use Rattle.latex2mathml_tokens.specs.Lexemes.{lexeme_tok}
+use Rattle.latex2mathml_tokens.specs.Refusal.{refusal_of}
+use Rattle.latex2mathml_tokens.specs.Tok.{Tok}
+use Rattle.latex2mathml_tokens.specs.declared.lexeme.Lexeme.{Lexeme}
+use Rattle.latex2mathml_tokens.specs.declared.lexeme.Lexeme.TheVariants as lexeme
+use Rattle.latex2mathml_formulas.specs.declared.parse.Parser.{Parser}
+use Rattle.latex2mathml_formulas.specs.declared.parse.State.{State}
+use Rattle.latex2mathml_formulas.specs.declared.parse.State.TheVariants as state
+use Rattle.latex2mathml_formulas.specs.declared.parse.frames.Due.{Due}
+use Rattle.latex2mathml_formulas.specs.declared.parse.frames.Due.TheVariants as due
+use Rattle.latex2mathml_formulas.specs.declared.parse.frames.Frame.{Frame}
+use Rattle.latex2mathml_formulas.specs.declared.parse.frames.Frame.TheVariants as frame
+
+-- the level that the parser is at, without the last n trees
+abbrev pub level : ℕ → List Tok → Parser → Level
+level n input p = inside input p.frames.stack.items (drop n (trees p.parts))
+
+-- the last tree is read, down to the tokens that are left
+abbrev pub last_read : Parser → Outcome Tree
+last_read p = Read (top (trees p.parts)) p.reader.list
+
+-- whatever the rest of a core's rule comes to, it leads on; without the last n trees
+abbrev pub GoesOnBy : Rule → ℕ → List Tok → Parser → Type 0
+GoesOnBy r n input p = RuleLeads r (Made core (level n input p)) p.reader.list
+
+-- the node of the formula is read: it is the last tree
+abbrev pub Ends : List Tok → Parser → Type 0
+Ends input p = (p.frames.stack.items ≡ []) × Reads node input (last_read p)
+
+-- what holds between two steps, where these tokens were left before the node of the formula
+abbrev pub Holds : List Tok → Parser → State → Type 0
+Holds input p state.Next = Leads (level 0 input p) p.reader.list
+Holds input p state.Core = Made core (level 1 input p) (last_read p)
+Holds input p state.Part = Takes (level 1 input p) (last_read p)
+Holds input p state.End = Ends input p
+Holds input p state.Refused = IfSome (refusal_of p.refusal) (λ r. Reads node input (Refused r))
+
+-- there are trees for all frames, and n more
+abbrev pub HasTrees : ℕ → Parser → Type 0
+HasTrees n p = sum_by held p.frames.stack.items + n ≤ length (trees p.parts)
+
+-- how many trees a state speaks of
+abbrev pub spoken_of : State → ℕ
+spoken_of state.Next = 0
+spoken_of state.Core = 1
+spoken_of state.Part = 1
+spoken_of state.End = 1
+spoken_of state.Refused = 0
+
+-- how much a frame still brings, apart from the part that it waits for
+abbrev pub weight : Frame → ℕ
+weight (frame.Members g n) = 1
+weight (frame.First k) = 5
+weight f = 2
+
+-- what the tokens that are left and the frames still bring
+abbrev pub to_do : Parser → ℕ
+to_do p = 16 * length p.reader.list + sum_by weight p.frames.stack.items
+
+abbrev pub state_weight : State → Due → ℕ
+state_weight state.Next (due.Member end) = 2
+state_weight state.Next d = 5
+state_weight state.Core d = 4
+state_weight state.Part d = 3
+state_weight state.End d = 0
+state_weight state.Refused d = 0
+
+-- how much is left to do: it falls with every step
+abbrev pub work : Parser → State → ℕ
+work p s = to_do p + state_weight s (innermost p.frames.stack.items)
+
+-- The counts went on, whatever the answer is. For the tokens that were taken, and n more, at most one frame each was opened.
+pub record Counted (n : ℕ) (old new : Parser) : Type 0 where
+  pub counts : GoesOn old.reader new.reader
+  pub frames : OpensFor old.reader new.reader (old.frames.greatest + n) new.frames.greatest
+
+-- The state comes next: there are trees for it, and less than the bound is left to do.
+pub record Follows (bound : ℕ) (p : Parser) (s : State) : Type 0 where
+  pub trees : HasTrees (spoken_of s) p
+  pub falls : work p s < bound
+
+-- The frame of a stretched operator was opened, and this lexeme was taken behind `\middle`. A frame may be opened for it, if
+-- it is not the end.
+pub record IsStretched (old new : Parser) (got : Lexeme) : Type 0 where
+  pub trees : HasTrees 0 new
+  pub more : (got ≡ lexeme.EOF → ⊥) → (to_do new + 14 ≤ to_do old) × (length new.reader.list < length old.reader.list)
+      × OpensFor old.reader new.reader (old.frames.greatest + 1) (new.frames.greatest + opens (lexeme_tok got))
+  pub falls : to_do new ≤ to_do old + 2
+
+-- No rule is begun any more: a node of these tokens was read, down to those that are left, and its print stands behind what
+-- was there.
+abbrev pub IsAppended : List Tok → Parser → List ℕ → List ℕ → Type 0
+IsAppended input p old new =
+    (p.frames.stack.items ≡ []) × ((x : Tree) × Reads node input (Read x p.reader.list) × (new ≡ old ++ print x))

@@ -1,0 +1,188 @@
+//! What goes on behind a part, and behind the end of a group.
+
+ghost use Rattle.std.specs.Prelude.{◌≡◌, ◌∷◌, ◌+◌, ◌<◌, IfOk, List, drop, reverse, take, vec_len};
+ghost use Rattle.latex2mathml_formulas.specs.Frames.{after_first, held, innermost, script, unfit, within};
+ghost use Rattle.latex2mathml_formulas.specs.Grammar.{Read, closing, core as a_core, ending, stretching, under_slash};
+ghost use Rattle.latex2mathml_formulas.specs.Levels.{Leads, Made, Takes, end_token};
+ghost use Rattle.latex2mathml_formulas.specs.Steps.{Counted, Follows, GoesOnBy, HasTrees, Holds, last_read, level, to_do, weight};
+ghost use Rattle.latex2mathml_nodes.specs.Productions.{stretched_of};
+ghost use Rattle.latex2mathml_nodes.specs.Tree.{Tree};
+ghost use Rattle.latex2mathml_parts.specs.Parts.{arity, fence_text, put, top, trees, words_of};
+ghost use Rattle.latex2mathml_tokens.specs.Lexemes.{lexeme_tok};
+ghost use Rattle.latex2mathml_tokens.specs.Tok.{Tok};
+ghost use Rattle.latex2mathml_formulas.specs.declared.parse.frames.Due.{Due};
+ghost use Rattle.latex2mathml_formulas.specs.declared.parse.frames.GroupEnd.{GroupEnd};
+
+use crate::parse::begin::fence_of;
+use crate::parse::frames::{Frame, Group, Pair};
+use crate::parse::{Parser, State};
+use crate::reader::mark::Sign;
+use latex2mathml_parts::kind::Kind;
+use latex2mathml_tokens::LatexError;
+use latex2mathml_tokens::lexeme::Lexeme;
+use latex2mathml_tokens::names::Paren;
+use latex2mathml_tokens::token::Token;
+use std::alloc::AllocError;
+
+impl<'a> Parser<'a> {
+    /// Gives the innermost frame the part that it waits for. Without frames the part is a node of the formula.
+    pub(crate) fn after_part(&mut self) -> Result<State, AllocError>
+        requires { HasTrees 1 self.old }
+        ensures holds { (input : List Tok) → Takes (level 1 input self.old) (last_read self.old) → IfOk result (Holds input self.new) }
+        ensures counted { Counted 0 self.old self.new }
+        ensures follows { IfOk result (Follows (to_do self.old + 3) self.new) }
+    {
+        let Some(frame) = self.frames.pop() else {
+            return Ok(State::End);
+        };
+        self.deliver(frame)
+    }
+
+    /// Gives a frame, which was taken off, the part that it waits for.
+    fn deliver(&mut self, frame: Frame<'a>) -> Result<State, AllocError>
+        requires fit { unfit frame ≡ 0 }
+        requires trees { HasTrees (held frame + 1) self.old }
+        requires room { vec_len self.old.frames.stack < self.old.frames.greatest }
+        ensures holds { (input : List Tok) → Takes (within input self.old.frames.stack.items frame.entry (drop 1 (trees self.old.parts))) (last_read self.old) → IfOk result (Holds input self.new) }
+        ensures counted { Counted 0 self.old self.new }
+        ensures follows { IfOk result (Follows (to_do self.old + weight frame.entry + 3) self.new) }
+    {
+        match frame {
+            Frame::Members(group, count) => {
+                // All members are among the parts, so their number has room in a `usize`.
+                let _ = self.parts.len();
+                self.put_back(Frame::Members(group, count + 1))
+            }
+            Frame::Operand(kind) | Frame::Last(kind) => self.combine(kind),
+            Frame::First(kind) => self.put_back(Frame::Operand(kind)),
+            Frame::Style(variant) => {
+                self.parts.give_style(variant);
+                Ok(State::Core)
+            }
+            Frame::Single(pair) => self.after_first(pair),
+            Frame::Slashed => self.slashed(),
+            Frame::Stretch(got) => self.stretched(got),
+            Frame::Script(sign) => {
+                self.parts.put(script(sign))?;
+                Ok(State::Part)
+            }
+        }
+    }
+
+    /// Puts a part behind its operands.
+    fn combine(&mut self, kind: Kind<'a>) -> Result<State, AllocError>
+        requires { HasTrees (arity kind) self.old }
+        ensures holds { (input : List Tok) → Made a_core (level (arity kind.entry) input self.old) (Read (top (put kind.entry (trees self.old.parts))) self.old.reader.list) → IfOk result (Holds input self.new) }
+        ensures counted { Counted 0 self.old self.new }
+        ensures follows { IfOk result (Follows (to_do self.old + 5) self.new) }
+    {
+        self.parts.put(kind)?;
+        Ok(State::Core)
+    }
+
+    /// Goes on after the single of a rule that takes a second one if its sign stands next.
+    fn after_first(&mut self, pair: Pair) -> Result<State, AllocError>
+        requires trees { HasTrees 1 self.old }
+        requires room { vec_len self.old.frames.stack < self.old.frames.greatest }
+        ensures holds { (input : List Tok) → GoesOnBy (after_first pair (drop 1 (trees self.old.parts)) (top (trees self.old.parts))) 1 input self.old → IfOk result (Holds input self.new) }
+        ensures counted { Counted 0 self.old self.new }
+        ensures follows { IfOk result (Follows (to_do self.old + 5) self.new) }
+    {
+        if self.reader.take_if(pair.sign()) {
+            return self.put_back(Frame::Last(pair.two()));
+        }
+        self.combine(pair.one())
+    }
+
+    /// Strikes the last tree through. The lexeme behind it is skipped.
+    fn slashed(&mut self) -> Result<State, AllocError>
+        requires { HasTrees 1 self.old }
+        ensures holds { (input : List Tok) → GoesOnBy (under_slash (top (trees self.old.parts))) 1 input self.old → IfOk result (Holds input self.new) }
+        ensures counted { Counted 0 self.old self.new }
+        ensures follows { IfOk result (Follows (to_do self.old + 5) self.new) }
+    {
+        self.reader.skip();
+        self.parts.slash()?;
+        Ok(State::Core)
+    }
+
+    /// Stretches the operator that is the last tree, or refuses the lexeme that stood behind `\middle`.
+    fn stretched(&mut self, got: Lexeme<'a>) -> Result<State, AllocError>
+        requires { HasTrees 1 self.old }
+        ensures holds { (input : List Tok) → GoesOnBy (stretching (lexeme_tok got.entry) (stretched_of (top (trees self.old.parts)))) 1 input self.old → IfOk result (Holds input self.new) }
+        ensures counted { Counted 0 self.old self.new }
+        ensures follows { IfOk result (Follows (to_do self.old + 5) self.new) }
+    {
+        if self.parts.stretch() {
+            return Ok(State::Core);
+        }
+        self.refuse_fence(Token::Middle, got)
+    }
+
+    /// Ends the innermost group, whose end was taken.
+    pub(crate) fn close(&mut self) -> Result<State, AllocError>
+        requires due { (end : GroupEnd) × (innermost self.old.frames.stack.items ≡ Due.Member end) }
+        requires trees { HasTrees 0 self.old }
+        ensures holds { (input : List Tok) (end : GroupEnd) → innermost self.old.frames.stack.items ≡ Due.Member end
+            → Leads (level 0 input self.old) (end_token end ∷ self.old.reader.list) → IfOk result (Holds input self.new) }
+        ensures counted { Counted 0 self.old self.new }
+        ensures follows { IfOk result (Follows (to_do self.old + 16) self.new) }
+    {
+        let Some(Frame::Members(group, count)) = self.frames.pop() else {
+            unreachable!()
+        };
+        match group {
+            Group::Brace => {
+                self.parts.group(count)?;
+                Ok(State::Core)
+            }
+            Group::Degree => {
+                self.parts.group(count)?;
+                self.put_back(Frame::Operand(Kind::Root))
+            }
+            Group::Fence(opening) => self.close_fence(opening, count),
+            Group::Environment => self.end_environment(count),
+        }
+    }
+
+    /// Ends a fence whose members were read.
+    fn close_fence(&mut self, opening: Option<Paren>, count: usize) -> Result<State, AllocError>
+        requires { HasTrees count self.old }
+        ensures holds { (input : List Tok) → GoesOnBy (closing (fence_text opening) (reverse (take count (trees self.old.parts)))) count input self.old → IfOk result (Holds input self.new) }
+        ensures counted { Counted 0 self.old self.new }
+        ensures follows { IfOk result (Follows (to_do self.old + 5) self.new) }
+    {
+        let got = self.reader.take();
+        let Some(closing) = fence_of(got) else {
+            return self.refuse_fence(Token::Right, got);
+        };
+        self.parts.group(count)?;
+        self.combine(Kind::Fenced(opening, closing))
+    }
+
+    /// Ends an environment whose members were read.
+    fn end_environment(&mut self, count: usize) -> Result<State, AllocError>
+        requires { HasTrees (count + 1) self.old }
+        ensures holds { (input : List Tok) → GoesOnBy (ending (words_of (top (drop count (trees self.old.parts)))) (reverse (take count (trees self.old.parts)))) (count + 1) input self.old → IfOk result (Holds input self.new) }
+        ensures counted { Counted 0 self.old self.new }
+        ensures follows { IfOk result (Follows (to_do self.old + 5) self.new) }
+    {
+        self.reader.skip_name();
+        if self.parts.environment(count)? {
+            return Ok(State::Core);
+        }
+        let name = String::from_str(self.alloc, self.parts.name(count))?;
+        Ok(self.refuse(LatexError::UnknownEnvironment(name)))
+    }
+}
+
+/// The part that a script of this sign makes.
+fn script(sign: Sign) -> Kind<'static>
+    ensures arity { arity result ≡ 2 }
+    ensures trees { (ts : List Tree) → put result ts ≡ script sign (top (drop 1 ts)) (top ts) ∷ drop 2 ts }
+{
+    match sign {
+        Sign::Sub => Kind::Sub,
+        Sign::Sup => Kind::Sup,
+    }
+}

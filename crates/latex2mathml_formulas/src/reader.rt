@@ -1,0 +1,208 @@
+//! The lexemes of a text, taken one at a time. White space in front of a lexeme is skipped where the lexeme is taken or
+//! looked for.
+ghost use Rattle.std.specs.Prelude.{◌≡◌, ◌≢◌, ◌≤◌, ◌∷◌, ℕ, [], false, List, IfOk, MatchBool, Some, codes, length, string_bytes};
+ghost use Rattle.std.specs.Str.{chars};
+ghost use Rattle.latex2mathml_formulas.specs.Counts.{backslashes};
+ghost use Rattle.latex2mathml_formulas.specs.Cutting.{slices_of};
+ghost use Rattle.latex2mathml_formulas.specs.Grammar.{first, first_or_end};
+ghost use Rattle.latex2mathml_formulas.specs.Marks.{IsSeen, MarkStands, NameStands, rest_of, sign_token};
+ghost use Rattle.latex2mathml_formulas.specs.Openers.{OpensFor};
+ghost use Rattle.latex2mathml_formulas.specs.Unread.{GoesOn, token_list};
+ghost use Rattle.latex2mathml_tokens.specs.Lexemes.{lexeme_tok};
+ghost use Rattle.latex2mathml_tokens.specs.Tok.{EOF, Paren};
+
+pub(crate) mod characters;
+pub(crate) mod mark;
+mod slices;
+
+use crate::reader::mark::{Mark, Sign};
+use crate::reader::slices::{command, find_start, slice_at, takes_digit};
+use latex2mathml_tokens::lexeme::Lexeme;
+use std::alloc::{AllocError, Global};
+use std::marker::Model;
+
+/// The rest of a text. Contracts see the list of the tokens that are left, and the counts that go with it.
+#[derive(Drop)]
+pub(crate) struct Reader<'a> {
+    rest: &'a str,
+    /// Whether a digit that directly follows is a number of its own.
+    takes_digit: bool,
+    tokens: u64,
+    comparisons: u128,
+}
+
+impl<'a> Model for Reader<'a> {
+    ghost use Rattle.std.specs.Prelude.{◌+◌, ◌*◌, ◌<◌, ◌^◌, length};
+    ghost use Rattle.std.specs.Str.{chars, IsUtf8};
+    ghost use Rattle.latex2mathml_formulas.specs.Cutting.{slices_of};
+    ghost use Rattle.latex2mathml_formulas.specs.Unread.{Left, left_in};
+
+    ghost Value = { Left };
+
+    ghost view = { λ r. left_in (slices_of r.takes_digit (chars r.rest.now)) r.tokens r.comparisons };
+
+    ghost invariant = { λ r. IsUtf8 r.rest.now
+        × (r.tokens + length (chars r.rest.now) < 2 ^ 64)
+        × (r.comparisons + 9 * length (chars r.rest.now) < 2 ^ 68) };
+}
+
+impl<'a> Reader<'a> {
+    /// All of a text.
+    pub(crate) fn new(text: &'a str) -> Reader<'a>
+        ensures list { result.list ≡ token_list (slices_of false (chars text.now)) }
+        ensures tokens { result.tokens ≡ 0 }
+        ensures backslashes { result.backslashes ≡ backslashes (slices_of false (chars text.now)) }
+        ensures comparisons { result.comparisons ≡ 0 }
+    {
+        Reader {
+            rest: text,
+            takes_digit: false,
+            tokens: 0,
+            comparisons: 0,
+        }
+    }
+
+    /// Takes the next lexeme and counts it, or returns `EOF` if none is left. No other function takes or counts one.
+    pub(crate) fn take(&mut self) -> Lexeme<'a>
+        ensures token { lexeme_tok result ≡ first_or_end self.old.list }
+        ensures list { self.new.list ≡ rest_of self.old.list }
+        ensures ended { lexeme_tok result ≡ EOF → self.old.list ≡ [] }
+        ensures counts { GoesOn self.old self.new }
+    {
+        let start = find_start(self.rest, self.takes_digit);
+        let Some((c, after)) = start.first else {
+            return Lexeme::EOF;
+        };
+        self.tokens += 1;
+        if c == '\\' {
+            let (lexeme, rest, compared) = command(after);
+            self.rest = rest;
+            self.takes_digit = takes_digit(lexeme);
+            self.comparisons += u128::from(compared);
+            return lexeme;
+        }
+        let (lexeme, rest) = slice_at(start.text, c, after, start.alone);
+        self.rest = rest;
+        self.takes_digit = false;
+        lexeme
+    }
+
+    /// Skips the next token, if one is left.
+    pub(crate) fn skip(&mut self)
+        ensures list { self.new.list ≡ rest_of self.old.list }
+        ensures counts { GoesOn self.old self.new }
+    {
+        let _ = self.take();
+    }
+
+    /// Returns the mark that stands next, if one does, without taking it.
+    pub(crate) fn mark(&mut self) -> Option<Mark>
+        ensures mark { MarkStands result (first self.old.list) }
+        ensures list { self.new.list ≡ self.old.list }
+        ensures counts { GoesOn self.old self.new }
+    {
+        match self.first_char()? {
+            '\'' => Some(Mark::Prime),
+            '_' => Some(Mark::Script(Sign::Sub)),
+            '^' => Some(Mark::Script(Sign::Sup)),
+            _ => None,
+        }
+    }
+
+    /// Takes the next token if it is this sign, and returns whether it was.
+    pub(crate) fn take_if(&mut self, sign: Sign) -> bool
+        ensures list { MatchBool result
+            (self.old.list ≡ sign_token sign ∷ self.new.list)
+            ((first self.old.list ≢ Some (sign_token sign)) × (self.new.list ≡ self.old.list)) }
+        ensures counts { GoesOn self.old self.new }
+    {
+        let stands = match self.first_char() {
+            Some('_') => matches!(sign, Sign::Sub),
+            Some('^') => matches!(sign, Sign::Sup),
+            _ => false,
+        };
+        if stands {
+            self.skip();
+        }
+        stands
+    }
+
+    /// Takes the next token if it is `[`, and returns whether it was.
+    pub(crate) fn take_bracket(&mut self) -> bool
+        ensures list { MatchBool result
+            (self.old.list ≡ Paren (codes "[") ∷ self.new.list)
+            ((first self.old.list ≢ Some (Paren (codes "["))) × (self.new.list ≡ self.old.list)) }
+        ensures counts { GoesOn self.old self.new }
+    {
+        let stands = matches!(self.first_char(), Some('['));
+        if stands {
+            self.skip();
+        }
+        stands
+    }
+
+    /// Takes a name: any token, letters, and any token.
+    pub(crate) fn name(&mut self, alloc: Global) -> Result<String, AllocError>
+        ensures name { IfOk result (λ name. NameStands (string_bytes name) self.old.list self.new.list) }
+        ensures shorter { length self.new.list ≤ length self.old.list }
+        ensures counts { GoesOn self.old self.new }
+        ensures fewer { OpensFor self.old self.new 0 0 }
+    {
+        self.skip();
+        let mut name = String::new(alloc);
+        while let Lexeme::Letter(c, _) = self.take() {
+            name.push(c)?;
+        }
+        Ok(name)
+    }
+
+    /// Skips a name.
+    pub(crate) fn skip_name(&mut self)
+        ensures name { (bytes : List ℕ) × NameStands bytes self.old.list self.new.list }
+        ensures shorter { length self.new.list ≤ length self.old.list }
+        ensures counts { GoesOn self.old self.new }
+        ensures fewer { OpensFor self.old self.new 0 0 }
+    {
+        self.skip();
+        while let Lexeme::Letter(_, _) = self.take() {}
+    }
+
+    /// Whether no token is left.
+    pub(crate) fn is_at_end(&mut self) -> bool
+        ensures list { self.new.list ≡ self.old.list }
+        ensures end { MatchBool result (self.new.list ≡ []) (self.new.list ≢ []) }
+        ensures counts { GoesOn self.old self.new }
+    {
+        self.first_char().is_none()
+    }
+
+    /// Returns the number of tokens that were taken.
+    pub(crate) fn tokens(&self) -> u128
+        ensures { result ≡ self.now.tokens }
+    {
+        u128::from(self.tokens)
+    }
+
+    /// Returns the number of names that were compared.
+    pub(crate) fn comparisons(&self) -> u128
+        ensures fewer { self.now.backslashes ≤ length self.now.list }
+        ensures same { result ≡ self.now.comparisons }
+        ensures at_end { self.now.list ≡ [] → self.now.backslashes ≡ 0 }
+    {
+        self.comparisons
+    }
+
+    /// Returns the first character of the next lexeme, if one is left, and skips the white space before it.
+    fn first_char(&mut self) -> Option<char>
+        ensures sight { IsSeen result self.old.list }
+        ensures same { self.new ≡ self.old }
+    {
+        let start = find_start(self.rest, self.takes_digit);
+        self.rest = start.text;
+        self.takes_digit = start.alone;
+        let Some((c, _)) = start.first else {
+            return None;
+        };
+        Some(c)
+    }
+}

@@ -1,0 +1,95 @@
+//! A text, character by character and run by run.
+ghost use Rattle.std.specs.Prelude.{◌≡◌, ◌∷◌, ◌==◌, ◌++◌, ℕ, [], List, IfSome, MatchOption};
+ghost use Rattle.std.specs.Str.{chars, encode_utf8_all, IsUtf8};
+ghost use Rattle.latex2mathml_formulas.specs.Characters;
+ghost use Rattle.latex2mathml_formulas.specs.Characters.{Stops, head};
+ghost use Rattle.latex2mathml_formulas.specs.Lexing.{in_class, IsLongestRun};
+
+/// The characters that make runs.
+#[derive(Debug, Clone, Copy)]
+pub(crate) enum Class {
+    /// The white space between tokens.
+    Space,
+    /// The ASCII digits.
+    Digit,
+    /// The ASCII letters.
+    Letter,
+}
+
+impl Class {
+    fn contains(self, c: char) -> bool
+        ensures { result ≡ in_class self c }
+    {
+        match self {
+            Class::Space => is_space(c),
+            Class::Digit => c.is_ascii_digit(),
+            Class::Letter => c.is_ascii_alphabetic(),
+        }
+    }
+}
+
+/// Whether the character is white space between tokens.
+pub(crate) fn is_space(c: char) -> bool
+    ensures { result ≡ Characters.is_space c }
+{
+    c == ' ' || c == '\t' || c == '\n' || c == '\r'
+}
+
+/// The first character and what follows it.
+#[tactic(auto, using(std::proofs::lemmas::Str::chars_past_char))]
+pub(crate) fn first_char(text: &str) -> Option<(char, &str)>
+    ensures first { MatchOption result (chars text.now ≡ [])
+        (λ found. chars text.now ≡ found.0 ∷ chars found.1.now) }
+    ensures utf8 { IfSome result (λ found. IsUtf8 found.1.now) }
+{
+    let mut characters = text.chars();
+    let first = characters.next()?;
+    Some((first, characters.as_str()))
+}
+
+/// What follows this character, if the text begins with it.
+pub(crate) fn after_char(text: &str, c: char) -> Option<&str>
+    ensures first { MatchOption result (Stops (λ x. x == c) (head (chars text.now)))
+        (λ rest. chars text.now ≡ c ∷ chars rest.now) }
+    ensures utf8 { IfSome result (λ rest. IsUtf8 rest.now) }
+{
+    let (first, rest) = first_char(text)?;
+    if first == c { Some(rest) } else { None }
+}
+
+/// The longest run of characters of a class at the start of the text, and what follows it.
+pub(crate) fn split_run(class: Class, text: &str) -> (&str, &str)
+    ensures run { IsLongestRun (in_class class)
+        (chars text.now) (chars result.0.now) (chars result.1.now) }
+    ensures utf8 { IsUtf8 result.0.now × IsUtf8 result.1.now }
+{
+    match text.find(|c: char| !class.contains(c)) {
+        Some(at) => text.split_at(at),
+        None => (text, ""),
+    }
+}
+
+/// What stands behind the white space at the start of the text.
+pub(crate) fn skip_space(text: &str) -> &str
+    ensures run { (space : List ℕ) ×
+        IsLongestRun Characters.is_space (chars text.now) space (chars result.now) }
+    ensures utf8 { IsUtf8 result.now }
+{
+    let mut rest = text;
+    while let Some((c, after)) = first_char(rest) {
+        if !is_space(c) {
+            return rest;
+        }
+        rest = after;
+    }
+    rest
+}
+
+/// What stands in the text before its end `rest`.
+pub(crate) fn before<'a>(text: &'a str, rest: &str) -> &'a str
+    requires { (front : List ℕ) × (chars text.now ≡ front ++ chars rest.now) }
+    ensures { (front : List ℕ) → chars text.now ≡ front ++ chars rest.now
+        → result.now ≡ encode_utf8_all front }
+{
+    text.split_at(text.len() - rest.len()).0
+}

@@ -1,0 +1,187 @@
+//! The slice at the start of a text, and the lexeme that it is.
+ghost use Rattle.std.specs.Prelude.{◌≡◌, ◌≢◌, ◌≤◌, ◌∷◌, [], Bool, false, Some, MatchOption, if◌then◌else◌};
+ghost use Rattle.std.specs.Char.{is_ascii_alphabetic, is_ascii_digit};
+ghost use Rattle.std.specs.Str.{byte, chars, IsUtf8};
+ghost use Rattle.latex2mathml_formulas.specs.Characters.{Begins, is_space};
+ghost use Rattle.latex2mathml_formulas.specs.Lexing.{BeginsWith, IsStart};
+ghost use Rattle.latex2mathml_formulas.specs.Spelling;
+ghost use Rattle.latex2mathml_formulas.specs.Spelling.{begins_longer, character_token};
+ghost use Rattle.latex2mathml_tokens.specs.Commands.{command_token};
+ghost use Rattle.latex2mathml_tokens.specs.Lexemes.{lexeme_tok};
+ghost use Rattle.latex2mathml_tokens.specs.declared.attribute.Variant.TheVariants.{Italic, Normal};
+
+use crate::reader::characters::{
+    Class, after_char, before, first_char, is_space, skip_space, split_run,
+};
+use latex2mathml_tokens::attribute::Variant;
+use latex2mathml_tokens::lexeme::Lexeme;
+use latex2mathml_tokens::names::Paren;
+
+/// Where the next slice of a text begins.
+#[derive(Clone, Copy)]
+pub(crate) struct Start<'a> {
+    /// The text from there.
+    pub(crate) text: &'a str,
+    /// Whether a digit there is a number of its own.
+    pub(crate) alone: bool,
+    /// The slice's first character and what follows it, or `None` where only white space is left.
+    pub(crate) first: Option<(char, &'a str)>,
+}
+
+/// Finds where the next slice of the text begins, behind white space. `takes` says that a digit that follows directly is
+/// a number of its own.
+pub(crate) fn find_start<'a>(text: &'a str, takes: bool) -> Start<'a>
+    ensures start { IsStart takes (chars text.now) (chars result.text.now) result.alone }
+    ensures first { MatchOption result.first (chars result.text.now ≡ [])
+        (λ found. chars result.text.now ≡ found.0 ∷ chars found.1.now) }
+    ensures utf8 { IsUtf8 result.text.now }
+{
+    let first = first_char(text);
+    if let Some((c, after)) = first {
+        if is_space(c) {
+            let behind = skip_space(after);
+            return Start {
+                text: behind,
+                alone: false,
+                first: first_char(behind),
+            };
+        }
+    }
+    Start {
+        text,
+        alone: takes,
+        first,
+    }
+}
+
+/// Whether a digit that directly follows the lexeme is a number of its own.
+pub(crate) fn takes_digit(lexeme: Lexeme<'_>) -> bool
+    ensures { result ≡ Spelling.takes_digit (Some (lexeme_tok lexeme.entry)) }
+{
+    match lexeme {
+        Lexeme::Sqrt | Lexeme::Frac | Lexeme::Binom(_) | Lexeme::Style(_) => true,
+        _ => false,
+    }
+}
+
+/// Returns the lexeme at the start of the text and what follows it, where the text is `c` and then `after`, and `c` is no
+/// backslash. `alone` says that a digit is a number of its own.
+pub(crate) fn slice_at<'a>(
+    text: &'a str,
+    c: char,
+    after: &'a str,
+    alone: bool,
+) -> (Lexeme<'a>, &'a str)
+    requires starts { chars text.now ≡ c ∷ chars after.now }
+    requires no_space { is_space c ≡ false }
+    requires no_backslash { c ≢ byte "\\" }
+    ensures lexeme { BeginsWith alone (chars text.now) (lexeme_tok result.0) (chars result.1.now) }
+    ensures no_digit { Spelling.takes_digit (Some (lexeme_tok result.0)) ≡ false }
+    ensures utf8 { IsUtf8 result.1.now }
+{
+    if c.is_ascii_digit() {
+        if alone {
+            return (Lexeme::Number(before(text, after)), after);
+        }
+        return number(text);
+    }
+    if c == ':' {
+        return colon(after);
+    }
+    (character(c), after)
+}
+
+/// The lexeme of a colon and what follows it. The text begins behind the colon.
+fn colon<'a>(text: &'a str) -> (Lexeme<'a>, &'a str)
+    ensures lexeme { (alone : Bool) →
+        BeginsWith alone (byte ":" ∷ chars text.now) (lexeme_tok result.0) (chars result.1.now) }
+    ensures no_digit { Spelling.takes_digit (Some (lexeme_tok result.0)) ≡ false }
+    ensures utf8 { IsUtf8 result.1.now }
+{
+    match after_char(text, '=') {
+        Some(rest) => (Lexeme::Paren(Paren::Assign), rest),
+        None => (Lexeme::Operator(':'), text),
+    }
+}
+
+/// The lexeme of a character that stands for itself.
+fn character(c: char) -> Lexeme<'static>
+    requires { begins_longer c ≡ false }
+    ensures lexeme { lexeme_tok result ≡ character_token c }
+    ensures no_digit { Spelling.takes_digit (Some (lexeme_tok result)) ≡ false }
+{
+    match c {
+        '=' | '<' | '>' | '+' | '-' | '*' | '/' => Lexeme::Operator(c),
+        ';' | ',' | '.' | '!' | '\'' => Lexeme::Operator(c),
+        '(' => Lexeme::Paren(Paren::LeftRound),
+        ')' => Lexeme::Paren(Paren::RightRound),
+        '[' => Lexeme::Paren(Paren::LeftSquare),
+        ']' => Lexeme::Paren(Paren::RightSquare),
+        '|' => Lexeme::Paren(Paren::Bar),
+        '{' => Lexeme::LBrace,
+        '}' => Lexeme::RBrace,
+        '_' => Lexeme::Underscore,
+        '^' => Lexeme::Circumflex,
+        '&' => Lexeme::Ampersand,
+        '\u{0}' => Lexeme::Illegal('\u{0}'),
+        c => Lexeme::Letter(c, variant_of(c)),
+    }
+}
+
+/// The style in which a letter stands: ASCII letters are italic.
+fn variant_of(c: char) -> Variant
+    ensures { result ≡ (if is_ascii_alphabetic c then Italic else Normal) }
+{
+    if c.is_ascii_alphabetic() {
+        Variant::Italic
+    } else {
+        Variant::Normal
+    }
+}
+
+/// The number at the start of the text, and what follows it.
+fn number<'a>(text: &'a str) -> (Lexeme<'a>, &'a str)
+    requires { Begins is_ascii_digit (chars text.now) }
+    ensures lexeme { BeginsWith false (chars text.now) (lexeme_tok result.0) (chars result.1.now) }
+    ensures no_digit { Spelling.takes_digit (Some (lexeme_tok result.0)) ≡ false }
+    ensures utf8 { IsUtf8 result.1.now }
+{
+    let (whole, behind) = split_run(Class::Digit, text);
+    match after_char(behind, '.') {
+        Some(after) => {
+            let (_, rest) = split_run(Class::Digit, after);
+            (Lexeme::Number(before(text, rest)), rest)
+        }
+        None => (Lexeme::Number(whole), behind),
+    }
+}
+
+/// Returns the lexeme of the command, what follows it, and how many names were compared. The text begins behind the
+/// backslash.
+pub(crate) fn command<'a>(text: &'a str) -> (Lexeme<'a>, &'a str, u64)
+    ensures lexeme { (alone : Bool) →
+        BeginsWith alone (byte "\\" ∷ chars text.now) (lexeme_tok result.0) (chars result.1.now) }
+    ensures at_least { 1 ≤ result.2 }
+    ensures at_most { result.2 ≤ 9 }
+    ensures utf8 { IsUtf8 result.1.now }
+{
+    let (name, rest) = split_name(text);
+    let (lexeme, compared) = Lexeme::of_command(name);
+    (lexeme, rest, compared)
+}
+
+/// The name of the command and what follows it. The text begins behind the backslash.
+fn split_name<'a>(text: &'a str) -> (&'a str, &'a str)
+    ensures name { (alone : Bool) →
+        BeginsWith alone (byte "\\" ∷ chars text.now) (command_token result.0.now) (chars result.1.now) }
+    ensures utf8 { IsUtf8 result.1.now }
+{
+    let (letters, rest) = split_run(Class::Letter, text);
+    if !letters.is_empty() {
+        return (letters, rest);
+    }
+    match first_char(text) {
+        Some((_, after)) => (before(text, after), after),
+        None => ("", text),
+    }
+}

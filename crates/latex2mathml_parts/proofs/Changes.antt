@@ -1,0 +1,74 @@
+-- What the last trees become when they are put together or changed.
+use Rattle.std.proofs.Common.{◌≡◌, ◌≢◌, ℕ, ◌-◌, ◌<◌, ◌≤◌, List, [], ◌∷◌, Option, None, length, length-drop, take, drop, reverse, suc, zero, refl, sym, ap, ◌∙◌, arith, ◌⊎◌, inl, inr}
+use Rattle.std.proofs.lemmas.List.{length-reverse, length-take-le}
+use Rattle.std.proofs.Math.Nat.{eq-or-lt_of_le}
+use Rattle.latex2mathml_nodes.specs.Productions.{grouped, matrix_of, spread}
+use Rattle.latex2mathml_nodes.specs.Tree.{Tree, matrix, row, no_trees, more_trees, trees_of}
+use Rattle.latex2mathml_tokens.specs.declared.attribute.ColumnAlign.{ColumnAlign}
+use Rattle.latex2mathml_tokens.specs.declared.attribute.Variant.{Variant}
+use Rattle.latex2mathml_parts.specs.Forms.{Stands, all_in, forest, put_form}
+use Rattle.latex2mathml_parts.specs.Parts.{top}
+use Rattle.latex2mathml_parts.specs.declared.form.Form.TheVariants as form
+use Rattle.latex2mathml_parts.specs.declared.form.Part.{Part}
+use Rattle.latex2mathml_parts.proofs.Styles.{all_plain, plain}
+
+pub drop_one_more : (n : ℕ) (ts : List Tree) → drop 1 (drop n ts) ≡ drop (suc n) ts
+drop_one_more zero ts = refl
+drop_one_more (suc n) [] = refl
+drop_one_more (suc n) (t ∷ ts) = drop_one_more n ts
+
+grouped_row : (xs : List Tree) → length xs ≢ 1 → grouped xs ≡ row (trees_of xs)
+grouped_row [] h = refl
+grouped_row (x ∷ []) h = absurd (h refl)
+grouped_row (x ∷ y ∷ ys) h = refl
+
+last_trees : (count : ℕ) (ts : List Tree) → count ≢ 1 → count ≤ length ts → grouped (reverse (take count ts)) ≡ row (trees_of (reverse (take count ts)))
+last_trees count ts h k = grouped_row (reverse (take count ts)) (λ g. h (sym (length-take-le count ts k) ∙ sym (length-reverse (take count ts)) ∙ g))
+
+-- a row is put behind so many members
+pub row_grouped : (texts : List (List ℕ)) (count : ℕ) (ts : List Tree) → count ≢ 1 → count ≤ length ts → put_form texts (form.Row count None) ts ≡ grouped (reverse (take count ts)) ∷ drop count ts
+row_grouped texts count ts h k = ap (λ x. x ∷ drop count ts) (plain (row (trees_of (reverse (take count ts)))) ∙ sym (last_trees count ts h k))
+
+-- a matrix is put behind so many members
+pub matrix_grouped : (texts : List (List ℕ)) (align : ColumnAlign) (count : ℕ) (ts : List Tree) → count ≢ 1 → count ≤ length ts → put_form texts (form.Matrix count None align) ts ≡ matrix_of align (grouped (reverse (take count ts))) ∷ drop (suc count) ts
+matrix_grouped texts align count ts h k =
+    ap (λ xs. matrix xs align ∷ drop (suc count) ts) (all_plain (trees_of (reverse (take count ts))))
+    ∙ ap (λ x. matrix_of align x ∷ drop (suc count) ts) (sym (last_trees count ts h k))
+
+-- a matrix is put behind one member, which is no row
+pub matrix_one : (texts : List (List ℕ)) (align : ColumnAlign) (ts : List Tree) → 0 < length ts → spread (top ts) ≡ more_trees (top ts) no_trees → put_form texts (form.Matrix 1 None align) ts ≡ matrix_of align (top ts) ∷ drop 2 ts
+matrix_one texts align [] h e = absurd (omega arith)
+matrix_one texts align (t ∷ ts) h e = ap (λ xs. matrix xs align ∷ drop 1 ts) (all_plain (more_trees t no_trees) ∙ sym e)
+
+-- the row that is the last tree gives its members to a matrix
+pub row_spread : (texts : List (List ℕ)) (align : ColumnAlign) (count : ℕ) (style : Option Variant) (ts us : List Tree) → us ≡ put_form texts (form.Row count style) ts → put_form texts (form.Matrix count style align) ts ≡ matrix_of align (top us) ∷ drop 2 us
+row_spread texts align count style ts us e =
+    ap (λ vs. matrix (all_in style (trees_of (reverse (take count ts)))) align ∷ vs) (sym (drop_one_more count ts))
+    ∙ ap (λ vs. matrix_of align (top vs) ∷ drop 2 vs) (sym e)
+
+pub stands_spread : (texts : List (List ℕ)) (ps : List Part) (align : ColumnAlign) (count : ℕ) (style : Option Variant) (start : ℕ) → 0 < length ps → 1 < length (forest texts ps) → count ≤ length (forest texts (take (length ps - 1) ps)) → forest texts ps ≡ put_form texts (form.Row count style) (forest texts (take (length ps - 1) ps)) → start ≤ length ps → forest texts (take start ps) ≡ drop 2 (forest texts ps) → forest texts (take (length ps) ps) ≡ forest texts ps → Stands texts ps (length ps - 1) (record { form = form.Matrix count style align; size = length ps - start })
+stands_spread texts ps align count style start h a k e s t w =
+    let ts = forest texts (take (length ps - 1) ps) in
+    let long : length (forest texts ps) ≡ length (put_form texts (form.Row count style) ts) = ap length e in
+    let rest = length-drop count ts in
+    let shorter : length (forest texts (take start ps)) ≡ length (drop 2 (forest texts ps)) = ap length t in
+    let two = length-drop 2 (forest texts ps) in
+    record {
+      text = tt;
+      fits = omega arith;
+      some = some start s shorter two;
+      within = omega arith;
+      below = ap (λ n. forest texts (take n ps)) (omega arith) ∙ t ∙ ap (drop 2) e ∙ drop_one_more count ts;
+    }
+  where
+    some : (start : ℕ) → start ≤ length ps → length (forest texts (take start ps)) ≡ length (drop 2 (forest texts ps)) → length (drop 2 (forest texts ps)) ≡ length (forest texts ps) - 2 → 0 < length ps - start
+    some start s shorter two = at (eq-or-lt_of_le {n = start} {m = length ps} s)
+      where
+        at : (start ≡ length ps) ⊎ (start < length ps) → 0 < length ps - start
+        at (inl f) = let g : length (forest texts (take start ps)) ≡ length (forest texts ps) = ap (λ n. length (forest texts (take n ps))) f ∙ ap length w in absurd (omega (arith, a, g, shorter, two))
+        at (inr f) = omega arith
+
+-- below so many trees stands one more
+pub some_below : (texts : List (List ℕ)) (ps : List Part) (count start : ℕ) → count < length (forest texts ps) → forest texts (take start ps) ≡ drop count (forest texts ps) → 0 < start
+some_below texts ps count zero h t = let e : length (forest texts (take zero ps)) ≡ length (drop count (forest texts ps)) = ap length t in absurd (omega (arith, h, e, length-drop count (forest texts ps)))
+some_below texts ps count (suc n) h t = omega arith

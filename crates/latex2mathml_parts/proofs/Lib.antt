@@ -1,0 +1,6 @@
+pub mod Changes
+pub mod Forests
+pub mod Markups
+pub mod Puts
+pub mod Styles
+pub mod Works

@@ -1,0 +1,112 @@
+-- The list of what is still to be written.
+use Rattle.std.proofs.Common.{◌≡◌, ℕ, ◌+◌, ◌<◌, ◌≤◌, List, [], ◌∷◌, ◌++◌, length, take, drop, suc, refl, sym, ap, ◌∙◌, arith, append_assoc, append-nil, codes, Option, None, Some, subst, reverse, sum_by, zero}
+use Rattle.std.proofs.lemmas.List.{reverse-append}
+use Rattle.std.proofs.lemmas.Grind.{flat_map-append}
+use Rattle.std.proofs.lemmas.List.Sums.{sum_by-append}
+use Rattle.std.specs.List.{flat_map}
+use Rattle.latex2mathml_nodes.specs.Print.{member_print, members_print, print, prints}
+use Rattle.latex2mathml_nodes.specs.PrintWeight.{print_weight, print_weights}
+use Rattle.latex2mathml_nodes.specs.Tree.{Tree, Trees, trees_of}
+use Rattle.latex2mathml_tokens.specs.declared.attribute.Variant.{Variant}
+use Rattle.latex2mathml_parts.specs.Forms.{all_in, in_style}
+use Rattle.latex2mathml_parts.specs.Parts.{top}
+use Rattle.latex2mathml_parts.specs.Works.{AreIn, IsIn, cells_in, due, prints_in, work_print, work_weight}
+use Rattle.latex2mathml_parts.specs.declared.form.Part.{Part}
+use Rattle.latex2mathml_parts.specs.declared.work.Work.{Work}
+use Rattle.latex2mathml_parts.proofs.Styles.{weight-in, weights-in}
+
+pub sized_opened : (a v b c rest : List ℕ) → (a ++ (v ++ (b ++ (v ++ c)))) ++ rest ≡ a ++ (v ++ (b ++ (v ++ (c ++ rest))))
+sized_opened a v b c rest =
+    append_assoc a (v ++ (b ++ (v ++ c))) rest
+    ∙ ap (λ l. a ++ l) (append_assoc v (b ++ (v ++ c)) rest ∙ ap (λ l. v ++ l) (append_assoc b (v ++ c) rest ∙ ap (λ l. b ++ l) (append_assoc v c rest)))
+
+-- A work is put on the list, or taken from it.
+
+pub are_in-push : (ps : List Part) (ws : List Work) (w : Work) → AreIn ps ws → IsIn ps w → AreIn ps (ws ++ w ∷ [])
+are_in-push ps [] w h i = (i, tt)
+are_in-push ps (v ∷ ws) w h i = (h.0, are_in-push ps ws w h.1 i)
+
+pub are_in-pop : (ps : List Part) (ws : List Work) (w : Work) → AreIn ps (ws ++ w ∷ []) → AreIn ps ws × IsIn ps w
+are_in-pop ps [] w h = (tt, h.0)
+are_in-pop ps (v ∷ ws) w h = let k = are_in-pop ps ws w h.1 in ((h.0, k.0), k.1)
+
+pub popped_in : (ps : List Part) (ws vs : List Work) (w : Work) → ws ≡ vs ++ w ∷ [] → AreIn ps ws → AreIn ps vs × IsIn ps w
+popped_in ps ws vs w e h = are_in-pop ps vs w (subst (AreIn ps) e h)
+
+pub due-push : (texts : List (List ℕ)) (ps : List Part) (ws : List Work) (w : Work) → due texts ps (ws ++ w ∷ []) ≡ work_print texts ps w ++ due texts ps ws
+due-push texts ps ws w = ap (flat_map (work_print texts ps)) (reverse-append ws (w ∷ []))
+
+pub weight-push : (texts : List (List ℕ)) (ps : List Part) (ws : List Work) (w : Work) → sum_by (work_weight texts ps) (ws ++ w ∷ []) ≡ sum_by (work_weight texts ps) ws + work_weight texts ps w
+weight-push texts ps ws w = omega (arith, sum_by-append (work_weight texts ps) ws (w ∷ []))
+
+-- a work is done, and the rest is due
+pub done : (texts : List (List ℕ)) (ps : List Part) (ws vs us : List Work) (w : Work) (out new whole : List ℕ) → ws ≡ vs ++ w ∷ [] → new ++ due texts ps us ≡ out ++ (work_print texts ps w ++ due texts ps vs) → out ++ due texts ps ws ≡ whole → new ++ due texts ps us ≡ whole
+done texts ps ws vs us w out new whole e f g = f ∙ ap (λ l. out ++ l) (sym (ap (due texts ps) e ∙ due-push texts ps vs w)) ∙ g
+
+-- What is written, and what is put on the list, are the print together.
+
+-- a tag is written, and what follows is due
+pub behind_tag : (old now before body rest d : List ℕ) → now ≡ old ++ before → rest ≡ body ++ d → now ++ rest ≡ old ++ ((before ++ body) ++ d)
+behind_tag old now before body rest d e f = rw (e, f) (append_assoc old before (body ++ d) ∙ ap (λ l. old ++ l) (sym (append_assoc before body d)))
+
+-- a tag and an operator are written, and what follows is due
+pub behind_two : (old mid now before sign body rest d : List ℕ) → mid ≡ old ++ before → now ≡ mid ++ sign → rest ≡ body ++ d → now ++ rest ≡ old ++ ((before ++ (sign ++ body)) ++ d)
+behind_two old mid now before sign body rest d e f g =
+    behind_tag old now (before ++ sign) body rest d (f ∙ ap (λ l. l ++ sign) e ∙ append_assoc old before sign) g
+    ∙ ap (λ l. old ++ (l ++ d)) (append_assoc before sign body)
+
+-- what is put on the list, the last first
+pub one_due : (x after d d1 : List ℕ) → d1 ≡ after ++ d → x ++ d1 ≡ (x ++ after) ++ d
+one_due x after d d1 e = ap (λ l. x ++ l) e ∙ sym (append_assoc x after d)
+
+pub two_due : (x y after d d1 d2 : List ℕ) → d1 ≡ after ++ d → d2 ≡ y ++ d1 → x ++ d2 ≡ (x ++ (y ++ after)) ++ d
+two_due x y after d d1 d2 e f = one_due x (y ++ after) d d2 (f ∙ one_due y after d d1 e)
+
+pub three_due : (x y z after d d1 d2 d3 : List ℕ) → d1 ≡ after ++ d → d2 ≡ z ++ d1 → d3 ≡ y ++ d2 → x ++ d3 ≡ (x ++ (y ++ (z ++ after))) ++ d
+three_due x y z after d d1 d2 d3 e f g = one_due x (y ++ (z ++ after)) d d3 (g ∙ two_due y z after d d1 d2 e f)
+
+-- a tree is the one that another name is for
+pub tree_named : (x y : Tree) (d e : List ℕ) → e ≡ print x ++ d → x ≡ y → e ≡ print y ++ d
+tree_named x y d e f g = f ∙ ap (λ t. print t ++ d) g
+
+-- Members.
+
+sum_of : (x : Tree) (xs : List Tree) → sum_by print_weight (x ∷ xs) ≡ print_weight x + sum_by print_weight xs
+sum_of x xs = omega (arith, sum_by-append print_weight (x ∷ []) xs)
+
+sum_reversed : (xs : List Tree) → sum_by print_weight (reverse xs) ≡ sum_by print_weight xs
+sum_reversed [] = refl
+sum_reversed (x ∷ xs) =
+    let e : sum_by print_weight (reverse (x ∷ xs)) ≡ sum_by print_weight (reverse xs ++ x ∷ []) = ap (sum_by print_weight) (reverse-append (x ∷ []) xs) in
+    omega (arith, e, sum_by-append print_weight (reverse xs) (x ∷ []), sum_reversed xs, sum_of x xs)
+
+-- the members that are left, of which the last is put on the list
+pub members_step : (f : Tree → List ℕ) (j : ℕ) (ts us : List Tree) (d e : List ℕ) → suc j ≤ length ts → us ≡ drop 1 ts → e ≡ f (top ts) ++ d → flat_map f (reverse (take j us)) ++ e ≡ flat_map f (reverse (take (suc j) ts)) ++ d
+members_step f j [] us d e h i g = absurd (omega arith)
+members_step f j (t ∷ ts) us d e h i g =
+    rw (i, g) (sym (ap (λ l. l ++ d) (ap (flat_map f) (reverse-append (t ∷ []) (take j ts)) ∙ flat_map-append f (reverse (take j ts)) (t ∷ [])) ∙ append_assoc (flat_map f (reverse (take j ts))) (f t ++ []) d ∙ ap (λ l. flat_map f (reverse (take j ts)) ++ (l ++ d)) (append-nil (f t))))
+
+pub weight_step : (j : ℕ) (ts us : List Tree) → suc j ≤ length ts → us ≡ drop 1 ts → sum_by print_weight (take (suc j) ts) ≡ print_weight (top ts) + sum_by print_weight (take j us)
+weight_step j [] us h f = absurd (omega arith)
+weight_step j (t ∷ ts) us h f = rw f (sum_of t (take j ts))
+
+pub length_step : (j : ℕ) (ts us : List Tree) → suc j ≤ length ts → us ≡ drop 1 ts → j ≤ length us
+length_step j [] us h f = absurd (omega arith)
+length_step j (t ∷ ts) us h f = rw f (omega arith)
+
+-- the members of a row or of a matrix in a style
+pub prints-in : (s : Option Variant) (xs : List Tree) → prints (all_in s (trees_of xs)) ≡ prints_in s xs
+prints-in s [] = refl
+prints-in s (x ∷ xs) = ap (λ l. print (in_style s x) ++ l) (prints-in s xs)
+
+pub cells-in : (s : Option Variant) (xs : List Tree) → members_print (all_in s (trees_of xs)) ≡ cells_in s xs
+cells-in s [] = refl
+cells-in s (x ∷ xs) = ap (λ l. member_print (in_style s x) (print (in_style s x)) ++ l) (cells-in s xs)
+
+weights_of : (xs : List Tree) → sum_by print_weight xs < print_weights (trees_of xs)
+weights_of [] = omega arith
+weights_of (x ∷ xs) = omega (arith, weights_of xs, sum_of x xs)
+
+-- what is put of members is less than there is to write of them
+pub members_weight : (s : Option Variant) (xs : List Tree) → sum_by print_weight xs < print_weights (all_in s (trees_of (reverse xs)))
+members_weight s xs = omega (arith, weights-in s (trees_of (reverse xs)), weights_of (reverse xs), sum_reversed xs)

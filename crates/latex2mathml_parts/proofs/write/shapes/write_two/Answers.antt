@@ -1,0 +1,17 @@
+use Rattle.std.proofs.Common.{◌≡◌, ◌++◌, ap, codes, drop, take, ◌∙◌}
+use Rattle.latex2mathml_nodes.specs.Print.{print}
+use Rattle.latex2mathml_nodes.specs.Tree.{operator}
+use Rattle.latex2mathml_parts.specs.Forms.{aside, forest}
+use Rattle.latex2mathml_parts.specs.Parts.{top}
+use Rattle.latex2mathml_parts.specs.Works.{due, tree_at, work_print}
+use Rattle.latex2mathml_parts.proofs.Works.{behind_tag}
+use Rattle.latex2mathml_parts.proofs.write.shapes.write_two.Goals as goal
+
+pub returns-clause-print : goal.returns-clause-print
+returns-clause-print c =
+    let texts = aside c.args.texts.now in
+    let ps = c.args.list.now in
+    let d = due texts ps c.args.works.now.items in
+    let last = print (tree_at texts ps c.args.end) in
+    let first = print (top (drop 1 (forest texts (take c.args.end ps)))) in
+    behind_tag _ _ c.args.before.now (first ++ (last ++ c.args.after.now)) _ d c.in_ok-push_str.ensures.bytes c.in_ok-next.ensures.print

@@ -1,0 +1,5 @@
+pub mod Environments
+pub mod Forms
+pub mod Parts
+pub mod TreeCodes
+pub mod Works

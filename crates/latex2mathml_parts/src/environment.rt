@@ -1,0 +1,34 @@
+//! The environments that there are.
+ghost use Rattle.std.specs.Prelude.{◌≡◌, Some, None, MatchOption};
+ghost use Rattle.latex2mathml_nodes.specs.Productions.{environment_tree};
+ghost use Rattle.latex2mathml_nodes.specs.Tree.{Tree};
+ghost use Rattle.latex2mathml_parts.specs.Environments.{tree_around};
+
+use latex2mathml_tokens::attribute::ColumnAlign;
+use latex2mathml_tokens::names::Paren;
+
+/// What an environment makes of its members.
+#[derive(Clone, Copy)]
+pub(crate) enum Environment {
+    Matrix(ColumnAlign),
+    /// A matrix between two fences.
+    Fenced(Paren, Paren),
+}
+
+impl Environment {
+    /// The environment of this name, if there is one.
+    pub(crate) fn of(name: &str) -> Option<Environment>
+        ensures { MatchOption result
+            ((group : Tree) → environment_tree name.now group ≡ None)
+            (λ environment. (group : Tree) → environment_tree name.now group ≡ Some (tree_around environment group)) }
+    {
+        match name {
+            "matrix" => Some(Environment::Matrix(ColumnAlign::Center)),
+            "align" => Some(Environment::Matrix(ColumnAlign::Left)),
+            "pmatrix" => Some(Environment::Fenced(Paren::LeftRound, Paren::RightRound)),
+            "bmatrix" => Some(Environment::Fenced(Paren::LeftSquare, Paren::RightSquare)),
+            "vmatrix" => Some(Environment::Fenced(Paren::Bar, Paren::Bar)),
+            _ => None,
+        }
+    }
+}

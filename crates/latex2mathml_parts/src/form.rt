@@ -1,0 +1,92 @@
+//! What the list of parts holds.
+ghost use Rattle.std.specs.Prelude.{◌≡◌, ◌∷◌, ℕ, List, Some, None, MatchOption, drop};
+ghost use Rattle.latex2mathml_nodes.specs.Productions.{spread, stretched_of};
+ghost use Rattle.latex2mathml_nodes.specs.Style.{styled};
+ghost use Rattle.latex2mathml_nodes.specs.Tree.{Tree, more_trees, no_trees};
+ghost use Rattle.latex2mathml_parts.specs.Forms.{HasText, arity_of, put_form};
+ghost use Rattle.latex2mathml_parts.specs.Parts.{top};
+ghost use Rattle.latex2mathml_parts.specs.declared.form.Form.{Form};
+
+use crate::kind::Kind;
+use latex2mathml_tokens::attribute::{ColumnAlign, Variant};
+use latex2mathml_tokens::names::Paren;
+
+/// What a part of the list is: of a kind, or what comes of parts that were put together. A text that was spelled out
+/// stands aside, and its part has its place.
+#[derive(Clone, Copy)]
+pub(crate) enum Form<'a> {
+    Of(Kind<'a>),
+    // Parts without operands.
+    /// The name of a function that was spelled out.
+    Name(usize),
+    Words(usize),
+    /// The text of a token that has no meaning where it stands.
+    Undefined(usize),
+    /// An operator that grows.
+    Stretched(char),
+    StretchedParen(Paren),
+    // A part of one operand.
+    Slashed,
+    // Parts of as many operands as they say.
+    /// So many members, and the style that was given to them.
+    Row(usize, Option<Variant>),
+    /// The same, and how the columns are aligned. One operand more stands before the members: the environment's name.
+    Matrix(usize, Option<Variant>, ColumnAlign),
+}
+
+/// A part of the list, behind its operands.
+#[derive(Clone, Copy)]
+pub(crate) struct Part<'a> {
+    pub(crate) form: Form<'a>,
+    /// How many parts its tree has, with this one.
+    pub(crate) size: usize,
+}
+
+impl<'a> Form<'a> {
+    /// The form of a part whose tree is given a style.
+    #[inline(always)]
+    pub(crate) fn styled(self, variant: Variant) -> Form<'a>
+        ensures arity { arity_of result ≡ arity_of self.entry }
+        ensures text { (texts : List (List ℕ)) → HasText texts self.entry → HasText texts result }
+        ensures trees { (texts : List (List ℕ)) (ts : List Tree) → put_form texts result ts
+            ≡ styled variant (top (put_form texts self.entry ts)) ∷ drop 1 (put_form texts self.entry ts) }
+    {
+        match self {
+            Form::Of(Kind::Letter(c, _)) => Form::Of(Kind::Letter(c, variant)),
+            Form::Row(count, _) => Form::Row(count, Some(variant)),
+            other => other,
+        }
+    }
+
+    /// The form of a part whose tree grows with what stands around it, if the tree is an operator.
+    #[inline(always)]
+    pub(crate) fn stretched(self) -> Option<Form<'a>>
+        ensures { MatchOption result
+            ((texts : List (List ℕ)) (ts : List Tree) → stretched_of (top (put_form texts self.entry ts)) ≡ None)
+            (λ form. (arity_of self.entry ≡ 0) × (arity_of form ≡ 0)
+            × ((texts : List (List ℕ)) → HasText texts form)
+            × ((texts : List (List ℕ)) (ts : List Tree) →
+            (stretched_of (top (put_form texts self.entry ts)) ≡ Some (top (put_form texts form ts)))
+            × (put_form texts form ts ≡ top (put_form texts form ts) ∷ ts))) }
+    {
+        match self {
+            Form::Of(Kind::Operator(c)) => Some(Form::Stretched(c)),
+            Form::Of(Kind::Paren(paren)) => Some(Form::StretchedParen(paren)),
+            _ => None,
+        }
+    }
+
+    /// How many members a part has whose tree is a row, and their style.
+    #[inline(always)]
+    pub(crate) fn members(self) -> Option<(usize, Option<Variant>)>
+        ensures { MatchOption result
+            ((texts : List (List ℕ)) (ts : List Tree) → spread (top (put_form texts self.entry ts))
+            ≡ more_trees (top (put_form texts self.entry ts)) no_trees)
+            (λ row. self.entry ≡ Form.Row row.0 row.1) }
+    {
+        match self {
+            Form::Row(count, style) => Some((count, style)),
+            _ => None,
+        }
+    }
+}

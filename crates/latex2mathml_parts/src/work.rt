@@ -1,0 +1,16 @@
+//! What is still to be written.
+
+use latex2mathml_tokens::attribute::{Accent, Variant};
+
+/// What is still to be written.
+#[derive(Clone, Copy)]
+pub(crate) enum Work {
+    /// The last tree of so many parts, in a style.
+    Tree(usize, Option<Variant>),
+    Markup(&'static str),
+    Operator(char),
+    /// The sign over a tree, and the end of its element.
+    SignOver(char, Accent),
+    /// The sign under a tree, and the end of its element.
+    SignUnder(char, Accent),
+}

@@ -1,0 +1,514 @@
+//! From parts to markup.
+ghost use Rattle.std.specs.Prelude.{◌≡◌, ◌+◌, ◌<◌, ◌≤◌, ◌++◌, [], IfOk, OnOk, codes, length, reverse, string_bytes, sum_by, take};
+ghost use Rattle.latex2mathml_nodes.specs.Print.{print};
+ghost use Rattle.latex2mathml_nodes.specs.PrintWeight.{print_weight};
+ghost use Rattle.latex2mathml_nodes.specs.Tree.{matrix, row, slashed, trees_of};
+ghost use Rattle.latex2mathml_parts.specs.Forms.{AreWhole, HasText, all_in, arity_of, aside, forest, in_style, outer, put_form};
+ghost use Rattle.latex2mathml_parts.specs.Parts.{arity, put, top};
+ghost use Rattle.latex2mathml_tokens.specs.Attributes.{align_text};
+ghost use Rattle.latex2mathml_parts.specs.Works.{AreIn, IsIn, IsNext, due, next_print, next_weight, prints_in, tree_at, work_print, work_weight};
+
+mod fences;
+mod leaves;
+mod names;
+mod shapes;
+mod tables;
+mod works;
+
+use crate::form::{Form, Part};
+use crate::kind::Kind;
+use crate::list::part_at;
+use crate::parts::Parts;
+use crate::work::Work;
+use crate::write::fences::{closing_markup, opening_markup, stretched_markup};
+use crate::write::leaves::{
+    given, write_char, write_letter, write_operator, write_sign, write_slashed, write_text,
+};
+use crate::write::names::limited_markup;
+use crate::write::shapes::{
+    write_braced, write_labelled, write_limit, write_limits, write_one, write_swapped,
+    write_swapped_limits, write_two,
+};
+use crate::write::tables::{binomial_close, binomial_open};
+use crate::write::works::{push, push_cells, push_members};
+use latex2mathml_nodes::ast::print::append::append_undefined;
+use latex2mathml_tokens::attribute::{ColumnAlign, Variant};
+pub use leaves::write_leaf;
+use std::alloc::{AllocError, Global};
+
+impl Parts<'_> {
+    /// Writes the markup of the last tree behind the text. It does not recurse: what is still to be written stands in a
+    /// list. The only `Err` is out of memory, for the list or for the text.
+    pub fn write(&mut self, alloc: Global, out: &mut String) -> Result<(), AllocError>
+        requires { 0 < length self.old }
+        ensures trees { self.new ≡ self.old }
+        ensures print { OnOk result (string_bytes out.new ≡ string_bytes out.old ++ print (top self.old)) }
+    {
+        self.works.clear();
+        write_last(alloc, &self.texts, &self.list, &mut self.works, out)
+    }
+}
+
+/// Writes the last tree of the list.
+fn write_last(
+    alloc: Global,
+    texts: &[String],
+    list: &[Part],
+    works: &mut Vec<Work>,
+    out: &mut String,
+) -> Result<(), AllocError>
+    requires whole { AreWhole (aside texts.now) list.now }
+    requires some { 0 < length list.now }
+    requires empty { works.old.items ≡ [] }
+    ensures { OnOk result (string_bytes out.new ≡ string_bytes out.old ++ print (top (forest (aside texts.now) list.now))) }
+{
+    push(Work::Tree(list.len(), None), texts, list, works)?;
+    'works: while let Some(work) = works.pop() {
+        write_work(alloc, work, texts, list, works, out)?;
+    }
+    Ok(())
+}
+
+/// Does a work.
+#[inline(always)]
+fn write_work(
+    alloc: Global,
+    work: Work,
+    texts: &[String],
+    list: &[Part],
+    works: &mut Vec<Work>,
+    out: &mut String,
+) -> Result<(), AllocError>
+    requires whole { AreWhole (aside texts.now) list.now }
+    requires one { IsIn list.now work }
+    requires inside { AreIn list.now works.old.items }
+    ensures inside { OnOk result (AreIn list.now works.new.items) }
+    ensures print { OnOk result (string_bytes out.new ++ due (aside texts.now) list.now works.new.items
+        ≡ string_bytes out.old ++ (work_print (aside texts.now) list.now work ++ due (aside texts.now) list.now works.old.items)) }
+    ensures weight { OnOk result (sum_by (work_weight (aside texts.now) list.now) works.new.items < sum_by (work_weight (aside texts.now) list.now) works.old.items + work_weight (aside texts.now) list.now work) }
+{
+    match work {
+        Work::Tree(end, style) => write_down(alloc, end, style, texts, list, works, out),
+        Work::Markup(markup) => out.push_str(markup),
+        Work::Operator(c) => write_operator(c, out),
+        Work::SignOver(c, accent) => write_sign(c, accent, "</mo></mover>", out),
+        Work::SignUnder(c, accent) => write_sign(c, accent, "</mo></munder>", out),
+    }
+}
+
+/// Writes the last tree of so many parts down to its first leaf, and puts what follows on the list.
+fn write_down(
+    alloc: Global,
+    end: usize,
+    style: Option<Variant>,
+    texts: &[String],
+    list: &[Part],
+    works: &mut Vec<Work>,
+    out: &mut String,
+) -> Result<(), AllocError>
+    requires whole { AreWhole (aside texts.now) list.now }
+    requires some { 0 < end }
+    requires within { end ≤ length list.now }
+    requires inside { AreIn list.now works.old.items }
+    ensures inside { OnOk result (AreIn list.now works.new.items) }
+    ensures print { OnOk result (string_bytes out.new ++ due (aside texts.now) list.now works.new.items
+        ≡ string_bytes out.old ++ (print (in_style style (tree_at (aside texts.now) list.now end)) ++ due (aside texts.now) list.now works.old.items)) }
+    ensures weight { OnOk result (sum_by (work_weight (aside texts.now) list.now) works.new.items < sum_by (work_weight (aside texts.now) list.now) works.old.items + print_weight (tree_at (aside texts.now) list.now end)) }
+{
+    let mut next = write_at(alloc, end, style, texts, list, works, out)?;
+    'down: while let Some(place) = next {
+        next = write_at(alloc, place, None, texts, list, works, out)?;
+    }
+    Ok(())
+}
+
+/// Writes what stands first of a tree, and puts what follows on the list. Returns the tree that is next, if one is.
+#[inline(always)]
+fn write_at(
+    alloc: Global,
+    end: usize,
+    style: Option<Variant>,
+    texts: &[String],
+    list: &[Part],
+    works: &mut Vec<Work>,
+    out: &mut String,
+) -> Result<Option<usize>, AllocError>
+    requires whole { AreWhole (aside texts.now) list.now }
+    requires some { 0 < end }
+    requires within { end ≤ length list.now }
+    requires inside { AreIn list.now works.old.items }
+    ensures inside { OnOk result (AreIn list.now works.new.items) }
+    ensures next { IfOk result (λ next. IsNext list.now next) }
+    ensures print { IfOk result (λ next. string_bytes out.new ++ (next_print (aside texts.now) list.now next ++ due (aside texts.now) list.now works.new.items)
+        ≡ string_bytes out.old ++ (print (in_style style (tree_at (aside texts.now) list.now end)) ++ due (aside texts.now) list.now works.old.items)) }
+    ensures weight { IfOk result (λ next. sum_by (work_weight (aside texts.now) list.now) works.new.items + next_weight (aside texts.now) list.now next
+        < sum_by (work_weight (aside texts.now) list.now) works.old.items + print_weight (tree_at (aside texts.now) list.now end)) }
+{
+    let part = part_at(end, texts, list);
+    write_form(alloc, part.form, style, end - 1, texts, list, works, out)
+}
+
+/// Writes what stands first of the tree of a part, behind so many parts, and puts what follows on the list.
+#[inline(always)]
+fn write_form(
+    alloc: Global,
+    form: Form,
+    style: Option<Variant>,
+    end: usize,
+    texts: &[String],
+    list: &[Part],
+    works: &mut Vec<Work>,
+    out: &mut String,
+) -> Result<Option<usize>, AllocError>
+    requires whole { AreWhole (aside texts.now) list.now }
+    requires fits { arity_of form ≤ length (forest (aside texts.now) (take end list.now)) }
+    requires text { HasText (aside texts.now) form }
+    requires within { end ≤ length list.now }
+    requires inside { AreIn list.now works.old.items }
+    ensures inside { OnOk result (AreIn list.now works.new.items) }
+    ensures next { IfOk result (λ next. IsNext list.now next) }
+    ensures print { IfOk result (λ next. string_bytes out.new ++ (next_print (aside texts.now) list.now next ++ due (aside texts.now) list.now works.new.items)
+        ≡ string_bytes out.old ++ (print (in_style style (top (put_form (aside texts.now) form.entry (forest (aside texts.now) (take end list.now))))) ++ due (aside texts.now) list.now works.old.items)) }
+    ensures weight { IfOk result (λ next. sum_by (work_weight (aside texts.now) list.now) works.new.items + next_weight (aside texts.now) list.now next
+        < sum_by (work_weight (aside texts.now) list.now) works.old.items + print_weight (top (put_form (aside texts.now) form.entry (forest (aside texts.now) (take end list.now))))) }
+{
+    match form {
+        Form::Of(kind) => write_kind(alloc, kind, style, end, texts, list, works, out),
+        Form::Row(count, own) => {
+            write_row(count, outer(style, own), end, texts, list, works, out)?;
+            Ok(None)
+        }
+        Form::Matrix(count, own, align) => {
+            write_matrix(count, own, align, end, texts, list, works, out)?;
+            Ok(None)
+        }
+        Form::Slashed => write_under_slash(end, texts, list, works, out),
+        Form::Name(place) => {
+            write_text("<mi>", texts[place].as_str(), "</mi>", out)?;
+            Ok(None)
+        }
+        Form::Words(place) => {
+            write_text("<mtext>", texts[place].as_str(), "</mtext>", out)?;
+            Ok(None)
+        }
+        Form::Undefined(place) => {
+            append_undefined(texts[place].as_str(), out)?;
+            Ok(None)
+        }
+        Form::Stretched(c) => {
+            write_char("<mo stretchy=\"true\">", c, "</mo>", out)?;
+            Ok(None)
+        }
+        Form::StretchedParen(paren) => {
+            out.push_str(stretched_markup(paren))?;
+            Ok(None)
+        }
+    }
+}
+
+/// The style of letters in a row that has a style of its own: the outer one stays.
+fn outer(style: Option<Variant>, own: Option<Variant>) -> Option<Variant>
+    ensures { result ≡ outer style own }
+{
+    match style {
+        None => own,
+        Some(variant) => Some(variant),
+    }
+}
+
+/// Writes a row of so many trees.
+fn write_row(
+    count: usize,
+    style: Option<Variant>,
+    end: usize,
+    texts: &[String],
+    list: &[Part],
+    works: &mut Vec<Work>,
+    out: &mut String,
+) -> Result<(), AllocError>
+    requires whole { AreWhole (aside texts.now) list.now }
+    requires all { count ≤ length (forest (aside texts.now) (take end list.now)) }
+    requires within { end ≤ length list.now }
+    requires inside { AreIn list.now works.old.items }
+    ensures inside { OnOk result (AreIn list.now works.new.items) }
+    ensures print { OnOk result (string_bytes out.new ++ due (aside texts.now) list.now works.new.items
+        ≡ string_bytes out.old ++ (print (row (all_in style (trees_of (reverse (take count (forest (aside texts.now) (take end list.now))))))) ++ due (aside texts.now) list.now works.old.items)) }
+    ensures weight { OnOk result (sum_by (work_weight (aside texts.now) list.now) works.new.items < sum_by (work_weight (aside texts.now) list.now) works.old.items + print_weight (row (all_in style (trees_of (reverse (take count (forest (aside texts.now) (take end list.now)))))))) }
+{
+    out.push_str("<mrow>")?;
+    push(Work::Markup("</mrow>"), texts, list, works)?;
+    push_members(count, style, end, texts, list, works)?;
+    Ok(())
+}
+
+/// Writes a matrix of so many members.
+fn write_matrix(
+    count: usize,
+    style: Option<Variant>,
+    align: ColumnAlign,
+    end: usize,
+    texts: &[String],
+    list: &[Part],
+    works: &mut Vec<Work>,
+    out: &mut String,
+) -> Result<(), AllocError>
+    requires whole { AreWhole (aside texts.now) list.now }
+    requires all { count ≤ length (forest (aside texts.now) (take end list.now)) }
+    requires within { end ≤ length list.now }
+    requires inside { AreIn list.now works.old.items }
+    ensures inside { OnOk result (AreIn list.now works.new.items) }
+    ensures print { OnOk result (string_bytes out.new ++ due (aside texts.now) list.now works.new.items
+        ≡ string_bytes out.old ++ (print (matrix (all_in style (trees_of (reverse (take count (forest (aside texts.now) (take end list.now)))))) align) ++ due (aside texts.now) list.now works.old.items)) }
+    ensures weight { OnOk result (sum_by (work_weight (aside texts.now) list.now) works.new.items < sum_by (work_weight (aside texts.now) list.now) works.old.items + print_weight (matrix (all_in style (trees_of (reverse (take count (forest (aside texts.now) (take end list.now)))))) align)) }
+{
+    out.push_str(table_open(align))?;
+    push(Work::Markup("</mtd></mtr></mtable>"), texts, list, works)?;
+    push_cells(count, style, end, texts, list, works)?;
+    Ok(())
+}
+
+/// What stands before the members of a matrix.
+fn table_open(align: ColumnAlign) -> &'static str
+    ensures { result.now ≡ codes "<mtable" ++ (align_text align ++ codes "><mtr><mtd>") }
+{
+    match align {
+        ColumnAlign::Center => "<mtable><mtr><mtd>",
+        ColumnAlign::Left => "<mtable columnalign=\"left\"><mtr><mtd>",
+        ColumnAlign::Right => "<mtable columnalign=\"right\"><mtr><mtd>",
+    }
+}
+
+/// Writes what a slash stands through: a letter and an operator show it, no other tree does.
+fn write_under_slash(
+    end: usize,
+    texts: &[String],
+    list: &[Part],
+    works: &mut Vec<Work>,
+    out: &mut String,
+) -> Result<Option<usize>, AllocError>
+    requires whole { AreWhole (aside texts.now) list.now }
+    requires some { 0 < end }
+    requires within { end ≤ length list.now }
+    requires inside { AreIn list.now works.old.items }
+    ensures inside { OnOk result (AreIn list.now works.new.items) }
+    ensures next { IfOk result (λ next. IsNext list.now next) }
+    ensures print { IfOk result (λ next. string_bytes out.new ++ (next_print (aside texts.now) list.now next ++ due (aside texts.now) list.now works.new.items)
+        ≡ string_bytes out.old ++ (print (slashed (tree_at (aside texts.now) list.now end)) ++ due (aside texts.now) list.now works.old.items)) }
+    ensures weight { IfOk result (λ next. sum_by (work_weight (aside texts.now) list.now) works.new.items + next_weight (aside texts.now) list.now next
+        < sum_by (work_weight (aside texts.now) list.now) works.old.items + print_weight (slashed (tree_at (aside texts.now) list.now end))) }
+{
+    if write_slashed(part_at(end, texts, list).form, out)? {
+        return Ok(None);
+    }
+    Ok(Some(end))
+}
+
+/// Writes what stands first of the tree of a part of this kind, behind so many parts, and puts what follows on the list.
+#[inline(always)]
+fn write_kind(
+    alloc: Global,
+    kind: Kind,
+    style: Option<Variant>,
+    end: usize,
+    texts: &[String],
+    list: &[Part],
+    works: &mut Vec<Work>,
+    out: &mut String,
+) -> Result<Option<usize>, AllocError>
+    requires whole { AreWhole (aside texts.now) list.now }
+    requires fits { arity kind ≤ length (forest (aside texts.now) (take end list.now)) }
+    requires within { end ≤ length list.now }
+    requires inside { AreIn list.now works.old.items }
+    ensures inside { OnOk result (AreIn list.now works.new.items) }
+    ensures next { IfOk result (λ next. IsNext list.now next) }
+    ensures print { IfOk result (λ next. string_bytes out.new ++ (next_print (aside texts.now) list.now next ++ due (aside texts.now) list.now works.new.items)
+        ≡ string_bytes out.old ++ (print (in_style style (top (put kind.entry (forest (aside texts.now) (take end list.now))))) ++ due (aside texts.now) list.now works.old.items)) }
+    ensures weight { IfOk result (λ next. sum_by (work_weight (aside texts.now) list.now) works.new.items + next_weight (aside texts.now) list.now next
+        < sum_by (work_weight (aside texts.now) list.now) works.old.items + print_weight (top (put kind.entry (forest (aside texts.now) (take end list.now))))) }
+{
+    match kind {
+        Kind::Letter(c, own) => {
+            write_letter(c, given(style, own), out)?;
+            Ok(None)
+        }
+        Kind::Number(_) | Kind::Operator(_) | Kind::Paren(_) | Kind::Ampersand | Kind::NewLine => {
+            write_leaf(alloc, kind, out)?;
+            Ok(None)
+        }
+        Kind::Space(_) | Kind::Function(_) | Kind::Limit(_) | Kind::SizedParen(_, _) => {
+            write_leaf(alloc, kind, out)?;
+            Ok(None)
+        }
+        Kind::Sub => Ok(Some(write_two("<msub>", "</msub>", end, texts, list, works, out)?)),
+        Kind::Sup => Ok(Some(write_two("<msup>", "</msup>", end, texts, list, works, out)?)),
+        Kind::Frac => Ok(Some(write_two("<mfrac>", "</mfrac>", end, texts, list, works, out)?)),
+        Kind::Sqrt => Ok(Some(write_one(
+            "<msqrt>",
+            Work::Markup("</msqrt>"),
+            end,
+            texts,
+            list,
+            works,
+            out,
+        )?)),
+        Kind::Fenced(opening, close) => Ok(Some(write_one(
+            opening_markup(opening),
+            Work::Markup(closing_markup(close)),
+            end,
+            texts,
+            list,
+            works,
+            out,
+        )?)),
+        Kind::Primed => Ok(Some(write_one(
+            "<msup>",
+            Work::Markup("<mo>′</mo></msup>"),
+            end,
+            texts,
+            list,
+            works,
+            out,
+        )?)),
+        Kind::Over(c, accent) => Ok(Some(write_one(
+            "<mover>",
+            Work::SignOver(c, accent),
+            end,
+            texts,
+            list,
+            works,
+            out,
+        )?)),
+        Kind::Under(c, accent) => Ok(Some(write_one(
+            "<munder>",
+            Work::SignUnder(c, accent),
+            end,
+            texts,
+            list,
+            works,
+            out,
+        )?)),
+        Kind::LimitUnder(name) => Ok(Some(write_one(
+            limited_markup(name),
+            Work::Markup("</munder>"),
+            end,
+            texts,
+            list,
+            works,
+            out,
+        )?)),
+        Kind::Overbrace(c) => Ok(Some(write_braced(
+            "<mover>", c, "</mover>", end, texts, list, works, out,
+        )?)),
+        Kind::Underbrace(c) => Ok(Some(write_braced(
+            "<munder>",
+            c,
+            "</munder>",
+            end,
+            texts,
+            list,
+            works,
+            out,
+        )?)),
+        Kind::LimitBelow(c) => Ok(Some(write_limit(
+            "<munder>",
+            c,
+            "</munder>",
+            end,
+            texts,
+            list,
+            works,
+            out,
+        )?)),
+        Kind::LimitAbove(c) => Ok(Some(write_limit(
+            "<mover>", c, "</mover>", end, texts, list, works, out,
+        )?)),
+        Kind::LimitSub(c) => Ok(Some(write_limit(
+            "<msub>", c, "</msub>", end, texts, list, works, out,
+        )?)),
+        Kind::LimitSup(c) => Ok(Some(write_limit(
+            "<msup>", c, "</msup>", end, texts, list, works, out,
+        )?)),
+        Kind::Binom(display) => Ok(Some(write_two(
+            binomial_open(display),
+            binomial_close(display),
+            end,
+            texts,
+            list,
+            works,
+            out,
+        )?)),
+        Kind::Overset => Ok(Some(write_swapped(
+            "<mover>", "</mover>", end, texts, list, works, out,
+        )?)),
+        Kind::Underset => Ok(Some(write_swapped(
+            "<munder>",
+            "</munder>",
+            end,
+            texts,
+            list,
+            works,
+            out,
+        )?)),
+        Kind::Root => Ok(Some(write_swapped("<mroot>", "</mroot>", end, texts, list, works, out)?)),
+        Kind::OverbraceWith(c) => Ok(Some(write_labelled(
+            "<mover>",
+            c,
+            "</mover></mover>",
+            end,
+            texts,
+            list,
+            works,
+            out,
+        )?)),
+        Kind::UnderbraceWith(c) => Ok(Some(write_labelled(
+            "<munder>",
+            c,
+            "</munder></munder>",
+            end,
+            texts,
+            list,
+            works,
+            out,
+        )?)),
+        Kind::LimitsBelowAbove(c) => Ok(Some(write_limits(
+            "<munderover>",
+            c,
+            "</munderover>",
+            end,
+            texts,
+            list,
+            works,
+            out,
+        )?)),
+        Kind::LimitsAboveBelow(c) => Ok(Some(write_swapped_limits(
+            "<munderover>",
+            c,
+            "</munderover>",
+            end,
+            texts,
+            list,
+            works,
+            out,
+        )?)),
+        Kind::LimitsSubSup(c) => Ok(Some(write_limits(
+            "<msubsup>",
+            c,
+            "</msubsup>",
+            end,
+            texts,
+            list,
+            works,
+            out,
+        )?)),
+        Kind::LimitsSupSub(c) => Ok(Some(write_swapped_limits(
+            "<msubsup>",
+            c,
+            "</msubsup>",
+            end,
+            texts,
+            list,
+            works,
+            out,
+        )?)),
+    }
+}

@@ -1,0 +1,177 @@
+//! Leaves, each as one element.
+ghost use Rattle.std.specs.Prelude.{◌≡◌, ◌++◌, ℕ, List, [], IfOk, MatchBool, OnOk, codes, string_bytes};
+ghost use Rattle.latex2mathml_nodes.specs.Print.{print};
+ghost use Rattle.latex2mathml_nodes.specs.Tree.{Tree, letter, number, operator, sized_paren, slashed, space};
+ghost use Rattle.latex2mathml_parts.specs.Forms.{given, put_form};
+ghost use Rattle.latex2mathml_parts.specs.Parts.{arity, put, top};
+ghost use Rattle.latex2mathml_parts.specs.Works.{sign_print};
+ghost use Rattle.latex2mathml_tokens.specs.Escape.{content, content_char};
+ghost use Rattle.latex2mathml_tokens.specs.Names.{paren_text, size_text};
+
+use crate::form::Form;
+use crate::kind::Kind;
+use crate::write::fences::paren_markup;
+use crate::write::names::{function_markup, limit_markup};
+use crate::write::tables::{
+    digit_markup, letter_markup, letter_open, operator_markup, size_open, space_markup,
+};
+use latex2mathml_nodes::ast::Node;
+use latex2mathml_nodes::ast::print::append::append_content;
+use latex2mathml_nodes::ast::print::append_content_char;
+use latex2mathml_tokens::attribute::{Accent, Variant};
+use latex2mathml_tokens::names::{Paren, Size};
+use std::alloc::{AllocError, Global};
+
+/// Writes a part that has no operands, and that stands in no list.
+#[inline(always)]
+pub fn write_leaf(alloc: Global, kind: Kind, out: &mut String) -> Result<(), AllocError>
+    requires { arity kind ≡ 0 }
+    ensures { OnOk result (string_bytes out.new ≡ string_bytes out.old ++ print (top (put kind.entry []))) }
+{
+    match kind {
+        Kind::Letter(c, variant) => write_letter(c, variant, out),
+        Kind::Operator(c) => write_operator(c, out),
+        Kind::Number(digits) => write_number(digits, out),
+        Kind::Paren(paren) => out.push_str(paren_markup(paren)),
+        Kind::Ampersand => out.push_str("<mtext>[PARSE ERROR: Ampersand]</mtext>"),
+        Kind::NewLine => out.push_str("<mtext>[PARSE ERROR: NewLine]</mtext>"),
+        Kind::Space(width) => write_space(alloc, width, out),
+        Kind::Function(name) => out.push_str(function_markup(name)),
+        Kind::Limit(name) => out.push_str(limit_markup(name)),
+        Kind::SizedParen(size, paren) => write_sized(size, paren, out),
+        Kind::Primed | Kind::Over(_, _) | Kind::Under(_, _) | Kind::Sqrt => unreachable!(),
+        Kind::Overbrace(_) | Kind::Underbrace(_) | Kind::LimitBelow(_) => unreachable!(),
+        Kind::LimitAbove(_) | Kind::LimitSub(_) | Kind::LimitSup(_) => unreachable!(),
+        Kind::LimitUnder(_) | Kind::Fenced(_, _) | Kind::Sub | Kind::Sup => unreachable!(),
+        Kind::Frac | Kind::Binom(_) | Kind::Overset | Kind::Underset => unreachable!(),
+        Kind::Root | Kind::OverbraceWith(_) | Kind::UnderbraceWith(_) => unreachable!(),
+        Kind::LimitsBelowAbove(_) | Kind::LimitsAboveBelow(_) => unreachable!(),
+        Kind::LimitsSubSup(_) | Kind::LimitsSupSub(_) => unreachable!(),
+    }
+}
+
+/// The variant of a letter in a style.
+pub(crate) fn given(style: Option<Variant>, own: Variant) -> Variant
+    ensures { result ≡ given style own }
+{
+    match style {
+        None => own,
+        Some(variant) => variant,
+    }
+}
+
+/// Writes a letter.
+pub(crate) fn write_letter(c: char, variant: Variant, out: &mut String) -> Result<(), AllocError>
+    ensures { OnOk result (string_bytes out.new ≡ string_bytes out.old ++ print (letter c variant)) }
+{
+    if let Variant::Italic = variant {
+        return match letter_markup(c) {
+            Some(markup) => out.push_str(markup),
+            None => write_char("<mi>", c, "</mi>", out),
+        };
+    }
+    write_char(letter_open(variant), c, "</mi>", out)
+}
+
+/// Writes an operator.
+pub(crate) fn write_operator(c: char, out: &mut String) -> Result<(), AllocError>
+    ensures { OnOk result (string_bytes out.new ≡ string_bytes out.old ++ print (operator c)) }
+{
+    match c {
+        '∂' => {
+            out.push_str("<mo mathvariant=\"italic\">∂</mo>")?;
+            Ok(())
+        }
+        _ => match operator_markup(c) {
+            Some(markup) => out.push_str(markup),
+            None => write_char("<mo>", c, "</mo>", out),
+        },
+    }
+}
+
+/// Writes a number.
+fn write_number(digits: &str, out: &mut String) -> Result<(), AllocError>
+    ensures { OnOk result (string_bytes out.new ≡ string_bytes out.old ++ print (number digits.now)) }
+{
+    write_text("<mn>", digits, "</mn>", out)
+}
+
+/// Writes a letter or an operator with a slash through it, and returns whether the form is one.
+pub(crate) fn write_slashed(form: Form, out: &mut String) -> Result<bool, AllocError>
+    ensures print { IfOk result (λ written. MatchBool written
+        ((texts : List (List ℕ)) (ts : List Tree) → string_bytes out.new ≡ string_bytes out.old ++ print (slashed (top (put_form texts form.entry ts))))
+        ((string_bytes out.new ≡ string_bytes out.old) × ((texts : List (List ℕ)) (ts : List Tree) → print (slashed (top (put_form texts form.entry ts))) ≡ print (top (put_form texts form.entry ts))))) }
+{
+    match form {
+        Form::Of(Kind::Letter(c, variant)) => {
+            write_char(letter_open(variant), c, "&#x0338;</mi>", out)?;
+            Ok(true)
+        }
+        Form::Of(Kind::Operator(c)) => {
+            write_char("<mo>", c, "&#x0338;</mo>", out)?;
+            Ok(true)
+        }
+        _ => Ok(false),
+    }
+}
+
+/// Writes the sign over a tree or under it, and what stands behind it.
+pub(crate) fn write_sign(
+    c: char,
+    accent: Accent,
+    after: &'static str,
+    out: &mut String,
+) -> Result<(), AllocError>
+    ensures { OnOk result (string_bytes out.new ≡ string_bytes out.old ++ sign_print c accent after.now) }
+{
+    match accent {
+        Accent::True => write_char("<mo accent=\"true\">", c, after, out),
+        Accent::False => write_char("<mo accent=\"false\">", c, after, out),
+    }
+}
+
+/// Writes a space, in eighteenths of an em.
+fn write_space(alloc: Global, width: i32, out: &mut String) -> Result<(), AllocError>
+    ensures { OnOk result (string_bytes out.new ≡ string_bytes out.old ++ print (space width)) }
+{
+    match space_markup(width) {
+        Some(markup) => out.push_str(markup),
+        None => write!(out, "{}", Node::Space(width)),
+    }
+}
+
+/// Writes a parenthesis of a size of its own.
+fn write_sized(size: Size, paren: Paren, out: &mut String) -> Result<(), AllocError>
+    ensures { OnOk result (string_bytes out.new ≡ string_bytes out.old ++ print (sized_paren (size_text size) (paren_text paren))) }
+{
+    write_text(size_open(size), paren.text(), "</mo></mrow>", out)?;
+    Ok(())
+}
+
+/// Writes a text as contents, between two tags.
+pub(crate) fn write_text(
+    before: &str,
+    text: &str,
+    after: &str,
+    out: &mut String,
+) -> Result<(), AllocError>
+    ensures { OnOk result (string_bytes out.new ≡ string_bytes out.old ++ (before.now ++ (content text.now ++ after.now))) }
+{
+    out.push_str(before)?;
+    append_content(text, out)?;
+    out.push_str(after)
+}
+
+/// Writes a character as contents, between two tags.
+pub(crate) fn write_char(
+    before: &str,
+    c: char,
+    after: &str,
+    out: &mut String,
+) -> Result<(), AllocError>
+    ensures { OnOk result (string_bytes out.new ≡ string_bytes out.old ++ (before.now ++ (content_char c ++ after.now))) }
+{
+    out.push_str(before)?;
+    append_content_char(c, out)?;
+    out.push_str(after)
+}

@@ -1,0 +1,154 @@
+//! Tokens that borrow their texts. The reader and the parser pass them by value, and a refusal makes a [`Token`] of one.
+ghost use Rattle.std.specs.Prelude.{◌≡◌, ◌≤◌, IfOk};
+ghost use Rattle.latex2mathml_tokens.specs.Commands.{command_token};
+ghost use Rattle.latex2mathml_tokens.specs.Lexemes.{lexeme_tok};
+ghost use Rattle.latex2mathml_tokens.specs.Tok.{tok};
+
+use crate::DisplayStyle;
+use crate::attribute::{Accent, Variant};
+use crate::names::{FunctionName, LimitName, Paren, Size};
+use crate::token::Token;
+use crate::token::search::look_up;
+use std::alloc::{AllocError, Global};
+
+/// What a slice of a formula stands for, as [`Token`], but without memory of its own.
+#[derive(Clone, Copy)]
+pub enum Lexeme<'a> {
+    /// A character without a meaning: the NUL.
+    Illegal(char),
+    /// The end of the formula: no slice of a text.
+    EOF,
+    /// The beginning of an environment.
+    Begin,
+    /// The end of an environment.
+    End,
+    /// `&`
+    Ampersand,
+    /// The end of a row of a matrix.
+    NewLine,
+    /// Before an opening fence.
+    Left,
+    /// Before a closing fence.
+    Right,
+    /// Before an operator that is stretched.
+    Middle,
+    /// A parenthesis, or `:=`.
+    Paren(Paren),
+    /// `{`
+    LBrace,
+    /// `}`
+    RBrace,
+    /// A fraction.
+    Frac,
+    /// `_`
+    Underscore,
+    /// `^`
+    Circumflex,
+    /// A binomial coefficient, and the style in which it is set, if the command names one.
+    Binom(Option<DisplayStyle>),
+    /// Before two operands: the first is set over the second.
+    Overset,
+    /// Before two operands: the first is set under the second.
+    Underset,
+    /// A brace over what follows.
+    Overbrace(char),
+    /// A brace under what follows.
+    Underbrace(char),
+    /// A root.
+    Sqrt,
+    /// An integral, whose limits are scripts.
+    Integral(char),
+    /// The name of a function that takes a limit under it.
+    Lim(LimitName),
+    /// A space, in eighteenths of an em.
+    Space(i32),
+    /// The style of what follows.
+    Style(Variant),
+    /// The size of the bracket that follows.
+    Big(Size),
+    /// A sign over what follows.
+    Over(char, Accent),
+    /// A sign under what follows.
+    Under(char, Accent),
+    /// An operator of one character.
+    Operator(char),
+    /// An operator that takes limits under and over it.
+    BigOp(char),
+    /// A letter, or any other character that stands for itself, and its style.
+    Letter(char, Variant),
+    /// Digits, with at most one period.
+    Number(&'a str),
+    /// The name of a function.
+    Function(FunctionName),
+    /// Before the name of a function that is spelled out.
+    OperatorName,
+    /// Before what a slash strikes through.
+    Slashed,
+    /// Before words.
+    Text,
+    /// A command that is not in the command table, by its name without the backslash.
+    Command(&'a str),
+}
+
+impl<'a> Lexeme<'a> {
+    /// Returns the lexeme of the command with this name, which is given without its backslash, and how many names of the
+    /// command table were compared with it.
+    #[tactic(auto, unfolding(crate::specs::Commands::command_token))]
+    pub fn of_command(name: &'a str) -> (Lexeme<'a>, u64)
+        ensures lexeme { lexeme_tok result.0 ≡ command_token name.now }
+        ensures at_least { 1 ≤ result.1 }
+        ensures at_most { result.1 ≤ 9 }
+    {
+        let (entry, comparisons) = look_up(name);
+        let lexeme = match entry {
+            Some(entry) => entry.meaning.lexeme(),
+            None => Lexeme::Command(name),
+        };
+        (lexeme, comparisons)
+    }
+
+    /// The token, with texts of its own. An `Err` comes when out of memory for one, and leaves nothing.
+    pub fn token(self, alloc: Global) -> Result<Token, AllocError>
+        ensures { IfOk result (λ token. tok token ≡ lexeme_tok self.entry) }
+    {
+        match self {
+            Lexeme::Illegal(c) => Ok(Token::Illegal(c)),
+            Lexeme::EOF => Ok(Token::EOF),
+            Lexeme::Begin => Ok(Token::Begin),
+            Lexeme::End => Ok(Token::End),
+            Lexeme::Ampersand => Ok(Token::Ampersand),
+            Lexeme::NewLine => Ok(Token::NewLine),
+            Lexeme::Left => Ok(Token::Left),
+            Lexeme::Right => Ok(Token::Right),
+            Lexeme::Middle => Ok(Token::Middle),
+            Lexeme::Paren(paren) => Ok(Token::Paren(paren.text())),
+            Lexeme::LBrace => Ok(Token::LBrace),
+            Lexeme::RBrace => Ok(Token::RBrace),
+            Lexeme::Frac => Ok(Token::Frac),
+            Lexeme::Underscore => Ok(Token::Underscore),
+            Lexeme::Circumflex => Ok(Token::Circumflex),
+            Lexeme::Binom(display) => Ok(Token::Binom(display)),
+            Lexeme::Overset => Ok(Token::Overset),
+            Lexeme::Underset => Ok(Token::Underset),
+            Lexeme::Overbrace(c) => Ok(Token::Overbrace(c)),
+            Lexeme::Underbrace(c) => Ok(Token::Underbrace(c)),
+            Lexeme::Sqrt => Ok(Token::Sqrt),
+            Lexeme::Integral(c) => Ok(Token::Integral(c)),
+            Lexeme::Lim(name) => Ok(Token::Lim(name.text())),
+            Lexeme::Space(width) => Ok(Token::Space(width)),
+            Lexeme::Style(variant) => Ok(Token::Style(variant)),
+            Lexeme::Big(size) => Ok(Token::Big(size.text())),
+            Lexeme::Over(c, accent) => Ok(Token::Over(c, accent)),
+            Lexeme::Under(c, accent) => Ok(Token::Under(c, accent)),
+            Lexeme::Operator(c) => Ok(Token::Operator(c)),
+            Lexeme::BigOp(c) => Ok(Token::BigOp(c)),
+            Lexeme::Letter(c, variant) => Ok(Token::Letter(c, variant)),
+            Lexeme::Number(digits) => Ok(Token::Number(String::from_str(alloc, digits)?)),
+            Lexeme::Function(name) => Ok(Token::Function(name.text())),
+            Lexeme::OperatorName => Ok(Token::OperatorName),
+            Lexeme::Slashed => Ok(Token::Slashed),
+            Lexeme::Text => Ok(Token::Text),
+            Lexeme::Command(name) => Ok(Token::Command(String::from_str(alloc, name)?)),
+        }
+    }
+}
