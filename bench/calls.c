@@ -1,5 +1,6 @@
 /* How many formulas per processor second are converted by calls from C: in one call each, into a buffer that is large
- * enough, and in two, the first without a buffer. One line per argument: its bytes and both numbers. */
+ * enough, and in two, the first without a buffer. One line per argument: its bytes and both numbers.
+ * With `repeat`, a number and a formula, it converts the formula so often, and prints nothing. */
 #include "latex2mathml.h"
 
 #include <stdio.h>
@@ -31,6 +32,11 @@ static double a_second(const char *latex, bool ask_first) {
 }
 
 int main(int count, char **words) {
+    if (count == 4 && strcmp(words[1], "repeat") == 0) {
+        for (long left = atol(words[2]); left > 0; left--)
+            convert(words[3], strlen(words[3]), false);
+        return 0;
+    }
     for (int i = 1; i < count; i++)
         printf("%zu %.0f %.0f\n", strlen(words[i]), a_second(words[i], false), a_second(words[i], true));
     return 0;

@@ -1,7 +1,8 @@
 #!/usr/bin/env python3
 """Measures how many formulas per processor second are converted by calls of the library for C, from C, Python and
-Node, and by a process of the program for each; and, where its folder is given, by calls of the Rust crate from Rust. It
-builds what it needs with cc, and the crate with cargo."""
+Node, and by a process of the program for each; and, where its folder is given, by calls of the Rust crate from Rust. The
+second table has the instructions of one call, which do not depend on how busy the machine is. It builds what it needs with
+cc, and the crate with cargo."""
 import argparse
 import importlib.util
 import os
@@ -12,8 +13,9 @@ import sys
 import tempfile
 
 HOUSE = pathlib.Path(__file__).resolve().parent.parent
-sys.path.append(str(HOUSE / "diff"))
+sys.path += [str(HOUSE), str(HOUSE / "diff")]
 import rust_crate  # noqa: E402
+from tests.instructions import instructions  # noqa: E402
 
 FORMULAS = [
     "x<y",
@@ -59,12 +61,18 @@ def words_of(command):
     return [line.split() for line in subprocess.run(command, check=True, capture_output=True, text=True).stdout.splitlines()]
 
 
-def from_the_crate(crate, scratch):
-    """How many formulas a second the crate converts, by calls of its own in Rust."""
-    if not crate:
-        return [None] * len(FORMULAS)
-    driver = rust_crate.build(crate, pathlib.Path(scratch, "driver"))
-    return [float(count) for (count,) in words_of([driver, "calls", *FORMULAS])]
+def a_call(program, latex):
+    """The instructions of one call, of a program that repeats them."""
+    few, many = (instructions([program, "repeat", str(calls), latex]) for calls in (100, 1100))
+    return (many - few) / 1000
+
+
+def show_instructions(programs):
+    print("bytes, instructions of a call from C, and of one of the crate from Rust, times fewer from C")
+    for latex in FORMULAS:
+        counts = [a_call(program, latex) for program in programs]
+        compared = [f"{counts[1] / counts[0]:.2f}"] if len(counts) == 2 else []
+        print(len(latex), *(f"{count:.0f}" for count in counts), *compared, flush=True)
 
 
 def main():
@@ -84,13 +92,18 @@ def main():
         addon = library / "examples/latex2mathml.node"
         has_node = addon.exists() and shutil.which("node")
         from_node = words_of(["node", "-e", NODE, addon, *FORMULAS]) if has_node else [["-"]] * len(FORMULAS)
-        from_rust = from_the_crate(crate, scratch)
+        programs = [library / "calls"]
+        if crate:
+            programs.append(rust_crate.build(crate, pathlib.Path(scratch, "driver")))
+        from_rust = [float(count) for (count,) in words_of([programs[1], "calls", *FORMULAS])] if crate else [None] * len(FORMULAS)
         print("bytes, C in one call, C asking first, Python, Node, a process each, the crate from Rust, times faster from C")
         for latex, (size, once, twice), (node,), rust in zip(FORMULAS, from_c, from_node, from_rust):
             called = a_second(lambda: python.formula(latex), 1000)
             run = a_second(lambda: subprocess.run([program, "inline"], input=latex.encode(), stdout=subprocess.PIPE, check=True), 20)
             compared = [f"{rust:.0f}", f"{float(once) / rust:.2f}"] if rust else ["-", "-"]
-            print(size, once, twice, f"{called:.0f}", node, f"{run:.0f}", *compared)
+            print(size, once, twice, f"{called:.0f}", node, f"{run:.0f}", *compared, flush=True)
+        if shutil.which("valgrind"):
+            show_instructions(programs)
 
 
 if __name__ == "__main__":

@@ -16,7 +16,7 @@ from collections.abc import Callable
 import workloads
 
 HOUSE = pathlib.Path(__file__).resolve().parent.parent
-FORMULAS = [formula for formula in workloads.formulas() if "$" not in formula]
+FORMULAS = [formula for formula in workloads.formulas("In the benchmarks") if "$" not in formula]
 PAGE_SCRIPT = HOUSE / "page/latex2mathml.js"
 
 SYSTEM_PYTHON, SYSTEM_PACKAGES = "/usr/bin/python3", pathlib.Path("/usr/lib/python3/dist-packages")

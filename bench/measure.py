@@ -1,5 +1,5 @@
 #!/usr/bin/env python3
-"""Measures the program, and beside it the Rust crate where its folder is given. README.md says what is printed."""
+"""Measures the program, and also the Rust crate if its folder is given. README.md says what is printed."""
 
 import argparse
 import subprocess
@@ -18,7 +18,7 @@ from tests.instructions import instructions  # noqa: E402
 
 MEGABYTE = 1_000_000
 
-# The instructions of each workload, as `--renew` counted them last; `tests/test_instructions.py` holds the program to them.
+# The instructions of each workload, as last counted by `--renew`. `tests/test_instructions.py` compares the program with them.
 FIGURES = ROOT / "bench/instructions.txt"
 COUNTED = 300_000
 

@@ -13,24 +13,47 @@ WORDS = ["the", "of", "a", "where", "function", "is", "for", "which", "energy", 
 REPEATED = ["x+1", "\\alpha ", "{a_b^c}"]
 
 
-def formulas():
-    """The formulas of the documents."""
-    return [case.input.decode() for case in cases.read("formulas/everyday.txt") if case.heading == "In the benchmarks"]
+def formulas(heading=None):
+    """The formulas that people write, below a heading or all of them."""
+    every = cases.read("formulas/everyday.txt")
+    return [case.input.decode() for case in every if heading in (None, case.heading)]
 
 
-def document(size):
-    """Prose and formulas in turn, up to about this many bytes: every fifth formula is a display."""
-    choice = random.Random(SEED)
-    every = formulas()
-    pieces, length, place = [], 0, 0
+def joined(size, next_piece):
+    """Pieces of a text, by their numbers, up to about this many bytes."""
+    pieces, length = [], 0
     while length < size:
-        place += 1
-        sign = "$$" if place % 5 == 0 else "$"
-        prose = " ".join(choice.choices(WORDS, k=choice.randint(3, 30)))
-        piece = f"{prose} {sign}{choice.choice(every)}{sign} "
+        piece = next_piece(len(pieces) + 1)
         pieces.append(piece)
         length += len(piece.encode())
     return "".join(pieces)
+
+
+def prose(size):
+    """Prose alone."""
+    choice = random.Random(SEED)
+    return joined(size, lambda place: words(choice) + ". ")
+
+
+def words(choice):
+    return " ".join(choice.choices(WORDS, k=choice.randint(3, 30)))
+
+
+def document(size):
+    """Prose and formulas in turn. Every fifth formula is in a block."""
+    choice = random.Random(SEED)
+    every = formulas("In the benchmarks")
+
+    def piece(place):
+        sign = "$$" if place % 5 == 0 else "$"
+        return f"{words(choice)} {sign}{choice.choice(every)}{sign} "
+    return joined(size, piece)
+
+
+def real_formulas(size):
+    """The formulas that people write, one after another, with a word before each."""
+    every = formulas()
+    return joined(size, lambda place: f"{WORDS[place % len(WORDS)]} ${every[place % len(every)]}$ ")
 
 
 def repeated(formula, size):
@@ -40,5 +63,6 @@ def repeated(formula, size):
 
 def workloads():
     """What is measured: the program's argument, a name, and a function from a size to the text."""
-    return [("document", "prose and formulas", document)] + [
+    documents = [("prose", prose), ("prose and formulas", document), ("real formulas", real_formulas)]
+    return [("document", name, text) for name, text in documents] + [
         ("inline", formula, lambda size, formula=formula: repeated(formula, size)) for formula in REPEATED]

@@ -19,7 +19,7 @@ latex2mathml = {{ path = "{crate}" }}
 # With an argument of the program, all of standard input is one text, as for the program. With `many`, standard input is a
 # list of texts. Each has the first letter of its argument before it, and behind it a byte that never occurs in UTF-8. The
 # answers have the same form. With `calls`, each further argument is a formula, and a line says how often it is converted in a
-# processor second.
+# processor second. With `repeat`, a number and a formula, it converts the formula so often.
 MAIN = r"""
 use latex2mathml::{latex_to_mathml, replace, DisplayStyle, LatexError};
 use std::hint::black_box;
@@ -74,6 +74,13 @@ fn main() {
     if word == "calls" {
         for latex in std::env::args().skip(2) {
             println!("{:.0}", a_second(&latex));
+        }
+        return;
+    }
+    if word == "repeat" {
+        let words: Vec<String> = std::env::args().skip(2).collect();
+        for _ in 0..words[0].parse().expect("a number") {
+            black_box(latex_to_mathml(black_box(&words[1]), DisplayStyle::Inline).unwrap());
         }
         return;
     }

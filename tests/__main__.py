@@ -4,7 +4,7 @@
     ./test proofs                                       the proofs, the wrong bodies and the tests in Rattle alone
     ./test tests.test_program [tests.test_program.Words.test_inline ..]    modules, classes or cases, over what is built
 
-The last line is 'N passed, M failed', and the status is 1 where a case failed.
+The last line is 'N passed, M failed', and the status is 1 if a case failed.
 """
 import os
 import signal
@@ -18,7 +18,7 @@ from tools.progress import Screen, Stopwatch, clock
 
 
 def prove(screen):
-    """Proves everything, and builds the library for C of what was proved."""
+    """Proves everything, and builds the library for C from what was proved."""
     proofs = Proofs()
     steps = [proofs, Library(proofs)]
     with set_aside():
@@ -36,7 +36,7 @@ def try_modules(names, screen, renews=True):
 
 def everything(screen):
     steps = prove(screen)
-    # what is tried from here on is what was proved and built
+    # from here on, the tests use only what was proved and built
     os.environ[BUILD_NOTHING] = "1"
     modules, failures = try_modules(every_name(), screen)
     return [*steps, *modules], failures
@@ -51,7 +51,7 @@ def main(words):
         if words == ["proofs"]:
             steps, failures = prove(screen), []
         elif words:
-            # what has to be built for them says itself how far it is
+            # a build that they need shows its own progress
             steps, failures = try_modules([name_of(word) for word in words], screen, renews=False)
         else:
             steps, failures = everything(screen)
@@ -66,7 +66,7 @@ def main(words):
 
 
 def table(steps, watch):
-    """The times of each step, of all processors together too."""
+    """The wall-clock and processor times of each step."""
     rows = [("", "time", "processors", ""), *((it.name, clock(it.seconds), clock(it.spent), str(it.counts)) for it in steps)]
     rows.append(("all", str(watch), clock(sum(it.spent for it in steps)), ""))
     width = max(len(row[0]) for row in rows)

@@ -1,4 +1,4 @@
-"""What the built program and the library for C make of an input, and a failure that shows how they differ from what is due."""
+"""The results of the built program and of the library for C for an input, and failures that show a difference."""
 import ctypes
 import difflib
 import enum
@@ -11,12 +11,12 @@ from tests.support import c_library, program, run
 
 ERROR = b"LaTeX2MathML Error: "
 
-# As much of an input or of a difference as a failure shows.
+# The most characters of an input or of a difference that a failure shows.
 LIMIT = 2000
 
 
 class Code(enum.IntEnum):
-    """What an answer is, as the library for C says it."""
+    """The codes of the library for C."""
     DONE = 0
     REFUSED = 1
     NOT_UTF8 = 2
@@ -47,7 +47,7 @@ def library():
 
 
 def by_library(word, given):
-    """What the library for C makes of the input. It is handed a room of one byte first, and then one as large as it needs."""
+    """The result of the library for C for the input. The first call has a buffer of one byte, the second one of the size needed."""
     if word == "document":
         call, more = library().latex2mathml_document, []
     else:
@@ -64,7 +64,7 @@ WAYS = [("the program", by_program), ("the library for C", by_library)]
 
 
 def pieces(answer):
-    """Markup by its tags, for a difference that one can read."""
+    """Markup split at its tags, so that a difference is readable."""
     return re.findall("<[^<]*|[^<]+", answer.decode(errors="backslashreplace"))
 
 
@@ -86,7 +86,7 @@ def shown(given):
 
 
 class AnswerCase(unittest.TestCase):
-    """A case of an input and what it comes to."""
+    """A case: an input and the expected result."""
 
     def comes_to(self, place, word, given, code, wanted):
         """Checks that the input comes to this, by the program's word, in each way."""

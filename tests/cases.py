@@ -21,7 +21,7 @@ TAGS = {
 
 
 class WrongCase(ValueError):
-    """A file that is not written as cases are. The text begins with the file and the line."""
+    """A file with a mistake in its form. The text begins with the file and the line."""
 
 
 @dataclass(frozen=True)
@@ -45,7 +45,7 @@ class Line:
 
 @dataclass(frozen=True)
 class Case:
-    """An input and what it comes to, as they stand in a file, and the heading that they stand below."""
+    """An input and the expected result, as in the file, and the heading above them."""
     heading: str
     first: Line
     second: Line
@@ -64,7 +64,7 @@ class Case:
 
     @property
     def document_answer(self):
-        """The answer, with whole tags in place of the short ones."""
+        """The result, with whole tags in place of the short ones."""
         return re.sub(rb"</?(?:inline|block)>", lambda tag: TAGS[tag[0]], self.answer)
 
     def with_space(self, number, space):
@@ -116,7 +116,7 @@ def escaped(escape):
 
 
 def fault_of(text):
-    """Why the text may not stand in a line, or None."""
+    """Why a line may not contain the text, or None."""
     if text != text.strip(" "):
         return "a space at an end of a line is [U+0020]"
     for character in text:
@@ -127,7 +127,7 @@ def fault_of(text):
 
 
 def lines_of(path):
-    """The lines of a file, without remarks: pairs of the heading that a line stands below, and the line."""
+    """The lines of a file without comments: pairs of the heading above a line, and the line."""
     heading = ""
     for number, text in enumerate(path.read_text(encoding="utf-8").split("\n"), 1):
         line = Line(path, number, text)

@@ -15,7 +15,7 @@ NAME_CASES = json.loads((ROOT / "integrations/names-cases.json").read_text(encod
 
 @functools.cache
 def interpreter(*modules):
-    """A Python that has these modules: the one that runs the tests, or the system's; None where neither has them."""
+    """A Python that has these modules: the one that runs the tests, or the system's. None if neither has them."""
     finds = f"import importlib.util, sys; sys.exit(not all(map(importlib.util.find_spec, {modules!r})))"
     for python in (sys.executable, "/usr/bin/python3"):
         if shutil.which(python) and subprocess.run([python, "-c", finds], timeout=60).returncode == 0:
@@ -24,7 +24,7 @@ def interpreter(*modules):
 
 
 def requires_python(*modules):
-    """Skips a case or a class of them where no Python has these modules, with what wheels and environments are made of."""
+    """Skips a case or a class if no Python has these modules and those that make wheels and environments."""
     lacking = [it for it in ("ensurepip", *modules) if not interpreter(it)]
     lacking += ["pip, setuptools and wheel"] if not interpreter("pip", "setuptools", "wheel") else []
     lacking += ["objdump"] if not shutil.which("objdump") else []
@@ -33,7 +33,7 @@ def requires_python(*modules):
 
 @functools.cache
 def wheel():
-    """The path of the wheel, made once a run."""
+    """The path of the wheel, which is made once per run."""
     library, folder = c_library(), run_folder() / "wheel"
     with once("wheel"):
         if not folder.exists():

@@ -1,4 +1,4 @@
-"""Programs whose calls of the C library fail or are counted: `faults.c` and `counts.c`, loaded before it, do either."""
+"""Programs whose calls of the C library fail or are counted, by preloading `faults.c` or `counts.c`."""
 import atexit
 import contextlib
 import dataclasses
@@ -24,11 +24,11 @@ X = math("<mi>x</mi>")
 
 @functools.cache
 def library(name):
-    """The path of `tests/NAME.c` as a library, which is built once a run."""
+    """The path of `tests/NAME.c` as a library, which is built once per run."""
     keeping = contextlib.ExitStack()
     atexit.register(keeping.close)
     folder = keeping.enter_context(support.scratch())
-    # others may load it, where a case runs as another user
+    # others may load it, because a case may run as another user
     folder.chmod(0o755)
     built = folder / f"{name}.so"
     done = support.run(["cc", "-O2", "-Wall", "-shared", "-fPIC", "-o", built, support.ROOT / f"tests/{name}.c", "-ldl"])

@@ -1,4 +1,4 @@
-"""Instructions of a run, as valgrind counts them: they do not hang on what else the machine does."""
+"""Instructions of a run, as valgrind counts them. They do not depend on other work of the machine."""
 import re
 
 from tests import support

@@ -1,4 +1,4 @@
-"""What the program answers and how it refuses, for the tests of what stands on it."""
+"""Results and refusals of the program, for the tests of the integrations."""
 from tests.support import program, run
 
 # Why `{x` is refused.

@@ -1,4 +1,4 @@
-"""Runs the modules of the tests: their classes side by side, each in a process of its own, and those that need quiet alone."""
+"""Runs the modules of the tests: their classes in parallel, each in its own process, but those that measure something alone."""
 import concurrent.futures
 import dataclasses
 import importlib
@@ -15,7 +15,7 @@ from tests.results import Counts
 from tests.support import ROOT, SCREEN
 from tools.progress import SHOWN, Stopwatch, clock
 
-# Seconds that the cases of a class may take, where its module has no LIMIT of its own.
+# Seconds that the cases of a class may take, if its module has no LIMIT of its own.
 LIMIT = 900
 
 
@@ -51,7 +51,7 @@ def name_of(word):
 
 
 def module_of(name):
-    """The module in which a name is, with the parts of it that the name asks for."""
+    """The module of a name, with the parts of it that the name selects."""
     words = name.split(".")
     module = ".".join(words[:2])
     try:
@@ -184,7 +184,7 @@ class Runs:
 
 
 def end(process):
-    """Ends a process and all that it started."""
+    """Ends a process and all processes that it started."""
     try:
         os.killpg(process.pid, signal.SIGKILL)
     except ProcessLookupError:

@@ -11,7 +11,7 @@ BOLD_Y = BOLD.format("y")
 MISSING = '<mtext>[PARSE ERROR: Undefined("EOF")]</mtext>'
 FENCE = '<mo stretchy="true" form="{}">{}</mo>'
 
-# what a group that is open at the end of the text is waiting for
+# the end token that an open group expects at the end of the text
 BRACE, BRACKET, RIGHT, END = "RBrace", 'Paren("]")', "Right", "End"
 
 
@@ -64,7 +64,7 @@ class Production:
         return around(self.markup, levels, innermost or self.innermost)
 
     def styled_contents(self, levels):
-        """What the formula comes to in bold."""
+        """The markup of the formula in bold."""
         return around(self.styled, levels, BOLD.format("x")) if self.styled else self.contents(levels)
 
 

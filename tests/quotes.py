@@ -12,7 +12,7 @@ from tests.support import ROOT
 DEFINITION = re.compile(r"\[`(?P<word>[^`]+)`\]\((?P<path>[^)#\s]+\.antt)#L(?P<line>\d+)\)")
 QUOTE = re.compile(r"<!-- quoted from (?P<path>\S+) -->\n```rust\n(?P<text>.*?)```", re.S)
 
-# what the library's crates offer to callers
+# the library's crates with public calls
 LIBRARY = ("latex2mathml_tokens", "latex2mathml_nodes", "latex2mathml_formulas", "latex2mathml")
 
 
@@ -25,7 +25,7 @@ class Definition:
     line: int
 
     def line_now(self):
-        """The line in which the definition begins, or None where there is none."""
+        """The line in which the definition begins, or None if there is none."""
         begins = re.compile(rf"\s*(?:(?:abbrev|unfoldable|opaque) )?(?:pub )?(?:(?:data|record) )?{re.escape(self.word)}(?=[\s:({{]|$)")
         for number, line in enumerate(self.source.read_text().split("\n"), 1):
             if begins.match(line) and not line.lstrip().startswith("--") and re.search(r"[:({]", line):
@@ -41,7 +41,7 @@ def definitions(document):
 
 
 def renew(document):
-    """Puts the line of today into each link to a definition, and the signature of today into each block that quotes one."""
+    """Updates the line in each link to a definition, and the signature in each block that quotes one."""
     def renewed_line(found):
         link = Definition(document, found["word"], (document.parent / found["path"]).resolve(), int(found["line"]))
         return f"[`{found['word']}`]({found['path']}#L{link.line_now()})"
@@ -58,7 +58,7 @@ def renew(document):
 
 
 def signature(source, name):
-    """The signature of a function as it stands in its source, with its clauses and without its body."""
+    """The signature of a function in its source, with its clauses and without its body."""
     lines = source.read_text().split("\n")
     begin = next(at for at, line in enumerate(lines) if re.match(rf"\s*(?:pub )?fn {name}\b", line))
     indent = len(lines[begin]) - len(lines[begin].lstrip())
@@ -74,7 +74,7 @@ class Quote:
     text: str
 
     def stands(self):
-        """Whether the source has these signatures, one behind the other, whatever their indentation."""
+        """Whether the source has these signatures, whatever their indentation."""
         names = re.findall(r"\bfn (\w+)", self.text)
         return bool(names) and self.text == "\n".join(signature(self.source, name) for name in names)
 
@@ -86,8 +86,8 @@ def quoted(document):
 
 
 def public_calls():
-    """The names of the functions that the library's callers reach: those of lexemes, of the loop over a formula's text and of
-    escaped texts are public only between the library's own crates."""
+    """The names of the functions that callers of the library can use. The functions of lexemes, of the loop over a formula's text and
+    of escaped texts are public only for the library's own crates."""
     names = set()
     for source in sources():
         names.update(re.findall(r"^ *pub (?:const )?fn (\w+)", source.read_text(), re.M))

@@ -6,7 +6,7 @@ from tests.support import ROOT
 
 COMMANDS = ROOT / "crates/latex2mathml_tokens/specs/Commands.antt"
 
-# what XML allows, some of it hostile
+# characters that XML allows, some of them hostile
 CHARACTERS = list("abcxyzABC0123456789.+-*/=,;:!?|()[]{}<>&\"'~@%$^_# \t\n") + list("é∂∑−⟨⟩字ℝ𝔸😀\u0338")
 
 
@@ -16,7 +16,7 @@ def command_names():
     names = {re.sub(r"\\(.)", r"\1", name) for name in found}
     if len(names) < 400:
         raise ValueError(f"{COMMANDS} has {len(names)} names that can be read")
-    # the backslash itself may stand there by its code
+    # the backslash itself may be written by its code
     return sorted(names | {"\\"})
 
 

@@ -1,10 +1,10 @@
-"""What cases came to, each counted: a case, or where it has `subTest`s, each of those."""
+"""Results of cases. A case counts once, or, if it has `subTest`s, each of them counts."""
 import dataclasses
 import os
 import traceback
 import unittest
 
-# Where it is set, a case that is skipped is one that failed.
+# If it is set, a skipped case counts as failed.
 SKIP_NOTHING = "LATEX2MATHML_SKIP_NOTHING"
 
 
@@ -25,7 +25,7 @@ class Counts:
 
 
 class Result(unittest.TestResult):
-    """Tells each case as it ends: `tell(outcome, name, text)`, where the outcome is `passed`, `failed` or `skipped`."""
+    """Reports each case as it ends: `tell(outcome, name, text)`, where the outcome is `passed`, `failed` or `skipped`."""
 
     def __init__(self, tell):
         super().__init__()

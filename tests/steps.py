@@ -1,4 +1,4 @@
-"""What `./test` does, step by step: the proofs, then what they built is made into a library for C, and then the cases."""
+"""The steps of `./test` before its cases: the proofs, and the library for C, which is made from what they built."""
 import contextlib
 import functools
 import os
@@ -87,7 +87,7 @@ class Proofs(Command):
                 self.date(made)
 
     def date(self, made):
-        """Makes a file as old as the beginning of the proofs: a source that was edited since then is newer than it."""
+        """Gives a file the time at which the proofs began, so that a source edited since then is newer."""
         os.utime(made, (self.begun, self.begun))
 
     def read(self, line, screen):
@@ -130,7 +130,7 @@ class Library(Step):
 
 
 def rattle_words(crate, below, archive):
-    """The words of the prover that prove and build a static library over the rlibs of the crates below it."""
+    """The command that proves and builds a static library over the rlibs of the crates below it."""
     tools = kit()
     rlibs = {name: ROOT / "crates" / name / "out/rlib" for name in below}
     words = [tools / "bin/rattle", "build", "--crate-name", crate, "src/lib.rt", "--crate-type", "staticlib"]
@@ -145,7 +145,7 @@ def rattle_words(crate, below, archive):
 
 @functools.cache
 def listed():
-    """The crates of crates.txt, and what the line of each names."""
+    """The crates of crates.txt, with the dependencies of each."""
     crates = {}
     for line in (ROOT / "crates.txt").read_text(encoding="utf-8").splitlines():
         head, colon, below = line.partition("#")[0].partition(":")
@@ -155,7 +155,7 @@ def listed():
 
 
 def crates_below(crate):
-    """The crates of this repository that a crate stands on, lowest first."""
+    """The crates of this repository that a crate depends on, lowest first."""
     found = []
     for name in listed()[crate]:
         if name in listed():
@@ -165,7 +165,7 @@ def crates_below(crate):
 
 @contextlib.contextmanager
 def set_aside():
-    """Keeps the rlibs that earlier checks built away for as long as `rt ci` and what follows it run: so its own stay, which it
+    """Moves the rlibs of earlier checks away while `rt ci` and the steps after it run. So `rt ci` keeps its own rlibs, which it
     would give up for those. They go into `.git`, as `rt ci` reads everything else."""
     kept = {}
     with scratch() as other:

@@ -1,4 +1,4 @@
-"""What every module of the tests stands on: where things are, running a program, and what a case needs to be tried."""
+"""What all modules of the tests share: where things are, running a program, and skipping a case whose tool is missing."""
 import atexit
 import contextlib
 import fcntl
@@ -16,19 +16,19 @@ ROOT = pathlib.Path(__file__).resolve().parent.parent
 # Names a folder that all processes of a run share.
 RUN = "LATEX2MATHML_RUN"
 
-# Where it is 1, `tools/built` builds nothing: behind the proofs of `./test` only what they built may be taken.
+# If it is 1, `tools/built` builds nothing: after the proofs of `./test`, only what they built may be used.
 BUILD_NOTHING = "LATEX2MATHML_BUILD_NOTHING"
 
-# The number of a stream for those who watch, on which a building says how far it is.
+# The number of the stream on which a build shows its progress.
 SCREEN = "LATEX2MATHML_SCREEN"
 
-# As much of a stream as a failure shows.
+# The most bytes of a stream that a failure shows.
 SHOWN = 2000
 
 
 @functools.cache
 def program():
-    """The path of the built program, which is built first where it is missing or older than its sources."""
+    """The path of the built program, which is built first if it is missing or older than its sources."""
     return built("latex2mathml_app")
 
 
@@ -45,7 +45,7 @@ def built(crate):
 
 @functools.cache
 def c_library():
-    """The folder with the library for C, its header and its examples, as `tools/make-c-library` makes it, once a run."""
+    """The folder with the library for C, its header and its examples, which `tools/make-c-library` makes once per run."""
     built("latex2mathml_c")
     folder = run_folder() / "c"
     with once("c"):
@@ -56,7 +56,7 @@ def c_library():
 
 @functools.cache
 def run_folder():
-    """The folder that all processes of a run share: that of `./test`, or else one of this process."""
+    """The folder that all processes of a run share: that of `./test`, or otherwise one of this process."""
     if RUN in os.environ:
         return pathlib.Path(os.environ[RUN])
     keeping = contextlib.ExitStack()
@@ -66,7 +66,7 @@ def run_folder():
 
 @contextlib.contextmanager
 def once(name):
-    """Keeps the other processes of a run from doing the same meanwhile."""
+    """Keeps the other processes of a run from doing the same at the same time."""
     with open(run_folder() / f"{name}.lock", "w", encoding="utf-8") as lock:
         fcntl.flock(lock, fcntl.LOCK_EX)
         yield
@@ -109,7 +109,7 @@ def scratch():
 
 
 def missing(*tools):
-    """Those of these tools and Python modules that the machine does not have. A module is `python:NAME`."""
+    """Those of these tools and Python modules that are missing. A module is written `python:NAME`."""
     return [tool for tool in tools if not is_there(tool)]
 
 
@@ -130,10 +130,10 @@ def requires(*tools):
 
 
 class Case(unittest.TestCase):
-    """A case of programs that are run."""
+    """A case that runs programs."""
 
     def expect(self, done, status=0, stdout=None, stderr=b""):
-        """Checks the status and the streams of a finished command; a stream that is None may hold anything."""
+        """Checks the status and the streams of a finished command. A stream that is None may contain anything."""
         if (done.returncode == status and stdout in (None, done.stdout) and stderr in (None, done.stderr)):
             return
         lines = [f"ran: {' '.join(map(show, done.args))}"]
@@ -144,7 +144,7 @@ class Case(unittest.TestCase):
 
 
 def show(value):
-    """A word, a status or a stream as a failure shows it, cut in the middle where it is long."""
+    """An argument, a status or a stream as a failure shows it, cut in the middle if it is long."""
     text = str(value) if isinstance(value, (str, pathlib.Path)) else repr(value)
     if len(text) <= SHOWN:
         return text

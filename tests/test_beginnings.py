@@ -1,7 +1,7 @@
-"""Each beginning of formulas, cut between characters, is answered, or refused because it ends too soon: nothing else is wrong."""
+"""Each prefix of a formula, cut between characters, is converted, or refused because it ends too soon, and for no other reason."""
 from tests.support import Case, program, run
 
-# the formulas of the crate's own test, and the error function
+# the formulas of the crate's own tests, and the error function
 FORMULAS = r"""
 0
 3.14
@@ -48,7 +48,7 @@ def is_answered(done):
 
 
 def ends_too_soon(done, beginning):
-    """Whether it is refused for its end, or for a command whose name was cut off behind the backslash."""
+    """Whether it is refused for its end, or for a command whose name was cut off after the backslash."""
     lines = done.stderr.splitlines()
     found = [b'"EOF" is found.'] + ([b'"Command("")" is found.'] if beginning.endswith("\\") else [])
     return (done.returncode == 1 and not done.stdout and len(lines) == 1

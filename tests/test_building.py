@@ -61,7 +61,7 @@ class Building(Case):
         rt.chmod(rt.stat().st_mode | stat.S_IXUSR)
 
     def in_the_past(self, seconds):
-        """Makes everything that stands there so much older."""
+        """Makes everything there older by this much."""
         then = time.time() - seconds
         for path in [self.house, *self.house.rglob("*")]:
             os.utime(path, (then, then))
@@ -107,6 +107,15 @@ class Building(Case):
                 self.expect(self.build(), stdout=None, stderr=None)
                 self.expect_calls(1)
 
+    def test_nothing_is_left_in_the_folder_of_temporary_files(self):
+        folder = self.folder / "temporary"
+        folder.mkdir()
+        for fails in ("", "middle"):
+            with self.subTest(fails=fails):
+                self.build(FAILS=fails, TMPDIR=str(folder))
+                self.assertEqual(list(folder.iterdir()), [])
+                (self.house / "crates/low/src/lib.rt").touch()
+
     def test_it_is_not_built_for_a_crate_that_it_does_not_stand_on(self):
         self.build()
         (self.house / "crates/other/src/lib.rt").touch()
@@ -147,7 +156,7 @@ class Building(Case):
         self.assertIn(b"the command rt of the Rattle toolchain is not on the path", done.stderr)
 
     def test_lines(self):
-        """A line a crate, where nothing can be renewed."""
+        """One line per crate, if a line cannot be updated in place."""
         said = self.build().stderr.decode().splitlines()
         log = self.house / "out/build-high.log"
         self.assertIn(str(log), said[0])

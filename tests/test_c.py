@@ -1,4 +1,4 @@
-"""The library for C: what its folder has, its calls from C and C++, with memory refused, deep and in threads, and its examples."""
+"""The library for C: its folder, its calls from C and C++, with failing allocations, deep nesting and threads, and its examples."""
 import os
 import re
 import shlex
@@ -28,7 +28,7 @@ class Folder(Case):
         self.expect(done, 1, b"", None)
 
     def test_names(self):
-        """Nothing but the two calls can be linked to."""
+        """A program can link only to the two calls."""
         for name, words in [("liblatex2mathml.a", ["nm", "-g"]), ("liblatex2mathml.so", ["nm", "-D"])]:
             with self.subTest(name):
                 done = run([*words, "--defined-only", "--format=posix", c_library() / name])
@@ -56,7 +56,7 @@ class Folder(Case):
 
 
 class Built(Case):
-    """Cases in C, `c_cases.c`, which are built once with these words for the compiler."""
+    """Cases in C, `c_cases.c`, which are built once with these options of the compiler."""
 
     options = []
 
@@ -131,13 +131,13 @@ class Sanitized(Built):
 class Examples(Case):
     @classmethod
     def setUpClass(cls):
-        # a copy, since they are built beside their sources, and find the library in the folder above
+        # a copy, because they are built beside their sources and find the library in the folder above
         cls.folder = cls.enterClassContext(scratch()) / "c"
         shutil.copytree(c_library(), cls.folder)
         cls.built = run([cls.folder / "examples/build"])
 
     def check_example(self, *words):
-        """A program that prints the markup of its last word, or its reason and another status."""
+        """A program that prints the markup of its last argument, or the reason for its refusal with another status."""
         self.expect(run([*words, "x<y"]), stdout=f"{INLINE}\n".encode())
         refused = run([*words, "{x"])
         self.assertNotEqual(refused.returncode, 0, refused)

@@ -1,4 +1,4 @@
-"""Gives each case of `cases/` to the built program and to the library for C. Each is a test of its own, named by its line."""
+"""Gives each case of `cases/` to the built program and to the library for C. Each case is a test, named by its line."""
 import unittest
 
 from tests import cases
@@ -10,7 +10,7 @@ NO_WHITE_SPACE = ["\u000c".encode(), "\u00a0".encode()]
 
 
 class CaseOfFile(AnswerCase):
-    """What becomes of a case, by the kind of file that it stands in."""
+    """How a case is tested, by the kind of its file."""
 
     def formula(self, case):
         for word in ("inline", "block"):
@@ -29,7 +29,7 @@ class CaseOfFile(AnswerCase):
         self.comes_to(case.place, "document", case.input, code_of(case), case.answer)
 
     def white_space(self, case):
-        """White space at one place changes nothing, and a character that is none changes the answer."""
+        """White space at one place changes nothing, and a character that is not white space changes the result."""
         answer = cases.math("inline", case.answer)
         self.comes_to(case.place, "inline", case.with_space(0, b""), Code.DONE, answer)
         for number in case.places:
@@ -42,7 +42,7 @@ class CaseOfFile(AnswerCase):
 
 
 def code_of(case):
-    """The code of a refused text."""
+    """The code of the library for C for a refused text."""
     try:
         case.input.decode()
     except UnicodeDecodeError:
@@ -61,7 +61,7 @@ KINDS = [
 
 
 def tests_of(name, check):
-    """The tests of a file: one a case."""
+    """The tests of a file: one per case."""
     tests = {f"test_{case.first.number}": lambda self, case=case: check(self, case) for case in cases.read(name)}
     return type(cases.class_name(name), (CaseOfFile,), {"__module__": __name__, "__doc__": f"cases/{name}", **tests})
 
@@ -72,7 +72,7 @@ for pattern, kind in KINDS:
 
 
 class Reader(unittest.TestCase):
-    """The reader of the files: what is not written as a case is told, with the line."""
+    """The reader of the files: a mistake in the form is reported with its line."""
 
     def test_wrong_cases(self):
         for text, told in [
@@ -90,7 +90,7 @@ class Reader(unittest.TestCase):
                 self.assertIn(f"wrong.txt:{told}", str(raised.exception))
 
     def test_every_rule(self):
-        """Each is a formula of the grammar, as those who convert them all together take for granted."""
+        """Each is a formula of the grammar, because other tests convert them all together."""
         for formula, contents in cases.every_rule():
             self.assertTrue(formula and contents.startswith("<"), formula)
 

@@ -67,7 +67,7 @@ class Run(Case):
         self.assertEqual(calls[2:], ["install --no-install-recommends missing", "install --no-install-recommends lost"])
 
     def test_nothing_can_be_installed(self):
-        """What is missing is skipped by name then."""
+        """Then cases whose tool is missing are skipped and listed by name."""
         with self.subTest("by no root"):
             done, calls = self.run_ci(USER_ID="1000")
             self.expect(done, stdout=b"skips nothing: \n", stderr=None)

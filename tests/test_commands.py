@@ -6,7 +6,7 @@ from tests import cases
 from tests.answers import WAYS, AnswerCase, Code
 from tests.command_table import DEFINITIONS, PAGE, in_the_definitions, on_the_page
 
-# What names the token behind it in a refusal. No parenthesis is missing where one stands behind a \\left.
+# Commands that name the next token in a refusal. No parenthesis is missing if one follows a \\left.
 SHOWS_TOKEN = "\\left{}"
 SHOWS_PARENTHESIS = "\\middle{}'"
 TOKEN = re.compile(rb'There must be a parenthesis after "\w+", but not found\. Insted, "(.*)" is found\.', re.DOTALL)
@@ -34,7 +34,7 @@ class Table(unittest.TestCase):
 
 
 class Entries(AnswerCase):
-    """Each entry: a test of its own, named by its line."""
+    """Each entry is a test, named by its line."""
 
     def alone(self, entry):
         """The command alone is a formula."""

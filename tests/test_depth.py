@@ -12,7 +12,7 @@ from tests.productions import MISSING, PRODUCTIONS, WIDE
 # Seconds that the cases of a class may take.
 LIMIT = 1800
 
-# the most that such a formula may take
+# the most memory that such a formula may take
 MOST_MEMORY = 600 << 20
 
 OPEN = 'The token "{}" is expected, but the token "EOF" is found."'
@@ -29,7 +29,7 @@ class Depth(support.Case):
         resource.setrlimit(resource.RLIMIT_STACK, (self.stack, self.stack))
 
     def answers(self, formula, contents):
-        """Checks the whole answer, byte for byte, and the most memory that was held."""
+        """Checks the whole markup, byte for byte, and the peak memory."""
         done, counts = faulty.counts_of([support.program(), "inline"], stdin=formula.encode(), preexec_fn=self.limit_stack)
         self.assertEqual((done.returncode, done.stderr), (0, b""))
         self.assertTrue(done.stdout == faulty.math(contents) + b"\n", f"answered {support.show(done.stdout)}")
@@ -40,7 +40,7 @@ class Depth(support.Case):
         self.expect(done, 1, b"", faulty.ERROR + reason.encode() + b"\n")
 
     def wants_memory(self, formula, request):
-        """Checks what comes of it that this request for memory is refused, and no other."""
+        """Checks the result if this allocation fails, and no other."""
         fault = faulty.Fault("memory", request, request, 12)
         words = [support.program(), "inline"]
         done, failed = faulty.run_with(words, stdin=formula.encode(), fault=fault, preexec_fn=self.limit_stack)
@@ -93,7 +93,7 @@ class Cut(Depth):
 
 @support.requires("cc")
 class WithoutMemory(Depth):
-    """A request for memory is refused while the tree is deep, or wide: the one behind three quarters of them."""
+    """An allocation fails while the tree is deep or wide: the one after three quarters of them."""
     nodes = Depth.nodes // 4
     stack = Depth.stack // 4
 

@@ -1,6 +1,7 @@
-"""The folder for people without Rattle, tried as they would, with nothing of the checkout."""
+"""The folder for people without Rattle, used as they would use it, without anything of the checkout."""
 import os
 import re
+import shutil
 
 from tests.environments import interpreter, requires_python
 from tests.support import Case, ROOT, program, requires, run, scratch
@@ -32,6 +33,23 @@ class Dist(Case):
     def test_a_folder_that_exists_is_left_alone(self):
         self.expect(run([ROOT / "tools/make-dist", self.dist]), 1, b"", None)
 
+    def test_what_was_built_before_is_left_out(self):
+        """What people build in the folders of the integrations stays there."""
+        house = self.enterContext(scratch()) / "house"
+        house.mkdir()
+        for name in ("crates", "latex2mathml", "CHANGELOG.md", "LICENSE", "page"):
+            (house / name).symlink_to(ROOT / name)
+        # as old as it is, since a program that is older is built anew
+        shutil.copy2(ROOT / "crates.txt", house)
+        for name in ("tools", "integrations"):
+            shutil.copytree(ROOT / name, house / name)
+        built = ["node/build/a.node", "node/lib/old.a", "rust/target/debug/a", "rust/Cargo.lock", "rust/lib/old.a"]
+        for file in built:
+            (house / "integrations" / file).parent.mkdir(parents=True, exist_ok=True)
+            (house / "integrations" / file).touch()
+        self.expect(run([house / "tools/make-dist", house / "dist"], timeout=300), stdout=None, stderr=None)
+        self.assertEqual([file for file in built if (house / "dist/integrations" / file).exists()], [])
+
     def test_files(self):
         for file, source in [
             ("LICENSE", "LICENSE"), ("page/latex2mathml.css", "page/latex2mathml.css"), ("page/latex2mathml.js", "page/latex2mathml.js"),
@@ -42,7 +60,7 @@ class Dist(Case):
                 self.assertEqual((self.dist / file).read_bytes(), (ROOT / source).read_bytes())
 
     def test_the_readme_says_what_is_needed(self):
-        """The C library, and its newest version that the program asks for, by number: 2.34 is newer than 2.4."""
+        """The C library, and the newest version of it that the program needs, compared as numbers: 2.34 is newer than 2.4."""
         text = (self.dist / "README.md").read_text(encoding="utf-8")
         self.assertIn("libc.so", text)
         symbols = run(["objdump", "-T", program()]).stdout.decode()

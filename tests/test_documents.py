@@ -1,5 +1,4 @@
-"""What the documents claim is so: links lead somewhere, commands print what is shown, quoted source is the source's, and
-sentences stay short.
+"""Checks the documents: links lead somewhere, commands print what is shown, quotes match the sources, and sentences are short.
 
 `python3 -m tests.test_documents` renews the lines of definitions and the signatures that documents quote.
 """
@@ -8,6 +7,7 @@ import sys
 import unittest
 
 from tests import quotes
+from tests.integration import answer_of
 from tests.support import ROOT, Case, program, run, scratch
 
 # the most words that a sentence may have
@@ -91,11 +91,11 @@ class Sentences(Case):
 
 
 def sentences(text):
-    """The sentences of a document's prose, without tables and headings; a member of a list begins one."""
+    """The sentences of a document's prose, without tables and headings. A list item begins a sentence."""
     kept = [line for line in text.split("\n") if not re.match(r"\s*(\||#|!\[|\[.*\]:)", line)]
     prose = re.sub(r"^\s*(?:[-*]|\d+\.) +", "\n\n", "\n".join(kept), flags=re.M)
     prose = re.sub(r"``.*?``|`[^`]*`", "code", prose, flags=re.S)
-    # an enumeration of code, with the sign of each command behind it, is read as one word
+    # an enumeration of code, with the sign of each command after it, counts as one word
     item = r"code(?:\s+(?:code|[^\s,]{1,2})(?:\s+\(U\+\w+\))?)?"
     prose = re.sub(rf"{item}(?:,\s+(?:and\s+)?{item})+", "code", prose)
     prose = re.sub(r"\]\([^)]*\)", "]", prose)
@@ -149,8 +149,42 @@ class Readme(Case):
         self.assertEqual(sorted(path.name for path in folder.iterdir()), ["latex2mathml", "site", "site.old"])
 
 
+class Language(Case):
+    """The tables of LANGUAGE.md that the program can show, and the texts of faults."""
+    text = (ROOT / "docs/LANGUAGE.md").read_text()
+
+    def table(self, head):
+        """The cells of the rows of the table with this head."""
+        rows = self.text.partition(f"\n| {head} |\n")[2].partition("\n\n")[0].split("\n")[1:]
+        self.assertTrue(rows, head)
+        return [[cell.strip() for cell in row.strip("|").split("|")] for row in rows]
+
+    def test_documents(self):
+        for shown, answer in self.table("Document | Answer, where M(x) is the `math` element of x"):
+            with self.subTest(shown):
+                done = run([program(), "document"], stdin=shown.strip("`").encode())
+                if answer.startswith("refused"):
+                    self.expect(done, 1, b"", None)
+                else:
+                    self.expect(done, stdout="".join(self.parts(answer.partition(",")[0].partition(":")[0])).encode())
+
+    @staticmethod
+    def parts(answer):
+        """The texts of an answer, whose code stands as it is, and whose M(x) is markup."""
+        for formula, code in re.findall(r"M\(`([^`]*)`\)|`([^`]*)`", answer):
+            yield answer_of(formula) if formula else code
+
+    def test_faults(self):
+        """The definition of a fault's text is in quotation marks, with the number of bytes between two of them."""
+        definitions = (ROOT / "crates/latex2mathml/specs/Faults.antt").read_text()
+        texts = {"List" if name == "Unlisted" else name: "N".join(re.findall(r'codes "([^"]*)"', text))
+                 for name, text in re.findall(r"^fault_text \(?(\w+).*? = (.*)", definitions, re.M)}
+        texts["Refused"] = "the text of the refusal"
+        self.assertEqual({fault.strip("`"): text.strip("`") for fault, _, text in self.table("Fault | When | Text")}, texts)
+
+
 class Figures(Case):
-    """The figures of the README are those of the file that the bench writes."""
+    """The figures of the README match the file that the benchmark writes."""
 
     def test_instructions(self):
         counted = dict(reversed(line.split("  ", 1)) for line in (ROOT / "bench/instructions.txt").read_text().splitlines())
@@ -160,7 +194,7 @@ class Figures(Case):
 
 
 class Versions(Case):
-    """The version stands in one place, the newest heading of the change log, and all else says the same."""
+    """The version is the newest heading of the change log, and all other files say the same."""
 
     def test_all_are_one(self):
         newest = re.search(r"^## (\d+\.\d+\.\d+)", (ROOT / "CHANGELOG.md").read_text(), re.M)[1]

@@ -1,4 +1,4 @@
-"""Inputs and outputs of the program that fail, and what it asks of the system for them."""
+"""Inputs and outputs of the program that fail, and the calls that it makes for them."""
 import itertools
 import os
 import pathlib
@@ -25,7 +25,7 @@ READ_ERRORS = {"an error": 5, "an interruption": 4, "a wait": 11}
 # a full device, an interruption, a closed pipe, an error of the device, and nothing taken
 WRITE_ERRORS = {"a full device": 28, "an interruption": 4, "a closed pipe": 32, "an error": 5, "nothing": 0}
 
-# as much as the program asks for at once
+# the bytes that the program requests at a time
 ROOM = 4096
 
 
@@ -48,7 +48,7 @@ class Streams(support.Case):
 @support.requires("cc")
 class Inputs(Streams):
     def fails_at_each_read(self, word, error):
-        """One byte a call, and one call fails, each in turn, also the one that would tell the end. Nothing behind it is read."""
+        """One byte per call, and each call in turn fails, also the one that would report the end. Nothing after it is read."""
         given, answer = ANSWERS[word]
         for number in itertools.count(1):
             with self.subTest(call=number), open_input(given) as source:
@@ -73,21 +73,21 @@ for word, (name, error) in itertools.product(ANSWERS, READ_ERRORS.items()):
 
 
 def open_input(given):
-    """A file with these bytes, whose place a program that reads it moves."""
+    """A file with these bytes, whose position moves as a program reads it."""
     file = os.memfd_create("input")
     os.write(file, given)
     os.lseek(file, 0, os.SEEK_SET)
     return open(file, "rb", buffering=0)
 
 
-# bytes that are no text: alone, behind and before what is
+# bytes that are not UTF-8: alone, after text and before text
 NO_TEXTS = {"a beginning": b"$\xc3", "a surrogate": b"\xed\xa0\x80", "no byte of text": b"\xff", "behind a formula": b"$x$\x80",
             "before a formula": b"\xc3$x$"}
 
 
 @support.requires("cc")
 class NoText(Streams):
-    """Each answers that the bytes are no text, however they come."""
+    """Each reports that the bytes are not UTF-8, however they arrive."""
 
 
 for (name, given), word, step in itertools.product(NO_TEXTS.items(), ("inline", "block", "document"), (None, 1)):
@@ -123,7 +123,7 @@ for before in range(ROOM - 4, ROOM + 1):
 @support.requires("cc")
 class Outputs(Streams):
     def stops_at_each_write(self, word, error):
-        """One byte a call, and one call fails, or takes nothing where the error is 0. Nothing behind it is written."""
+        """One byte per call, and each call in turn fails, or takes nothing if the error is 0. Nothing after it is written."""
         given, answer = ANSWERS[word]
         for number in itertools.count(1):
             done, failed = self.run_with(word, given, fault=Fault("write", number, number, error), step=1)
@@ -145,7 +145,7 @@ for word, (name, error) in itertools.product(ANSWERS, WRITE_ERRORS.items()):
 
 class Pipes(Streams):
     def nobody_reads(self, word):
-        """The reader is gone before anything is written. The program is told so by an error, and no signal ends it."""
+        """The reader closes its end before anything is written. The program gets an error, and no signal ends it."""
         read, write = os.pipe()
         os.close(read)
         with open(write, "wb") as output:
@@ -162,7 +162,7 @@ class Pipes(Streams):
         self.nobody_reads("document")
 
     def test_signal(self):
-        """The same where the signal of a closed pipe does what the system has it do."""
+        """The same if the signal of a closed pipe has its default effect."""
         read, write = os.pipe()
         os.close(read)
         with open(write, "wb") as output:
@@ -170,7 +170,7 @@ class Pipes(Streams):
         self.expect(done, 1, None, stopped(0))
 
     def test_reader_goes(self):
-        """The reader goes while more is to come than a pipe holds."""
+        """The reader closes its end while there is more to write than a pipe holds."""
         given = b"z" * 1_000_000
         with support.scratch() as folder:
             (folder / "in").write_bytes(given)
@@ -212,7 +212,7 @@ class FullDevice(Streams):
 
 @support.requires("cc")
 class Readings(Streams):
-    """How often the program reads: two calls for a short input, of which one tells the end, and one more for each full room."""
+    """How often the program reads: two calls for a short input, of which one reports the end, and one more for each full buffer."""
 
     def reads(self, word, given):
         with open_input(given) as source:
@@ -234,7 +234,7 @@ class Readings(Streams):
                     self.assertLessEqual(self.reads(word, b"x" * size), size // ROOM + 2)
 
     def test_writes(self):
-        """An answer is written by one call, as long as the system takes it whole."""
+        """A result is written by one call, if the system takes it completely."""
         for word in ("inline", "document"):
             with open_input(b"x" * 100_000) as source:
                 _, counts = faulty.counts_of([faulty.program(), word], stdin=source)

@@ -1,4 +1,4 @@
-"""Files under a path: calls that fail on a walk, what changes meanwhile, devices that fill, and what a walk leaves behind."""
+"""Files under a path: calls that fail during a walk, files that change meanwhile, full devices, and what a walk leaves open."""
 import itertools
 import os
 import re
@@ -10,6 +10,7 @@ import unittest
 
 from tests import faulty, support
 from tests.faulty import ALL, Command, ERROR, Fault, X
+from tests.instructions import instructions
 
 UNREAD = "The input could not be read."
 UNLISTED = "The directory could not be listed."
@@ -25,7 +26,7 @@ NOBODY = 65534
 
 
 def remove(folder):
-    """Removes a folder, whatever rights are left in it."""
+    """Removes a folder, whatever its permissions are."""
     for path, inner, _ in os.walk(folder):
         for name in inner:
             os.chmod(os.path.join(path, name), 0o700)
@@ -39,7 +40,7 @@ def name_of(text):
 class Walks(support.Case):
     def setUp(self):
         self.scratch = self.enterContext(support.scratch())
-        # others may look into it, where a case runs as another user
+        # others may read it, because a case may run as another user
         self.scratch.chmod(0o755)
         self.site = self.scratch / "site"
 
@@ -77,9 +78,9 @@ CALLS = {
     ],
     # the bytes, and the end
     "read": [(f"/{file}", UNREAD, [file]) for file in FILES for _ in range(2)],
-    # where the entries of a directory stop to come, those that came are converted
+    # if the list of entries breaks off, the entries before that are converted
     "list": [("", BAD_ENTRY, FILES), ("", BAD_ENTRY, []), ("/m", BAD_ENTRY, ["m/b.html", "m/c.html"]), ("/m", BAD_ENTRY, [])],
-    # what the system does not tell anything of is left alone
+    # a path about which the system gives no information is left alone
     "look": [(None, None, kept) for kept in (FILES, ["a.html"], FILES[1:3], ["m/b.html"], ["m/c.html"], ["z.html"])],
 }
 
@@ -92,7 +93,7 @@ class EachCall(Walks):
     """One call fails, and all others are made."""
 
     def test_no_more_calls(self):
-        """No call is made behind those that fail in turn."""
+        """No call is made after those that fail."""
         for kind, error in ((kind, error) for kind in CALLS for error in ERRORS[kind]):
             with self.subTest(kind=kind, error=error):
                 self.anew()
@@ -203,7 +204,7 @@ class Meanwhile(Walks):
     def test_file_comes_behind_the_listing(self):
         self.after("a.html", 1, "cp z.html n.html", held={"n.html": b"$x$"})
 
-    # between the reading and the writing: what was read is what is answered
+    # between the reading and the writing: the text that was read is converted
     def test_file_goes_before_it_is_written(self):
         self.after("a.html", 2, "rm a.html", held={"a.html": X})
 
@@ -217,7 +218,7 @@ class Meanwhile(Walks):
 
 @unittest.skipUnless(os.geteuid() or shutil.which("setpriv"), "this user may open all files, and setpriv not found")
 class Rights(Walks):
-    """What a user may not open. Who may open everything becomes another user."""
+    """Files that a user may not open. If the user may open everything, another user runs the case."""
 
     def as_user(self, words):
         drop = [] if os.geteuid() else ["setpriv", f"--reuid={NOBODY}", f"--regid={NOBODY}", "--clear-groups"]
@@ -288,7 +289,7 @@ class Full(Walks):
 
 
 class Large(Walks):
-    """Documents of many megabytes are converted as any other."""
+    """Documents of many megabytes are converted like any other."""
 
     def is_converted(self, size):
         self.site.mkdir()
@@ -313,7 +314,7 @@ class Large(Walks):
 
 
 class Folders(Walks):
-    """Folders of as many files and folders as are wanted."""
+    """Folders with a given number of files and folders."""
 
     def make(self, files, folders=0, text=b"$x$"):
         remove(self.site)
@@ -343,16 +344,43 @@ class Many(Folders):
         self.expect(support.run([support.program(), "html", self.site], preexec_fn=limit), 0, b"")
         self.are_converted()
 
+    def test_few_descriptors_where_nothing_is_written(self):
+        """A file that takes none of its answer is closed too, and the walk goes on."""
+        def limit():
+            signal.signal(signal.SIGXFSZ, signal.SIG_IGN)
+            resource.setrlimit(resource.RLIMIT_FSIZE, (0, 0))
+            resource.setrlimit(resource.RLIMIT_NOFILE, (16, 16))
+        self.make(100)
+        with open(os.devnull, "wb") as output:
+            done = support.run([support.program(), "html", self.site], preexec_fn=limit, restore_signals=False, stdout=output)
+        self.assertEqual(done.stderr.count(b": " + STOPPED.format(0).encode()), 100, support.show(done.stderr))
+        self.expect(done, 1, None, None)
+
     def test_all(self):
-        """As many as a folder holds are converted."""
+        """All files of a large folder are converted."""
         self.make(5_000)
         self.expect(support.run([support.program(), "html", self.site]), 0, b"")
         self.are_converted()
 
+    def test_little_stack(self):
+        """No stack is taken for each name of a folder, nor for each line of what was not converted."""
+        def limit():
+            resource.setrlimit(resource.RLIMIT_STACK, (128 << 10, 128 << 10))
+        self.make(20_000, text=b"$$$")
+        done = support.run([support.program(), "html", self.site], preexec_fn=limit)
+        self.expect(done, 1, b"", None)
+        self.assertEqual(done.stderr.count(UNPAIRED.encode()), 20_000)
+
+
+# what a file holds, and how often a walk asks for memory for it
+EACH_FILE = {b"$x$": 8, b"no sign": 7, b"$$$": 10}
+# the names of a folder, and what was not converted: a list asks once more where it doubles
+MOST_DOUBLINGS = 6
+
 
 @support.requires("cc")
 class Counts(Folders):
-    """What a walk holds at its end, and how often it reads."""
+    """The memory that a walk has not freed at its end, how often it asks for memory, and how often it reads."""
 
     def counts(self, files, folders, text=b"$x$"):
         self.make(files, folders, text)
@@ -360,7 +388,7 @@ class Counts(Folders):
         return counts
 
     def leaves_nothing(self, text):
-        """What is held at the end is as much for a hundred as for one, and what was opened is closed."""
+        """The memory at the end is the same for a hundred files as for one, and all files are closed."""
         one, hundred = self.counts(1, 1, text), self.counts(100, 100, text)
         with self.subTest("blocks of memory"):
             self.assertEqual(hundred["held"], one["held"])
@@ -380,7 +408,7 @@ class Counts(Folders):
         self.leaves_nothing(b"\xff")
 
     def test_readings(self):
-        """A file is opened and read once, by rooms of 4,096 bytes, and opened once more to be written."""
+        """A file is opened and read once, 4,096 bytes at a time, and opened once more for writing."""
         for size in (0, 1, 4095, 4096, 1_000_000):
             with self.subTest(bytes=size):
                 counts = self.counts(1, 0, b"x" * size + b"$x$")
@@ -389,9 +417,38 @@ class Counts(Folders):
                 self.assertLessEqual(counts["open"], 3)
                 self.assertEqual(counts["write"], 1)
 
+    def test_requests(self):
+        """Memory is asked for a few times for each file, and for no list of a walk more than it doubles."""
+        for text, each in EACH_FILE.items():
+            with self.subTest(text):
+                few, many = self.counts(100, 0, text), self.counts(500, 0, text)
+                self.assertLessEqual(many["requests"] - few["requests"], 400 * each + MOST_DOUBLINGS)
+
     def test_unchanged_files_are_only_read(self):
         counts = self.counts(1, 0, b"no sign")
         self.assertEqual((counts["write"], counts["open"]), (0, 2))
+
+
+@support.requires("valgrind")
+class Instructions(Folders):
+    """Five times the files take five times the instructions, but for the sorting of their names."""
+
+    def judge(self, text):
+        counted = []
+        for files in (200, 1_000):
+            self.make(files, text=text)
+            counted.append(instructions([support.program(), "html", self.site]))
+        few, many = counted
+        self.assertLessEqual(many, 5.5 * few, f"{few:,} for 200 files, {many:,} for 1,000")
+
+    def test_converted(self):
+        self.judge(b"$x$")
+
+    def test_unchanged(self):
+        self.judge(b"no sign")
+
+    def test_refused(self):
+        self.judge(b"$$$")
 
 
 if __name__ == "__main__":

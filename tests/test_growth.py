@@ -8,23 +8,23 @@ import unittest
 from tests import faulty, support
 from tests.instructions import instructions
 
-# Four times the text takes at most so many times as much.
+# Four times the text takes at most this many times as much.
 MOST_TIMES = 4.1
-# What a run takes for itself, whatever its input.
+# What every run takes, whatever its input.
 OWN_BYTES = 64 << 10
-# A text or a list that doubles when it is full asks some 15 times for each hundred thousand members; up to five of them grow.
+# A text or a list that doubles when it is full needs about 15 allocations per hundred thousand members. Up to five of them grow.
 MOST_REQUESTS = 100
 
 MEGABYTE = 1_000_000
 
 
 def over_and_over(piece):
-    """A text of some size that is this piece over and over."""
+    """A text of a given size that repeats this piece."""
     return lambda size: piece.encode() * (size // len(piece.encode()))
 
 
 def between(before, piece, after):
-    """The same with a text before it and one behind it."""
+    """The same with a text before it and one after it."""
     inner = over_and_over(piece)
     return lambda size: before.encode() + inner(size) + after.encode()
 
@@ -65,7 +65,7 @@ TEXTS = {
     "a formula of a document": ("document", between("a $", "x+", "$ b"), 20_000),
 }
 
-# What asks for memory only where a text or a list is full, and not for each of its members.
+# Texts that cause allocations only if a text or a list is full, and not for each member.
 DOUBLING = {
     "letters": ("inline", over_and_over("x")),
     "colons": ("inline", over_and_over(":")),
@@ -111,7 +111,7 @@ class Growth(support.Case):
 
 @support.requires("valgrind")
 class Instructions(Growth):
-    """Four times a text takes four times the instructions."""
+    """Four times the text takes four times the instructions."""
 
     def judge(self, word, text, size):
         small, large = (instructions([support.program(), word], text(n)) for n in (size, 4 * size))
@@ -120,14 +120,14 @@ class Instructions(Growth):
 
 @support.requires("cc")
 class Memory(Growth):
-    """A million bytes of a text go through, and take four times the memory of a quarter of them."""
+    """A million bytes of a text are converted, with four times the memory of a quarter of them."""
 
     def judge(self, word, text, _):
         small, large = (self.count(word, text(n))["peak"] for n in (MEGABYTE // 4, MEGABYTE))
         self.assertLessEqual(large, MOST_TIMES * small + OWN_BYTES, f"{small:,} bytes are held, and of four times the text {large:,}")
 
     def test_200000_formulas(self):
-        """A document of so many formulas holds its text and its answer, and room to grow."""
+        """A document of many formulas needs memory for its text and its answer, and room for both to grow."""
         answer = faulty.X * 200_000
         done, counts = faulty.counts_of([support.program(), "document"], stdin=b"$x$" * 200_000)
         self.assertEqual((done.returncode, done.stdout == answer), (0, True))
@@ -136,7 +136,7 @@ class Memory(Growth):
 
 @support.requires("cc")
 class Requests(Growth):
-    """Memory is asked for where a text or a list is full, or for a part of the node that is made, and not else."""
+    """Allocations happen only if a text or a list is full, or for a part of the node that is made."""
 
     def judge(self, word, text):
         self.assertLessEqual(self.count(word, text(100_000))["requests"], MOST_REQUESTS)

@@ -1,4 +1,4 @@
-"""The harness counts each case, shows what failed, and ends what does not end."""
+"""The harness counts each case, shows what failed, and ends cases that do not end."""
 import io
 import os
 import shutil
@@ -10,12 +10,12 @@ from tests import samples
 from tests.modules import Module, Runs, classes_of, name_of
 from tests.results import Counts, Result, SKIP_NOTHING
 from tests.steps import Command, Library, Proofs, crates_below, set_aside
-from tests.support import scratch
+from tests.support import ROOT, Case, run, scratch
 from tools.progress import Screen, clock
 
 
 def outcomes_of(case, environment):
-    """What is told of each case of a class, by the ends of their names."""
+    """What is reported of each case of a class, by the ends of their names."""
     told = []
     with unittest.mock.patch.dict(os.environ, environment):
         unittest.defaultTestLoader.loadTestsFromTestCase(case).run(Result(lambda outcome, name, text: told.append((outcome, name, text))))
@@ -93,7 +93,7 @@ class Modules(unittest.TestCase):
 
 class Steps(unittest.TestCase):
     def run_step(self, text):
-        """A step of a program that prints so much and ends so."""
+        """A step with a program that prints this and ends with this status."""
         folder = self.enterContext(scratch())
         program = folder / "program"
         program.write_text(f"#!/bin/sh\n{text}\n")
@@ -140,7 +140,7 @@ class Steps(unittest.TestCase):
 
 
 class Products(unittest.TestCase):
-    """What `rt ci` and earlier checks built, in a repository of one crate."""
+    """The files that `rt ci` and earlier checks built, in a repository of one crate."""
 
     def setUp(self):
         self.root = self.enterContext(scratch())
@@ -158,7 +158,7 @@ class Products(unittest.TestCase):
                     self.assertFalse(self.rlib.exists())
                     self.rlib.mkdir()
                     (self.rlib / "one.rlib").write_text("of rt ci")
-                    # nothing of it may stand where `rt ci` reads
+                    # nothing of it may be where `rt ci` reads
                     self.assertEqual([file for file in self.root.rglob("stamp") if ".git" not in file.parts], [])
                     raise KeyboardInterrupt
                 self.assertEqual([file.name for file in self.rlib.iterdir()], ["stamp"])
@@ -174,6 +174,24 @@ class Products(unittest.TestCase):
         proofs.do(Screen(io.StringIO()))
         self.assertEqual(proofs.counts, Counts(passed=1))
         self.assertLess((self.root / "crates/one/out/one").stat().st_mtime, (self.root / "crates/one/src/lib.rt").stat().st_mtime)
+
+
+class Test(Case):
+    """What `./test` says last, and its status."""
+
+    def ends(self, name, status, last):
+        done = run([ROOT / "test", f"tests.samples.{name}"], env={**os.environ, SKIP_NOTHING: ""})
+        self.expect(done, status, None, b"")
+        self.assertEqual(done.stdout.decode().splitlines()[-1], last)
+
+    def test_passed(self):
+        self.ends("Sample.test_passes", 0, "1 passed, 0 failed")
+
+    def test_failed(self):
+        self.ends("Sample", 1, "5 passed, 3 failed")
+
+    def test_skipped(self):
+        self.ends("Sample.test_skipped", 0, "0 passed, 0 failed")
 
 
 class Times(unittest.TestCase):

@@ -1,6 +1,6 @@
-"""The instructions of each workload of `bench/` are those that stand in `bench/instructions.txt`, within a twentieth.
+"""The instructions of each workload of `bench/` are those of `bench/instructions.txt`, within 5 %.
 
-A change that makes the program dearer, or cheaper, is seen where it is made; `bench/measure.py --renew` then writes the file.
+So a change that makes the program slower or faster is noticed. `bench/measure.py --renew` then writes the file.
 """
 import sys
 import unittest

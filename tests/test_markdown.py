@@ -1,4 +1,4 @@
-"""The extension of Python-Markdown: what it finds, what it leaves alone, and what it makes of it."""
+"""The extension of Python-Markdown: the formulas that it finds, the text that it leaves alone, and its output."""
 import re
 import unittest
 
@@ -7,7 +7,7 @@ from tests.support import ROOT, Case, scratch
 
 OPEN = 'The token "RBrace" is expected, but the token "EOF" is found."'
 
-# Converts each text with its options, and answers the page and what was logged, or the error.
+# Converts each text with its options, and returns the page and the log, or the error.
 CONVERT = """
 import json, logging, sys
 import markdown
@@ -36,7 +36,7 @@ print(json.dumps([md.reset().convert(text) for text in json.load(sys.stdin)]))
 
 
 def converted(*texts, options=None, others=()):
-    """The pages that texts become, without links, and what was logged of each."""
+    """The pages of texts, without links, and the log of each."""
     return ask(environment("markdown"), CONVERT, [[text, {"page": False, **(options or {})}, others] for text in texts])
 
 
@@ -129,7 +129,7 @@ class Formulas(unittest.TestCase):
         })
 
     def test_where_no_element_can_stand(self):
-        """What has formulas' signs in an attribute stands there as it was written."""
+        """Dollar signs in an attribute are left unchanged."""
         self.check({
             '![$x$](i.png "a $y$")': '<p><img alt="$x$" src="i.png" title="a $y$" /></p>',
             '[a](u?$x$ "b $y$")': '<p><a href="u?$x$" title="b $y$">a</a></p>',
@@ -161,7 +161,7 @@ class Options(unittest.TestCase):
         self.assertIn("'R' is no whole name", said[0])
 
     def test_refused(self):
-        """The formula stands as it was written, and the rest is converted; the warning names the line."""
+        """The page shows the formula as it was written, and the rest is converted. The warning names the line."""
         text = "a\n\nb $x$\n$x$ ${x<\"$ c\n\n- $y$\n\n    $$\n    {y\n    $$\n"
         [[page, said]] = converted(text)
         reason = OPEN.replace('"', "&quot;")
@@ -171,7 +171,7 @@ class Options(unittest.TestCase):
         self.assertEqual(said, [f'latex2mathml: line 4: {{x<": {OPEN}', f"latex2mathml: line 8: {{y: {OPEN}"])
 
     def test_lines(self):
-        """Of formulas in lists, quotations, titles and notes. One that stands in code too has none."""
+        """The line of formulas in lists, quotations, titles and notes. If a formula is also in code, it has no line."""
         text = "`${a$`\n\n# ${a$ ${b$\n\n> b\n> $$\n> {c\n> $$\n\n1. d\n\n    ${e\n    f$ [^1]\n\n${b$ ${g$\n\n[^1]: ${h$\n"
         [[_, said]] = converted(text, others=["extra"])
         found = [re.match(r"latex2mathml: (?:line (\d+): )?\{(\w)", line).groups() for line in said]
@@ -189,7 +189,7 @@ class Options(unittest.TestCase):
             [f"line 2: {{x: {OPEN}"], ['line 1: \\foo: marked as an error: Undefined("Command(\\"foo\\")")']])
 
     def test_links(self):
-        """They stand at the beginning of a page that has formulas."""
+        """They are at the beginning of a page that has formulas."""
         links = '<link rel="stylesheet" href="{0}/latex2mathml.css">\n<script src="{0}/latex2mathml.js" defer></script>\n'
         for option, folder in [({}, "page"), ({"page": "/a&b"}, "/a&amp;b")]:
             with self.subTest(folder):
@@ -219,7 +219,7 @@ class Example(Case):
 @requires_python("markdown", "mkdocs")
 class MkDocs(Case):
     def test_readme(self):
-        """The README's lines of mkdocs.yml make a site whose pages link the files, also those in folders."""
+        """The README's lines of mkdocs.yml make a site whose pages link the files, also the pages in folders."""
         text = (ROOT / "integrations/python/README.md").read_text(encoding="utf-8")
         [options] = re.findall(r"```yaml\n(.*?)```", text, re.DOTALL)
         site, python = self.enterContext(scratch()), environment("markdown", "mkdocs")

@@ -1,6 +1,6 @@
-"""Random answers, read with Python's XML parser: each is well-formed, one `math` element, and obeys the child table.
+"""The markup of random formulas, read with Python's XML parser: it is one well-formed `math` element that obeys the child table.
 
-LATEX2MATHML_RANDOM says how many formulas are tried, and LATEX2MATHML_SEED which.
+LATEX2MATHML_RANDOM is the number of formulas, and LATEX2MATHML_SEED the seed.
 """
 import os
 import xml.etree.ElementTree as ElementTree

@@ -1,5 +1,5 @@
-"""Requests for memory that are refused, of calls of the library, of `run`, and of the whole program: each in turn, and then each
-with all that follow it, until a run makes fewer requests.
+"""Allocations that fail, in calls of the library, in `run`, and in the whole program: each one in turn, and then each one with all
+that follow it, until a run makes fewer allocations.
 """
 import itertools
 import unittest
@@ -12,7 +12,7 @@ OPEN_GROUP = b'The token "RBrace" is expected, but the token "EOF" is found."'
 WRONG_SIGNS = b"The number of dollar sings found is invalid."
 USAGE = b"usage: latex2mathml inline | block | document | html PATH\n"
 
-# formulas and documents, and what they come to
+# formulas and documents, and their results
 ERROR_FUNCTION = r"\erf ( x ) = \frac{ 2 }{ \sqrt{ \pi } } \int_0^x e^{- t^2} \, dt"
 OF_ERROR_FUNCTION = (
     "<mi>erf</mi><mo>(</mo><mi>x</mi><mo>)</mo><mo>=</mo><mfrac><mn>2</mn><msqrt><mi>π</mi></msqrt></mfrac>"
@@ -31,7 +31,7 @@ OF_GROUP = "<mrow><mi>a</mi><msup><mi>b</mi><mn>2</mn></msup></mrow>"
 RULES = " ".join(formula for formula, _ in cases.every_rule())
 OF_RULES = "".join(contents for _, contents in cases.every_rule())
 
-# the words of a call, its answer, and what it answers where memory is not found
+# the arguments of a call, its result, and its result if memory runs out
 CALLS = {
     "a formula": ("latex_to_mathml", ERROR_FUNCTION, b"answer: " + faulty.math(OF_ERROR_FUNCTION), NO_MEMORY),
     "an unknown command": ("latex_to_mathml", r"\foo", b"answer: " + faulty.math(OF_FOO), NO_MEMORY),
@@ -52,7 +52,7 @@ CALLS = {
     "a copy of a refusal": ("clone", "refusal", b"answer: equal", b"memory allocation failed"),
 }
 
-# a word of the program, its input, and its status and streams
+# an argument of the program, its input, and its status and streams
 RUNS = {
     "inline": ("inline", ERROR_FUNCTION, 0, faulty.math(OF_ERROR_FUNCTION) + b"\n", b""),
     "block": ("block", RULES, 0, faulty.math(OF_RULES, "block") + b"\n", b""),
@@ -79,7 +79,7 @@ WAYS = one, this_and_all_that_follow
 
 
 class Refused(support.Case):
-    """Each case runs a command with requests refused, and judges each outcome."""
+    """Each case runs a command with failing allocations, and checks each outcome."""
 
     def in_turn(self, words, way, judge, *, marked=False, stdin=b"", before=lambda: None):
         """Runs the command with each request refused, in this way, until a run makes fewer.
@@ -98,7 +98,7 @@ class Refused(support.Case):
 
 
 class Library(Refused):
-    """Calls of the library: they return out of memory, or what they return with ample memory."""
+    """Calls of the library: they return out of memory, or the same as with enough memory."""
 
 
 class Program(Refused):
@@ -139,7 +139,7 @@ def serve(word, text, status, out, errors, way):
 
 
 def run_of_each_job(way):
-    """A test of the program's crate, which judges by itself."""
+    """A test of the program's crate, which checks the outcome itself."""
     def case(self):
         tests = support.ROOT / "crates/latex2mathml_app/out/latex2mathml_app_tests"
         self.assertTrue(tests.exists(), f"{tests} is missing, which rt ci and rt test build")
@@ -148,7 +148,7 @@ def run_of_each_job(way):
 
 
 def walk_of_library(way):
-    """What `convert_html` answers: a line for each member of its list."""
+    """The result of `convert_html`: a line for each member of its list."""
     def case(self):
         folder = Folder(self.enterContext(support.scratch()) / "site")
 
@@ -162,7 +162,7 @@ def walk_of_library(way):
 
 
 def walk_of_program(way):
-    """A line for each member of the list, unless the line itself finds no memory."""
+    """A line for each member of the list, unless memory for the line runs out."""
     def case(self):
         folder = Folder(self.enterContext(support.scratch()) / "site")
 

@@ -11,7 +11,7 @@ from tests.support import ROOT, Case, c_library, requires, run, scratch
 
 PACKAGES = pathlib.Path("/usr/share/nodejs")  # Debian's
 
-# Reads [function of the module, arguments] and prints the answer, or the error's class, name, code and message.
+# Reads [function of the module, arguments] and prints the result, or the error's class, name, code and message.
 CALLER = """
 const package_ = require(process.argv[1]);
 const cases = JSON.parse(require('fs').readFileSync(0));
@@ -42,13 +42,13 @@ console.log(JSON.stringify(cases.map(([source, options, env]) => {
 
 
 def node_gyp():
-    """The script of node-gyp, where there is one: npm has it, also where it is no command."""
+    """The script of node-gyp, if there is one. npm has it even if it is not a command."""
     places = ["/usr/lib/node_modules/npm/node_modules/node-gyp/bin/node-gyp.js", PACKAGES / "node-gyp/bin/node-gyp.js"]
     return next((place for place in map(pathlib.Path, places) if place.exists()), None)
 
 
 class Package(Case):
-    """A copy of the package with its addon, built once a class."""
+    """A copy of the package with its addon, built once per class."""
 
     @classmethod
     def setUpClass(cls):
@@ -66,7 +66,7 @@ class Package(Case):
         return above / "node"
 
     def node(self, script, *words, cases=None, timeout=60):
-        """What a script prints, read as JSON where it gets cases so."""
+        """What a script prints, read as JSON if its cases are JSON."""
         environment = {**os.environ, "NODE_PATH": str(PACKAGES)}
         stdin = b"" if cases is None else json.dumps(cases).encode()
         done = run(["node", "-e", script, "--", *words], stdin=stdin, env=environment, timeout=timeout)
@@ -117,6 +117,29 @@ class Calls(Package):
             }));
         """, self.package)
         self.assertEqual(answer.splitlines(), [answer_of("x")] * 4)
+
+    def test_nothing_is_kept(self):
+        """What a call takes is given back, also where it is refused: many calls take no more memory than a few."""
+        script = """
+            const { formula, document } = require(process.argv[1]);
+            const call = (convert, text) => { try { convert(text); } catch { } };
+            const long = 'x'.repeat(300_000);
+            const texts = [[formula, long], [formula, '{' + long], [document, long], [document, '$' + long]];
+            const held = texts.map(([convert, text]) => {
+                const resident = count => {
+                    for (let i = 0; i < count; i++) call(convert, text);
+                    global.gc();
+                    return process.memoryUsage().rss;
+                };
+                return -resident(20) + resident(200);
+            });
+            console.log(JSON.stringify(held));
+        """
+        done = run(["node", "--expose-gc", "-e", script, "--", self.package], timeout=300)
+        self.expect(done)
+        for kind, grown in zip(("a formula", "a refused formula", "a document", "a refused document"), json.loads(done.stdout), strict=True):
+            with self.subTest(kind):
+                self.assertLess(grown, 100 * 300_000)
 
     def test_names(self):
         cases = json.loads((ROOT / "integrations/names-cases.json").read_text())
@@ -171,7 +194,7 @@ class MarkdownIt(Package):
         return page
 
     def check(self, source, page, **options):
-        """Compares a page, where `<i>x</i>` and `<b>x</b>` stand for the answers of x in a line and in a block."""
+        """Compares a page, in which `<i>x</i>` and `<b>x</b>` stand for the markup of x in a line and in a block."""
         with self.subTest(source):
             wanted = page
             for tag, word in (("i", "inline"), ("b", "block")):

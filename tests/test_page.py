@@ -1,4 +1,4 @@
-"""What a page holds, and what a browser draws of it, once the files of page/ have put it right."""
+"""What a page contains, and what a browser draws, after the files of page/ have corrected it."""
 import contextlib
 import html
 import http.server
@@ -14,10 +14,10 @@ from tests import support
 
 PAGES = support.ROOT / "tests/page"
 
-# How wide the window of a page is, where it is not 1,000 pixels.
+# The width of the window of a page, if it is not 1,000 pixels.
 WIDTHS = {"narrow.html": 320}
 
-# The longest that a browser may take to start and to judge a page.
+# The seconds that a browser may take to start and to check a page.
 LONGEST = 120
 
 TALL = r"\frac{\frac{a}{b}}{\frac{c}{d}}"
@@ -33,7 +33,7 @@ user_pref("toolkit.telemetry.reportingpolicy.firstRun", false);
 
 
 class Server(http.server.ThreadingHTTPServer):
-    """Gives the pages of a folder to a browser, and keeps what they send back."""
+    """Serves the pages of a folder to a browser, and keeps what they send back."""
 
     def __init__(self, folder):
         self.sent = queue.Queue()
@@ -82,7 +82,7 @@ def started(words, home):
 
 
 def judged(words_of, site, pages):
-    """What a browser, which `words_of` starts, judges of the pages of a folder: a list for each page."""
+    """The results of the pages of a folder in a browser, which `words_of` starts: a list for each page."""
     frames = "".join(f'<iframe src="{page}" width="{WIDTHS.get(page, 1000)}" height="2000"></iframe>' for page in pages)
     (site / "index.html").write_text(f"<!DOCTYPE html>{frames}")
     with support.scratch() as home, Server(site) as server:
@@ -101,7 +101,7 @@ def judged(words_of, site, pages):
     return verdicts
 
 
-# How a sign of each class stands between two others, with all spaces written out.
+# A sign of each class between two others, with all spaces written out.
 SPACED = {
     "ordinary": r"a {} \: - \: b",
     "operator": r"a \, {} \, - b",
@@ -143,12 +143,12 @@ def table():
 
 
 def commands(text):
-    """The commands that stand in a part of docs/COMMANDS.md, each once."""
+    """The commands in a part of docs/COMMANDS.md, each once."""
     return sorted({name for name in re.findall(r"`(\\[^`]*)`", text) if len(name) > 1})
 
 
 def signs():
-    """What is read as a sign: the operators and parentheses among the commands, sums and integrals, and single characters."""
+    """All signs: the operators and parentheses among the commands, sums and integrals, and single characters."""
     listed = table()
     operators = listed[listed.index("\n## Operators"):listed.index("\n## Parentheses")]
     parts = [operators, *re.findall(r"\n- `(?:Paren|BigOp|Integral)\(.*?(?=\n- )", listed, re.DOTALL)]
@@ -156,7 +156,7 @@ def signs():
 
 
 def build_site(site):
-    """A folder as a site builder leaves it: pages whose formulas the program has converted, and the files of page/."""
+    """A folder like the output of a site builder: pages whose formulas the program has converted, and the files of page/."""
     shutil.copytree(PAGES, site, dirs_exist_ok=True)
     shutil.copytree(support.ROOT / "page", site / "page")
     insert(site / "spaces.html", [f'<div title="{html.escape(name)}">\n<p>{formula}</p>\n<p>{spaced}</p>\n</div>'
@@ -192,7 +192,7 @@ class Gallery(support.Case):
 
 
 class Links(support.Case):
-    """The pages of cases link the files of page/ as people are told to."""
+    """The pages of cases link the files of page/ as its README says."""
 
     def test_cases_link_as_the_readme_says(self):
         readme = (support.ROOT / "page/README.md").read_text()
@@ -205,7 +205,7 @@ class Links(support.Case):
 
 
 class Browser(support.Case):
-    """Opens the pages of tests/page in a browser. Each judgement that they make is a case."""
+    """Opens the pages of tests/page in a browser. Each result that they report is a case."""
 
     def judge(self, words_of):
         site = self.enterContext(support.scratch())

@@ -10,13 +10,13 @@ from tests.support import ROOT, Case, program, requires, run, scratch
 FOLDER = ROOT / "integrations/pandoc"
 FILTER = FOLDER / "latex2mathml.lua"
 
-# Answers every word with one empty element, and keeps what it read.
+# Returns one empty element for every argument, and keeps what it read.
 RECORDER = """#!/bin/sh
 cat >"$0.input"
 echo '<math ></math>'
 """
 
-# Is the program, and writes a line for each time that it is run.
+# Runs the program, and writes a line for each run.
 COUNTER = """#!/bin/sh
 echo "$1" >>"$0.count"
 exec {program} "$@"
@@ -49,7 +49,7 @@ class Filter(Case):
         return done.stdout.decode()
 
     def places(self, formulas, display="InlineMath", converter=None, warned=False, **options):
-        """What stands in the places of formulas that no syntax of pandoc's has to spell."""
+        """The output for formulas that are given without any syntax of pandoc."""
         version = json.loads(run(["pandoc", "-t", "json"]).stdout)["pandoc-api-version"]
         meta = {f"latex2mathml-{name}": meta_of(value) for name, value in options.items()}
         blocks = [{"t": "Plain", "c": [{"t": "Math", "c": [{"t": display}, latex]}]} for latex in formulas]

@@ -1,4 +1,4 @@
-"""Converts the files of a folder, each by its own path and all by the folder's, and looks at what each holds then."""
+"""Converts the files of a folder, each by its own path and all by the folder's, and checks their contents."""
 from tests.cases import math
 from tests.support import Case, program, run, scratch
 
@@ -21,7 +21,7 @@ class Paths(Case):
             (self.folder / name).write_bytes(held)
 
     def html(self, path, errors=b""):
-        """Checks what the program says of the path; each line of errors is the end of a path, and the fault."""
+        """Checks the program's messages for the path. Each line of errors is the end of a path, and the fault."""
         lines = b"".join(ERROR + str(self.folder).encode() + line for line in errors.splitlines(keepends=True))
         self.expect(run([program(), "html", path]), 1 if errors else 0, b"", lines)
 

@@ -1,4 +1,4 @@
-"""The program, through the launcher: its words, its streams, its status, and the files that it converts."""
+"""The program, through the launcher: its arguments, its streams, its status, and the files that it converts."""
 import os
 import resource
 import shutil
@@ -33,7 +33,7 @@ UNPAIRED = "The number of dollar sings found is invalid."
 
 
 def closing(*streams):
-    """Has a process start with these streams closed."""
+    """Starts a process with these streams closed."""
     def close():
         for stream in streams:
             os.close(stream)
@@ -61,7 +61,7 @@ class Formulas(Case):
                 self.expect(run([LAUNCHER, word], stdin=given), 1, b"", line)
 
     def test_a_million_braces(self):
-        """They are read with a stack of 8 MiB, and one that does not close is found."""
+        """They are read with a stack of 8 MiB, and one that is not closed is refused."""
         def limit():
             resource.setrlimit(resource.RLIMIT_STACK, (8 << 20, 8 << 20))
         opened, closed = b"{" * 1_000_000, b"}" * 1_000_000
@@ -118,7 +118,7 @@ class Words(Case):
                 self.expect(run([LAUNCHER, *words], stdin=b"x<y"), 2, b"", USAGE)
 
     def test_wrong_ones_leave_the_input_alone(self):
-        """One line comes though nothing is ever written to the input."""
+        """One line is printed although nothing is ever written to the input."""
         reading, writing = os.pipe()
         with open(reading, "rb") as never, open(writing, "wb"):
             self.expect(run([LAUNCHER, "markup"], stdin=never, timeout=20), 2, b"", USAGE)
@@ -157,7 +157,7 @@ class Streams(Case):
             self.expect(run([LAUNCHER, "inline"], stdin=subprocess.DEVNULL, **quiet, **closing(0, 2)), 1, b"", None)
 
     def test_what_is_read_of_the_input(self):
-        """Wrong words leave the input to who comes next, and right words read all of it."""
+        """With wrong arguments the program leaves the input to the next reader, and with right ones it reads all of it."""
         for words, status, left in [(["markup"], 2, b"x<y"), (["inline"], 0, b"")]:
             with self.subTest(words), open(self.folder / "in", "rb", buffering=0) as given:
                 self.assertEqual(run([LAUNCHER, *words], stdin=given).returncode, status)
@@ -187,7 +187,7 @@ class Site(Case):
                 self.assertEqual(file.read(), text, name)
 
     def convert(self, path, faults=(), **more):
-        """Converts what lies under a path; the faults are pairs of a path and its line."""
+        """Converts the documents under a path. The faults are pairs of a path and its line."""
         lines = b"".join(error(f"{at}: {text}") for at, text in faults)
         done = run([self.command, "html", path], stdin=subprocess.DEVNULL, **more)
         self.expect(done, 1 if faults else 0, b"", lines)
@@ -210,7 +210,7 @@ class Files(Site):
         self.expect_files(self.AFTER)
 
     def test_a_folder_once_more(self):
-        """No file is written where nothing in it changes."""
+        """A file is not written if nothing in it changes."""
         self.put(self.AFTER)
         for file in self.site.rglob("*.*"):
             os.utime(file, (0, 0))
@@ -246,13 +246,13 @@ class Files(Site):
             self.expect_files({"x": b"$x$"})
 
     def test_order(self):
-        """That of the names' bytes, a subfolder whole in its place, whatever stands behind it."""
+        """The order of the names' bytes, with each subfolder completely in its place, whatever follows it."""
         order = ["Z.html", "a.html", "b/a/z.html", "b/b.html", "b-.html", "b.html", "ba.html", "z.html", "é/a.html"]
         self.put(dict.fromkeys(reversed(order), b"$"))
         self.convert(self.site, [(self.site / name, UNPAIRED) for name in order])
 
     def test_links(self):
-        """They are followed: to a file, which stays a link, to a folder, to nothing, and to itself."""
+        """Links are followed: to a file, which stays a link, to a folder, to nothing, and to itself."""
         self.put({"aside/a.html": b"$x$", "alone": b"$x$"})
         walked = self.site / "walked"
         walked.mkdir()
@@ -263,7 +263,7 @@ class Files(Site):
         self.assertTrue((walked / "b.html").is_symlink())
 
     def test_a_folder_in_itself(self):
-        """The system follows no more than so many links in one path, and what stands behind them is left alone."""
+        """The system follows only a limited number of links in one path, and what is after them is left alone."""
         (self.site / "d").symlink_to(".")
         self.put({"a.html": b"$x$"})
         self.convert(self.site)
@@ -283,7 +283,7 @@ class Files(Site):
         self.expect_files({name: X if name in names[:64] else b"$x$" for name in names})
 
     def test_names_that_are_no_text(self):
-        """One fault each, before the other entries, and nothing behind them is converted."""
+        """Each has one fault, before the other entries, and nothing below them is converted."""
         try:
             self.put({b"b/\xff/a.html": b"$x$", b"b/\xff.html": b"$x$"})
         except OSError as why:
@@ -294,7 +294,7 @@ class Files(Site):
         self.expect_files({b"b/\xff/a.html": b"$x$", b"b/\xff.html": b"$x$", "c.html": X})
 
     def test_closed_streams(self):
-        """They change no status."""
+        """They do not change the status."""
         self.put({"a.html": b"$$$", "b.html": b"$x$"})
         quiet = {"stdout": subprocess.DEVNULL, "stderr": subprocess.DEVNULL}
         done = run([LAUNCHER, "html", self.site], stdin=subprocess.DEVNULL, **quiet, **closing(0, 1, 2))
@@ -311,7 +311,7 @@ class Files(Site):
 
 
 class Rights(Site):
-    """What may not be opened. Where this user may open everything, as root may, another one tries it."""
+    """Files that may not be opened. If this user may open everything, as root may, another user runs the case."""
 
     def setUp(self):
         super().setUp()

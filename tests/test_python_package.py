@@ -11,7 +11,7 @@ LESS = "<mi>x</mi><mo>&lt;</mo><mi>y</mi>"
 LESS_INLINE, LESS_BLOCK = MATH.format("inline", LESS), MATH.format("block", LESS)
 OPEN = 'The token "RBrace" is expected, but the token "EOF" is found."'
 
-# Calls each function with each list of arguments, and answers what it returned, or the error's name and text.
+# Calls each function with each list of arguments, and prints the result, or the error's name and text.
 CALLS = """
 import json, sys
 import latex2mathml_proved
@@ -60,7 +60,7 @@ print(json.dumps([Renderer(option).render(formula) for option, formula in json.l
 @requires_python()
 class Wheel(Case):
     def test_platform(self):
-        """It asks for the newest version of the C library that the shared library does, and for no more."""
+        """It requires the newest version of the C library that the shared library needs, and no newer one."""
         symbols = run(["objdump", "-T", c_library() / "liblatex2mathml.so"]).stdout.decode()
         major, minor = max((int(a), int(b)) for a, b in re.findall(r"GLIBC_(\d+)\.(\d+)", symbols))
         self.assertEqual(wheel().name.partition("-py3-")[2], f"none-manylinux_{major}_{minor}_x86_64.whl")
@@ -89,8 +89,21 @@ class Wheel(Case):
             'note: Revealed type is "builtins.str"', 'note: Revealed type is "Union[builtins.str, None]"',
             'error: Argument 1 to "document" has incompatible type "bytes"; expected "str"  [arg-type]'])
 
+    def test_licence(self):
+        """It comes with the package, as its terms ask."""
+        with zipfile.ZipFile(wheel()) as packed:
+            [licence] = [name for name in packed.namelist() if name.endswith("/LICENSE")]
+            self.assertEqual(packed.read(licence), (ROOT / "LICENSE").read_bytes())
+
+    def test_what_is_opened_is_closed(self):
+        """No file is left for the collector to close, of which it would warn."""
+        script = ("import sys\nimport latex2mathml_proved.rendering as it\n"
+                  "it.Renderer().render('x')\nit.Renderer().render('{')\nit.copy_page(sys.argv[1])")
+        folder = self.enterContext(scratch()) / "site"
+        self.expect(run_python(environment(), "-W", "always::ResourceWarning", "-c", script, folder), 0, b"", b"")
+
     def test_page_files(self):
-        """`python3 -m latex2mathml_proved FOLDER` puts them into a folder, also one that has them."""
+        """`python3 -m latex2mathml_proved FOLDER` copies them into a folder, even if it has them already."""
         folder = self.enterContext(scratch()) / "site"
         for _ in range(2):
             self.expect(run_python(environment(), "-m", "latex2mathml_proved", folder), stdout=b"")
@@ -103,7 +116,7 @@ class Calls(Case):
         return ask(environment(), CALLS, calls)
 
     def test_what_the_texts_show(self):
-        """The README's lines and the package's own come to what they say."""
+        """The examples of the README and of the package give the results that they show."""
         self.expect(run_python(environment(), "-m", "doctest", ROOT / "integrations/python/README.md"), 0, b"", b"")
         own = "import doctest, latex2mathml_proved; print(doctest.testmod(latex2mathml_proved))"
         self.expect(run_python(environment(), "-c", own), 0, b"TestResults(failed=0, attempted=3)\n", b"")
@@ -153,7 +166,7 @@ class Names(unittest.TestCase):
                 ask(environment(), REPLACE, [[option, "x"]])
 
     def test_usual_names(self):
-        """Each is lacking in the library, and what stands for it is read, where it takes what it takes."""
+        """The library lacks each name, and reads its replacement, with an argument if it takes one."""
         names = usual_names()
         places = ["{}", "{} x", "{}(", "{}{{x}}{{y}}", "x^{}"]
         asked = [[option, place.format(name)] for name in names for option in (False, True) for place in places]
@@ -165,17 +178,44 @@ class Names(unittest.TestCase):
                 self.assertIn(None, replaced)
 
     def test_file_is_plain(self):
-        """One name a line, and no escape but that of the backslash: a few lines of any language read it."""
+        """One name per line, and no escape except that of the backslash, so that a few lines of any language can read it."""
         lines = NAMES.read_text(encoding="utf-8").splitlines()
         self.assertEqual([lines[0], lines[-1]], ["{", "}"])
         for line in filter(None, lines[1:-1]):
             self.assertRegex(line, r'^"\\\\([A-Za-z]+|[^A-Za-z"\\])": "([^"\\]|\\\\)*",?$')
 
 
+# Renders formulas, and answers how often the library was called for each.
+COUNTED = """
+import json, sys
+import latex2mathml_proved.rendering as it
+
+calls = 0
+
+def counted(*words):
+    global calls
+    calls += 1
+    return convert(*words)
+
+convert, it.formula = it.formula, counted
+
+def count(formula):
+    global calls
+    calls = 0
+    it.Renderer().render(formula)
+    return calls
+
+print(json.dumps([count(formula) for formula in json.load(sys.stdin)]))
+"""
+
+
 @requires_python()
 class Renderings(unittest.TestCase):
+    def test_each_formula_is_converted_once(self):
+        self.assertEqual(ask(environment(), COUNTED, ["x", "{x", "\\foo"]), [1, 1, 1])
+
     def test_faults(self):
-        """A refused formula stands as it was written; a marked one is drawn; a warning says what is wrong with either."""
+        """A refused formula is shown as it was written, and a marked one is drawn. A warning says what is wrong with either."""
         asked = [[True, "{\\le<\"&"], [True, "a \\foo b \\bar"], [True, "\\<"], [True, "a \\le b"], [True, "{\\$"]]
         refused, marked, escaped, sound, dollar = ask(environment(), RENDER, asked)
         reason = OPEN.replace('"', "&quot;")

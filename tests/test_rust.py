@@ -9,7 +9,7 @@ from tests.support import ROOT, Case, c_library, requires, run, scratch
 CRATE = ROOT / "integrations/rust"
 MEGABYTE = 1 << 20
 
-# What is written for the crate that has these calls.
+# A program that was written for the crate.
 MANIFEST = """[package]
 name = "site"
 version = "0.1.0"
@@ -43,7 +43,7 @@ SENTENCE = "Let $x$ be. "
 
 
 def limited(megabytes):
-    """Leaves a process so much memory to ask for."""
+    """Limits the memory that a process may allocate."""
     return lambda: resource.setrlimit(resource.RLIMIT_AS, (megabytes * MEGABYTE, megabytes * MEGABYTE))
 
 
@@ -107,7 +107,7 @@ class Crate(Case):
     def test_little_memory(self):
         page = self.example()
         prose = "No formula. ".encode() * (8 * MEGABYTE // 12)
-        # the likely room would be half a gigabyte
+        # the first guess of the buffer would be half a gigabyte
         done = run([page], stdin=prose, preexec_fn=limited(200))
         self.expect(done, stdout=None)
         self.assertIn(prose, done.stdout)

@@ -1,4 +1,4 @@
-"""The extension of Sphinx: projects that are built, beside what Sphinx's own renderer makes of the same."""
+"""The extension of Sphinx: projects that are built, compared with the output of Sphinx's own renderer."""
 import re
 import unittest
 
@@ -32,7 +32,7 @@ class Project(Case):
         return (self.out / f"{name}.html").read_text(encoding="utf-8")
 
     def built(self, conf, text, *words, **more):
-        """The page that a text becomes, and what the build warns of."""
+        """The page of a text, and the warnings of the build."""
         self.write(conf, index=f"Title\n=====\n\n{text}\n")
         done = self.build(*words, **more)
         self.expect(done, 0, b"", None)
@@ -40,7 +40,7 @@ class Project(Case):
 
 
 def formulas(page):
-    """The formulas of a page, with what is around each."""
+    """The formulas of a page, with the element around each."""
     return re.findall(r'<(?:span|div) class="math [^>]*>\s*(?:<span class="eqno">.*?</span>)?(<(?:math|code) .*?</(?:math|code)>)</(?:span|div)>', page, re.DOTALL)
 
 
@@ -54,7 +54,7 @@ class Markup(Project):
         self.assertIn(f'<div class="math notranslate nohighlight">\n{math.format("block")}</div>\n', page)
 
     def test_rows(self):
-        """Rows and equations are lines of one table; what is within braces, fences and environments makes none."""
+        """Rows and equations are lines of one table. Those within braces, fences and environments are not."""
         matrix = r"\begin{matrix} a & b \\ c & d \end{matrix}"
         for latex, rows, cells in [
             (r"a &= b \\ &= c", 2, 4),
@@ -96,7 +96,7 @@ class Markup(Project):
 
 @requires_python("sphinx")
 class Numbers(Project):
-    """All but the formulas stands as Sphinx's `mathjax` renderer has it, on pages of every kind."""
+    """Everything except the formulas is as with Sphinx's `mathjax` renderer, on pages of every kind."""
 
     TEXT = """
 Title
@@ -159,7 +159,7 @@ class Pages(Project):
         return re.findall(r'(?:href|src)="([^"]*latex2mathml\.(?:css|js))(?:\?[^"]*)?"', page)
 
     def test_page_files(self):
-        """They are copied, and linked where a page has formulas."""
+        """They are copied, and linked if a page has formulas."""
         plain = "Title\n=====\n\nNo formula.\n"
         self.write(CONF, index=f"{plain}\n.. toctree::\n\n   with\n", **{"with": ":math:`x`\n"})
         self.expect(self.build(), 0, b"", None)
@@ -180,7 +180,7 @@ class Pages(Project):
         self.assertIn(r"\(x\)", page)
 
     def test_parallel(self):
-        """Many pages, read and written by several processes, are those of one."""
+        """Many pages, read and written by several processes, are the same as with one process."""
         pages = {f"page{n}": f"Page\n====\n\n.. math:: x_{{{n}}}\n   :label: l{n}\n\n:math:`{{{n}` :eq:`l{n}`\n" for n in range(30)}
         toc = "Title\n=====\n\n.. toctree::\n\n" + "".join(f"   {name}\n" for name in pages)
         self.write(CONF, index=toc, **pages)
@@ -195,7 +195,7 @@ class Pages(Project):
         self.assertEqual(made[0], made[1])
 
     def test_readme(self):
-        """The README's lines of conf.py are all that is wanted."""
+        """The README's lines of conf.py are enough."""
         text = (ROOT / "integrations/python/README.md").read_text(encoding="utf-8")
         [conf] = re.findall(r"In `conf.py`:\n\n```python\n(.*?)```", text, re.DOTALL)
         page, warnings = self.built(conf, r":math:`\R`")
@@ -216,7 +216,7 @@ class Faults(Project):
         return [(int(line), text) for line, text in re.findall(r"index\.rst:(\d+): WARNING: (.*)", said)]
 
     def test_refused(self):
-        """The formula stands as it was written, and the build goes on; the warning names the line."""
+        """The page shows the formula as it was written, and the build goes on. The warning names the line."""
         page, said = self.built(CONF, "One\ntwo :math:`{x<y` three.\n\n* An item\n  with :math:`{a`\n\n.. math::\n\n   {b &= c\n\n:math:`d`")
         reason = OPEN.replace('"', "&quot;")
         code = [f'<code class="latex2mathml-refused" title="{reason}">{{{it}</code>' for it in ("x&lt;y", "a", "b &amp;= c")]

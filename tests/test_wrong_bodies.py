@@ -1,4 +1,4 @@
-"""The table of wrong bodies in docs/WRONG_BODIES.md, held against the edits, the code and the definitions."""
+"""The table of wrong bodies in docs/WRONG_BODIES.md, compared with the edits, the code and the definitions."""
 import collections
 import functools
 import itertools
@@ -14,7 +14,7 @@ PROMISING = ("latex2mathml_tokens", "latex2mathml_nodes", "latex2mathml_formulas
 
 MOST = 110
 
-# What a clause without a name is called.
+# The name of a clause without a name.
 UNNAMED = "ensures"
 
 Row = collections.namedtuple("Row", "line cells")
@@ -22,7 +22,7 @@ Contract = collections.namedtuple("Contract", "clauses body")
 
 
 def quoted(cell):
-    """The words of a cell that stand in backticks."""
+    """The words of a cell that are in backticks."""
     return re.findall(r"`([^`]+)`", cell)
 
 
@@ -79,7 +79,7 @@ def contracts(crate):
 
 
 def called(line, around):
-    """The name in the table of the function that the line begins, where it is public."""
+    """The name in the table of the function that begins on the line, if it is public."""
     function = re.match(r"( {4})?(pub )?(?:extern \"C\" )?fn (\w+)", line)
     if not function:
         return None
@@ -96,13 +96,13 @@ def called(line, around):
 
 
 def implemented(around):
-    """`TRAIT for TYPE`, where the lines around implement a trait for a public type."""
+    """`TRAIT for TYPE`, if the lines around implement a trait for a public type."""
     found = re.match(r"impl(?:<.*?>)? (?:\w+::)*(\w+(?:<.*?>+)?) for (\w+)", around or "")
     return f"{found[1]} for {found[2]}" if found and found[2] in public_types() else None
 
 
 def contract(lines, at):
-    """The clauses of the function that begins at the line, and its body, which is empty where it has none."""
+    """The clauses of the function that begins on the line, and its body, which is empty if it has none."""
     indent = re.match(r" *", lines[at])[0]
     clauses = []
     for number, line in enumerate(lines[at:], at):
@@ -122,7 +122,7 @@ def body(lines, indent):
 
 
 class WrongBodies(unittest.TestCase):
-    """Each promise has a wrong body, and each wrong body stands for a promise."""
+    """Each promise has a wrong body, and each wrong body breaks a promise."""
 
     def test_are_few(self):
         self.assertLessEqual(len(edits()), MOST)
@@ -163,7 +163,7 @@ class WrongBodies(unittest.TestCase):
     def test_each_rule_has_two(self):
         grammar = (ROOT / "crates/latex2mathml_formulas/specs/Grammar.antt").read_text()
         rules = set(re.findall(r"^rule \(?(\w+)", grammar, re.M)) - {"pub"}
-        around = {name for name in ("core_at_end", "primed", "scripted") if re.search(rf"\b{name} :", grammar)}
+        around = {name for name in ("core_at_end", "rule_after_core", "rule_after_single") if re.search(rf"\b{name} :", grammar)}
         table = rows("The grammar")
         self.assertEqual({name for row in table for name in quoted(row.cells[0])}, rules | around)
         for row in table:
@@ -198,7 +198,7 @@ def laws():
 
 
 def unapplied(path):
-    """What keeps an edit from being applied: an `old:` text that stands not once where it is to be replaced."""
+    """Why an edit cannot be applied: an `old:` text that does not occur exactly once."""
     texts, file, faults = {}, None, []
     old = None
     for line in path.read_text().split("\n"):

@@ -1,4 +1,4 @@
-"""A folder of documents of which some are refused, and what a walk of it may answer where memory is wanting."""
+"""A folder of documents, some of which are refused, and the results that a walk may have if memory runs out."""
 import pathlib
 
 X = b'<math xmlns="http://www.w3.org/1998/Math/MathML" display="inline"><mi>x</mi></math>'
@@ -6,7 +6,7 @@ X = b'<math xmlns="http://www.w3.org/1998/Math/MathML" display="inline"><mi>x</m
 UNPAIRED = b"The number of dollar sings found is invalid."
 NO_TEXT = b"The input is not UTF-8 text."
 
-# what a request that was refused on a walk may come to
+# the possible faults of a failed allocation during a walk
 WANTING = {
     b"Memory could not be found.",
     b"The directory could not be listed.",
@@ -15,7 +15,7 @@ WANTING = {
     b"The file could not be created anew.",
 }
 
-# each file, what it holds, and what after a walk with ample memory
+# each file, its contents, and its contents after a walk with enough memory
 FILES = {
     ".html": (b"$x$", b"$x$"),
     "a.html": (b"$x$", X),
@@ -33,7 +33,7 @@ CONVERTED = ["a.html", "g/h.html", "z.html"]
 
 
 class Folder:
-    """The folder at a path. `fill` makes it anew; `judge` looks at what a walk left and told."""
+    """The folder at a path. `fill` makes it anew. `judge` checks the files and the lines after a walk."""
 
     def __init__(self, path):
         self.path = pathlib.Path(path)
@@ -46,11 +46,11 @@ class Folder:
             file.write_bytes(held)
 
     def stands(self, name):
-        """Whether the file holds what it is to hold after a walk with ample memory."""
+        """Whether the file has the contents that it has after a walk with enough memory."""
         return (self.path / name).read_bytes() == FILES[name][1]
 
     def keeps(self, name):
-        """Whether the file holds what it held."""
+        """Whether the file is unchanged."""
         return (self.path / name).read_bytes() == FILES[name][0]
 
     def told(self, lines):
@@ -81,14 +81,14 @@ class Folder:
             case.assertTrue(any(self.differs_at(told, top) for top in WALKED), told)
 
     def judge_faults(self, case, told):
-        """Each line is of a path of the folder, in the walk's order, with a fault that it may have."""
+        """Each line is about a path of the folder, in the order of the walk, with a possible fault."""
         places = [WALKED.index(name) for name, _ in told]
         case.assertEqual(places, sorted(places))
         for name, fault in told:
             case.assertTrue((name, fault) in self.due or fault in WANTING, (name, fault))
 
     def differs_at(self, told, top):
-        """Whether the lines and files are those of ample memory, but for those of this path and below it."""
+        """Whether the lines and files are those of enough memory, except for this path and those below it."""
         def outside(name):
             return top is None or (top != "" and name != top and not name.startswith(top + "/"))
         lines_stand = [line for line in told if outside(line[0])] == [line for line in self.due if outside(line[0])]

@@ -1,14 +1,14 @@
-/** There is no markup; the message says why. It may quote the formula: escape it before it goes into HTML. */
+/** A formula or a document is refused. The message is the reason. It may quote the formula, so escape it in HTML. */
 export class Refused extends Error {}
 
 /**
- * The `math` element of a formula, for a line of text or as a block of its own.
- * @throws {Refused} where the formula has no reading, as where a brace is never closed
+ * Returns the `math` element of a formula, for a line of text or for a block of its own.
+ * @throws {Refused} if the formula cannot be read, for example because a brace is not closed
  */
 export function formula(latex: string, block?: boolean): string;
 
 /**
- * The document with the `math` element of each formula, which stands between dollar signs, in the formula's place.
- * @throws {Refused} where the dollar signs do not pair, or a formula is refused
+ * Returns the document with each formula between dollar signs replaced by its `math` element.
+ * @throws {Refused} if the dollar signs do not pair, or a formula is refused
  */
 export function document(text: string): string;

@@ -2,7 +2,7 @@
 // LaTeX formulas to MathML.
 const addon = require('./build/Release/latex2mathml.node');
 
-/** There is no markup; the message says why. It may quote the formula: escape it before it goes into HTML. */
+/** A formula or a document is refused. The message is the reason. It may quote the formula, so escape it in HTML. */
 class Refused extends Error {
     get name() {
         return 'Refused';
@@ -17,12 +17,12 @@ function call(convert, ...words) {
     }
 }
 
-/** The `math` element of a formula, for a line of text or as a block of its own. */
+/** Returns the `math` element of a formula, for a line of text or for a block of its own. */
 function formula(latex, block = false) {
     return call(addon.formula, latex, block);
 }
 
-/** The document with the `math` element of each formula, which stands between dollar signs, in the formula's place. */
+/** Returns the document with each formula between dollar signs replaced by its `math` element. */
 function document(text) {
     return call(addon.document, text);
 }

@@ -1,7 +1,9 @@
 pub mod Answering
 pub mod Cuts
+pub mod Gathered
 pub mod Given
 pub mod Joining
+pub mod MathPieces
 pub mod Outcomes
 pub mod PlainTexts
 pub mod ProseTexts

@@ -1,11 +1,12 @@
 -- Plain text, and where it ends.
-use Rattle.std.proofs.Common.{◌≡◌, ◌≢◌, ◌⊎◌, ℕ, suc, ◌+◌, ◌<◌, ◌≤◌, List, [], ◌∷◌, ◌++◌, length, get_or, take, drop, ⊎_elim, inl, inr, refl, sym, ap, subst, ◌∙◌, arith, append-nil, append_assoc, get_or-take, length-take}
-use Rattle.std.proofs.lemmas.Bool.Decides.{eqb_tells}
+use Rattle.std.proofs.Common.{◌≡◌, ◌≢◌, ◌⊎◌, ℕ, zero, suc, ◌+◌, ◌<◌, ◌≤◌, Bool, true, false, List, [], ◌∷◌, ◌++◌, length, get_or, take, drop, ⊎_elim, inl, inr, refl, sym, ap, subst, ◌∙◌, arith, append-nil, append_assoc, get_or-take, length-take}
+use Rattle.std.specs.Prelude.{MatchBool}
+use Rattle.std.proofs.lemmas.Bool.Decides.{eqb_tells, nat_tests}
 use Rattle.std.proofs.lemmas.List.{take_more, drop_more, drop_all}
 use Rattle.std.proofs.str.Laws.{order}
-use Rattle.latex2mathml.specs.Pieces.{EndsAt, EndsBefore, HoldsNo}
+use Rattle.latex2mathml.specs.Pieces.{EndsAt, EndsBefore}
 use Rattle.latex2mathml.specs.Documents.{IsWhole, nothing, single, pair, IsPlain, whole, lone, IsBody}
-use Rattle.latex2mathml_formulas.specs.Dollars.{dollar, backslash}
+use Rattle.latex2mathml_formulas.specs.Dollars.{dollar, backslash, is_other, IsDollarFree, free_first, free_more, free_rest, other}
 
 -- plain text begins with no dollar sign
 whole_begins : (b : ℕ) (text : List ℕ) → IsWhole (b ∷ text) → b ≢ dollar
@@ -186,14 +187,41 @@ ends_here text place so is =
     ⊎_elim (λ inside. subst (EndsBefore (take place text)) (sym (drop_more text place 0 inside)) (is inside, so.whole_inside inside))
     (λ past. subst (EndsBefore (take place text)) (sym (drop_all place text past)) tt) (order place (length text))
 
--- text before the first of a byte holds none
-pub none_before : (b : ℕ) (text : List ℕ) (place : ℕ) → ((i : ℕ) → i < place → get_or text i 0 ≢ b) → HoldsNo b (take place text)
-none_before b text place none i inside e = let short : i < place = omega (arith, length-take place text) in none i short (sym (get_or-take place text i 0 short) ∙ e)
+-- text of which no byte is a dollar sign
+free_text : (text : List ℕ) → ((i : ℕ) → i < length text → get_or text i 0 ≢ dollar) → IsDollarFree text
+free_text [] none = refl
+free_text (b ∷ text) none = free_more b text (other b (none 0 (omega arith))) (free_text text (λ i inside. none (suc i) (omega arith)))
 
--- text without dollar signs and backslashes is whole
-pub singles : (text : List ℕ) → HoldsNo dollar text → HoldsNo backslash text → IsWhole text
-singles [] n m = nothing
-singles (b ∷ text) n m = single (n 0 (omega arith)) (m 0 (omega arith)) (singles text (λ i inside. n (suc i) (omega arith)) (λ i inside. m (suc i) (omega arith)))
+-- text before the first dollar sign holds none
+pub none_before : (text : List ℕ) (place : ℕ) → ((i : ℕ) → i < place → get_or text i 0 ≢ dollar) → IsDollarFree (take place text)
+none_before text place none =
+    free_text (take place text) (λ i inside e. (let short : i < place = omega (arith, length-take place text) in none i short (sym (get_or-take place text i 0 short) ∙ e)))
+
+pub no_dollar : (c : ℕ) → is_other c ≡ true → c ≢ dollar
+no_dollar c h = grind (arith, nat_tests)
+
+-- text of which one is
+not_free : (text : List ℕ) (place : ℕ) → place < length text → get_or text place 0 ≡ dollar → IsDollarFree text → ⊥
+not_free [] place inside e h = omega arith
+not_free (b ∷ text) zero inside e h = no_dollar b (free_first b text h) e
+not_free (b ∷ text) (suc place) inside e h = not_free text place (omega arith) e (free_rest b text h)
+
+-- a search for a dollar sign
+pub tells_dollars : (text : List ℕ) (found : Bool) → (found ≡ true → (k : ℕ) × (k < length text) × (get_or text k 0 ≡ dollar)) × ((k : ℕ) → k < length text → get_or text k 0 ≡ dollar → found ≡ true) → MatchBool found (¬ IsDollarFree text) (IsDollarFree text)
+tells_dollars text true h = let at = h.0 refl in not_free text at.0 at.1 at.2
+tells_dollars text false h = free_text text (λ i inside e. (let k : false ≡ true = h.1 i inside e in cc))
+
+-- text without dollar signs is whole, unless a backslash ends it
+free_whole : (text : List ℕ) → IsDollarFree text → ((front : List ℕ) → text ≢ front ++ 92 ∷ []) → IsWhole text
+free_whole [] h m = nothing
+free_whole (b ∷ []) h m = single (no_dollar b (free_first b [] h)) (λ is. m [] (ap (λ c. c ∷ []) is)) nothing
+free_whole (b ∷ c ∷ text) h m =
+    ⊎_elim (λ is. pair is (free_whole text (free_rest c text (free_rest b (c ∷ text) h)) (λ front e. m (b ∷ c ∷ front) (ap (λ l. b ∷ c ∷ l) e))))
+    (λ other. single (no_dollar b (free_first b (c ∷ text) h)) other (free_whole (c ∷ text) (free_rest b (c ∷ text) h) (λ front e. m (b ∷ front) (ap (λ l. b ∷ l) e)))) (backslash_or_other b)
+
+-- .. as a test of its end tells
+pub unended : (text : List ℕ) (r : Bool) → ((front : List ℕ) → text ≡ front ++ 92 ∷ [] → r ≡ true) → r ≡ false → IsDollarFree text → IsWhole text
+unended text r ends is h = free_whole text h (λ front e. (let k : true ≡ false = sym (ends front e) ∙ is in cc))
 
 pub ends_whole : (text rest : List ℕ) → IsWhole text → EndsAt dollar rest → EndsBefore text rest
 ends_whole text [] w e = tt

@@ -1,9 +1,10 @@
 -- Prose is answered unit by unit.
-use Rattle.std.proofs.Common.{◌≡◌, ◌≢◌, ℕ, suc, ◌<◌, true, List, [], ◌∷◌, ◌++◌, drop, length, refl, sym, ap, subst, ◌∙◌, ⊎_elim, arith, append_assoc, codes}
-use Rattle.std.proofs.lemmas.Bool.Decides.{eqb_tells, nat_tests}
+use Rattle.std.proofs.Common.{◌≡◌, ◌≢◌, ℕ, suc, ◌<◌, true, List, [], ◌∷◌, ◌++◌, drop, length, refl, sym, ap, subst, ◌∙◌, ⊎_elim, arith, append_assoc, codes, is_ok, cond, Result, Ok, Err}
+use Rattle.std.specs.Prelude.{OnOk}
+use Rattle.std.proofs.lemmas.Bool.Decides.{eqb_tells}
 use Rattle.latex2mathml.specs.Documents.{IsWhole, nothing, single, pair, IsPlain, whole, lone, pair_answer, prose_answer}
 use Rattle.latex2mathml_formulas.specs.Dollars.{dollar, backslash, is_other, IsDollarFree, free_both, free_first, free_more, free_one, free_rest, other}
-use Rattle.latex2mathml.proofs.PlainTexts.{backslash_or_other, behind_pair, behind_single, more_pair, more_single, plain_begins}
+use Rattle.latex2mathml.proofs.PlainTexts.{backslash_or_other, behind_pair, behind_single, more_pair, more_single, no_dollar, plain_begins}
 
 -- the answer of text with a unit in front
 answer_single : (b : ℕ) (text : List ℕ) → b ≢ backslash → prose_answer (b ∷ text) ≡ b ∷ prose_answer text
@@ -46,9 +47,6 @@ free_prose text (lone {front} w is) =
     subst (λ l. IsDollarFree (prose_answer l)) (sym is) (subst IsDollarFree (sym (prose_append front (92 ∷ []) w)) (free_both (prose_answer front) (92 ∷ []) (free_whole front w) refl))
 
 -- Text without a dollar sign is prose that stays.
-no_dollar : (c : ℕ) → is_other c ≡ true → c ≢ dollar
-no_dollar c h = grind (arith, nat_tests)
-
 pub free_plain : (text : List ℕ) → IsDollarFree text → IsPlain text
 free_plain [] h = whole nothing
 free_plain (b ∷ []) h =
@@ -109,3 +107,8 @@ more_put prose old text rest x y so e h =
 
 pub all_put : (prose old text rest : List ℕ) → IsPutSoFar prose old text rest → Lacks (length rest) rest → text ++ rest ≡ old ++ prose_answer prose
 all_put prose old text rest so h = ap (λ l. text ++ l) (sym (stays rest h)) ∙ so.put
+
+-- text that is pushed where there is memory
+pub on_ok : {T E : Type 0} (r : Result T E) (new more old due : List ℕ) → new ≡ cond (is_ok r) more old → more ≡ due → OnOk r (new ≡ due)
+on_ok (Ok x) new more old due e p = e ∙ p
+on_ok (Err x) new more old due e p = tt

@@ -1,5 +1,5 @@
 -- The answer of a document holds no dollar sign, and a document without one is its own answer.
-use Rattle.std.proofs.Common.{◌≡◌, ℕ, List, [], ◌∷◌, ◌++◌, Option, Some, None, Result, Ok, Err, Global, refl, sym, ◌∙◌, append-nil, subst, string_bytes, ⊎_elim}
+use Rattle.std.proofs.Common.{◌≡◌, ◌≢◌, ℕ, List, [], ◌∷◌, ◌++◌, Option, Some, None, Result, Ok, Err, Global, refl, sym, ◌∙◌, append-nil, subst, string_bytes, ⊎_elim}
 use Rattle.std.specs.Prelude.{IfOk, IfSome, MatchResult, String}
 use Rattle.latex2mathml.specs.DocumentLaws.{RepeatsAnswers}
 use Rattle.latex2mathml.specs.Documents.{Piece, prose, inline, display, IsPiece, ArePieces, IsCut, PieceAnswer, PiecesAnswer, IsAnswer, FirstRefused, IsRefusal}
@@ -49,6 +49,10 @@ only_answer_of_free (b ∷ bs) answer free (x, y, a, c, e) = e ∙ (λ i. (a ∙
 pub own_answer : (text : List ℕ) → IsDollarFree text → IsAnswer text text
 unfolding IsAnswer
 own_answer text free = (pieces_of_free text, cut_of_free text free, answer_of_free text free)
+
+-- a document with one is not
+pub differs : (text answer : List ℕ) → ¬ IsDollarFree text → IsDollarFree answer → answer ≢ text
+differs text answer signs free e = signs (subst IsDollarFree e free)
 
 pub no_other_answer : (text answer : List ℕ) → IsDollarFree text → IsAnswer text answer → answer ≡ text
 unfolding IsAnswer

@@ -1,13 +1,15 @@
--- Why a document was not converted, and what the walks of the entries of a directory list.
-use Rattle.std.proofs.Common.{◌≡◌, ◌≢◌, ℕ, ◌+◌, ◌-◌, ◌<◌, ◌≤◌, Bool, List, [], ◌∷◌, ◌++◌, Result, Ok, Err, All, IfErr, OnOk, String, length, take, refl, sym, ap, ◌∙◌, subst, append-nil, append_assoc, string_bytes, slice_index_or}
+-- Why a document was not converted, and what the walks of the entries of a directory ask and list.
+use Rattle.std.proofs.Common.{◌≡◌, ◌≢◌, ℕ, ◌+◌, ◌-◌, ◌<◌, ◌≤◌, List, [], ◌∷◌, ◌++◌, Option, None, Some, Result, Ok, Err, All, IfErr, OnOk, IsPermutation, String, length, take, refl, sym, ap, ◌∙◌, subst, append-nil, append_assoc, string_bytes, slice_index_or}
 use Rattle.std.proofs.lemmas.List.{take_all, take_more}
 use Rattle.std.specs.declared.alloc.Global.{Global}
-use Rattle.latex2mathml.specs.Files.{Ascend, AreWalks, IsListed, IsReadingFault, IsWalk, IsWritingFault, Listed, NoMore, Next, entry_path}
+use Rattle.latex2mathml.specs.Files.{Answer, Answered, Ascend, IsListed, IsReadingFault, IsWritingFault, Holds, Listed, Lists, ListsEach, NoMore, Next, Stands, IsWalked, entry_path}
 use Rattle.latex2mathml.specs.Inputs.{IsReadingOf}
 use Rattle.latex2mathml.specs.Streams.{IsStopped, StreamState}
 use Rattle.latex2mathml.specs.declared.error.FileFault.{FileFault}
 use Rattle.latex2mathml.specs.declared.error.FileFault.TheVariants.{List as Unlisted, Entry, TooDeep, Read, NotText, Refused, Create, Write}
 use Rattle.latex2mathml.specs.declared.files.Unconverted.{Unconverted}
+use Rattle.latex2mathml.specs.declared.files.site.Listing.{Listing}
+use Rattle.latex2mathml.specs.declared.files.site.PathKind.TheVariants.{Directory}
 use Rattle.latex2mathml.specs.declared.input.Reading.{Reading}
 
 pub reading_fault : (bytes : List ℕ) (state : StreamState) (result : Result Reading FileFault) → IsReadingOf bytes state result → IfErr result IsReadingFault
@@ -32,45 +34,68 @@ writing_fault text old new (Err NotText) is = absurd is
 writing_fault text old new (Err (Refused error)) is = absurd is
 writing_fault text old new (Err Create) is = absurd is
 
+-- a site that was asked nothing
+pub asked_nothing : (state : Option (List Answer)) → Answered state state []
+asked_nothing None = tt
+asked_nothing (Some answers) = sym (append-nil answers)
+
+-- a site that was asked for some, and then for others
+pub asked_more : (a b c : Option (List Answer)) (first then : List Answer) → Answered a b first → Answered b c then → Answered a c (first ++ then)
+asked_more None b c first then p q = tt
+asked_more (Some before) None c first then p q = absurd p
+asked_more (Some before) (Some between) None first then p q = absurd q
+asked_more (Some before) (Some between) (Some after) first then p q = q ∙ ap (λ l. l ++ then) p ∙ append_assoc before first then
+
 -- one entry more was walked
-one_more : (levels : ℕ) (path : List ℕ) (names : List (String Global)) (name : String Global) (walked here : List Unconverted)
-    → AreWalks levels path names walked → IsWalk levels (entry_path path (string_bytes name)) here
-    → AreWalks levels path (names ++ (name ∷ [])) (walked ++ here)
-one_more levels path _ name _ here NoMore is = Next here [] is NoMore (sym (append-nil here))
-one_more levels path _ name _ here (Next {names = names} first rest begins goes_on all) is =
-    Next first (rest ++ here) begins (one_more levels path names name rest here goes_on is) (ap (λ l. l ++ here) all ∙ append_assoc first rest here)
+one_more : (levels : ℕ) (path : List ℕ) (names : List (String Global)) (name : String Global) (answers last : List Answer) (walked here : List Unconverted)
+    → ListsEach levels path names answers walked → Lists levels (entry_path path (string_bytes name)) last here
+    → ListsEach levels path (names ++ (name ∷ [])) (answers ++ last) (walked ++ here)
+one_more levels path _ name _ last _ here NoMore is = Next last [] here [] is NoMore (sym (append-nil last)) (sym (append-nil here))
+one_more levels path _ name _ last _ here (Next {names = names} first others start rest begins goes_on answered all) is =
+    Next first (others ++ last) start (rest ++ here) begins (one_more levels path names name others last rest here goes_on is)
+    (ap (λ l. l ++ last) answered ∙ append_assoc first others last)
+    (ap (λ l. l ++ here) all ∙ append_assoc start rest here)
 
 -- what one fault more in the list comes to
-pub one_listed : {A : Type 0} (levels : ℕ) (path : List ℕ) (fault : FileFault) (old new : List Unconverted) (result : Result Unit A)
+pub one_listed : {A : Type 0} (levels : ℕ) (path : List ℕ) (fault : FileFault) (before after : Option (List Answer)) (answers : List Answer) (old new : List Unconverted) (result : Result Unit A)
+    → Answered before after answers
     → OnOk result ((one : Unconverted) × (new ≡ old ++ (one ∷ [])) × IsListed path fault one)
-    → ((one : Unconverted) → IsListed path fault one → IsWalk levels path (one ∷ []))
-    → OnOk result ((found : List Unconverted) × (new ≡ old ++ found) × IsWalk levels path found)
-one_listed levels path fault old new (Ok _) (one, is, so) walk = (one ∷ [], is, walk one so)
-one_listed levels path fault old new (Err _) added walk = tt
+    → ((one : Unconverted) → IsListed path fault one → Lists levels path answers (one ∷ []))
+    → OnOk result (IsWalked levels path before after old new)
+one_listed levels path fault before after answers old new (Ok _) asked (one, is, so) walk = (answers, one ∷ [], asked, is, walk one so)
+one_listed levels path fault before after answers old new (Err _) asked added walk = tt
 
-pub next_walked : (levels : ℕ) (path entry : List ℕ) (names : List (String Global)) (index : ℕ) (name : String Global) (walked here : List Unconverted)
+pub next_walked : (levels : ℕ) (path entry : List ℕ) (names : List (String Global)) (index : ℕ) (name : String Global) (answers last : List Answer) (walked here : List Unconverted)
     → index < length names
     → name ≡ slice_index_or names index name
     → entry ≡ entry_path path (string_bytes name)
-    → AreWalks levels path (take index names) walked
-    → IsWalk levels entry here
-    → AreWalks levels path (take (index + 1) names) (walked ++ here)
-next_walked levels path entry names index name walked here inside is leads so_far walk =
-    subst (λ l. AreWalks levels path l (walked ++ here)) (ap (λ x. take index names ++ (x ∷ [])) is ∙ sym (take_more names index name inside))
-    (one_more levels path (take index names) name walked here so_far (subst (λ p. IsWalk levels p here) leads walk))
+    → ListsEach levels path (take index names) answers walked
+    → Lists levels entry last here
+    → ListsEach levels path (take (index + 1) names) (answers ++ last) (walked ++ here)
+next_walked levels path entry names index name answers last walked here inside is leads so_far walk =
+    subst (λ l. ListsEach levels path l (answers ++ last) (walked ++ here)) (ap (λ x. take index names ++ (x ∷ [])) is ∙ sym (take_more names index name inside))
+    (one_more levels path (take index names) name answers last walked here so_far (subst (λ p. Lists levels p last here) leads walk))
 
-pub all_walked : (levels : ℕ) (path : List ℕ) (names items : List (String Global)) (index : ℕ) (old middle new unread walked : List Unconverted)
+pub all_walked : (levels : ℕ) (path : List ℕ) (listing : Listing) (names items : List (String Global)) (index : ℕ)
+    (before stood held after : Option (List Answer)) (answers : List Answer) (old middle new unread walked : List Unconverted)
     → levels ≢ 0
+    → Answered before stood (Stands path Directory ∷ [])
+    → Answered stood held (Holds path (Some listing) ∷ [])
+    → Answered held after answers
     → All (IsListed path Entry) unread
+    → length unread ≡ listing.unread
+    → IsPermutation listing.names.items names
     → Ascend names
     → items ≡ names
     → length items ≤ index
-    → AreWalks (levels - 1) path (take index items) walked
+    → ListsEach (levels - 1) path (take index items) answers walked
     → middle ≡ old ++ unread
     → new ≡ middle ++ walked
-    → (found : List Unconverted) × (new ≡ old ++ found) × IsWalk levels path found
-all_walked levels path names items index old middle new unread walked some each sorted same done walks before after = (
+    → IsWalked levels path before after old new
+all_walked levels path listing names items index before stood held after answers old middle new unread walked some stands holds asked each count moved sorted same done walks added grown = (
+  Stands path Directory ∷ Holds path (Some listing) ∷ answers,
   unread ++ walked,
-  after ∙ ap (λ l. l ++ walked) before ∙ append_assoc old unread walked,
-  Listed some unread walked each names sorted (subst (λ l. AreWalks (levels - 1) path l walked) (take_all index items done ∙ same) walks) refl,
+  asked_more _ _ _ _ _ stands (asked_more _ _ _ _ _ holds asked),
+  grown ∙ ap (λ l. l ++ walked) added ∙ append_assoc old unread walked,
+  Listed some unread walked each count names moved sorted (subst (λ l. ListsEach (levels - 1) path l answers walked) (take_all index items done ∙ same) walks) refl,
 )

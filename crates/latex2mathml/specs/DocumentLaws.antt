@@ -1,12 +1,15 @@
 -- Laws of documents: they hold of every text.
-use Rattle.std.specs.Prelude.{◌≡◌, ◌⊎◌, ◌↔◌, ◌==◌, ◌%◌, ℕ, List, ◌++◌}
+use Rattle.std.specs.Prelude.{◌≡◌, ◌⊎◌, ◌↔◌, ◌==◌, ◌%◌, ℕ, List, [], ◌∷◌, ◌++◌}
 use Rattle.std.specs.List.{suffix_len}
-use Rattle.latex2mathml.specs.Documents.{Piece, HasCut, HasNoCut, IsCut, IsAnswer, IsRefusal}
+use Rattle.latex2mathml.specs.Documents.{Piece, prose, inline, display, HasCut, HasNoCut, IsCut, ProseAnswer, IsAnswer, IsRefusal}
 use Rattle.latex2mathml.specs.Surroundings.{HasBalancedProse, HasPageProse}
 use Rattle.latex2mathml_formulas.specs.Dollars.{backslash, IsDollarFree}
+use Rattle.latex2mathml_formulas.specs.Rendering.{IsRendering}
 use Rattle.latex2mathml_nodes.specs.Markup.{IsBalanced}
+use Rattle.latex2mathml_nodes.specs.MathSchema.{IsMathElement}
 use Rattle.latex2mathml_nodes.specs.Pages.{IsPage}
 use Rattle.latex2mathml_tokens.specs.Refusal.{Refusal, InvalidNumberOfDollarSigns}
+use Rattle.latex2mathml_tokens.specs.declared.DisplayStyle.TheVariants.{Block, Inline}
 
 -- two cuts of the document are the same pieces
 abbrev pub HasOneCut : List ℕ → Type 0
@@ -52,12 +55,30 @@ pub record IsForDollars (document : List ℕ) : Type 0 where
   pub refused : (refusal : Refusal) → IsRefusal document refusal → (refusal ≡ InvalidNumberOfDollarSigns) ↔ HasNoCut document
   pub answered : (answer : List ℕ) → IsAnswer document answer → HasCut document
 
+-- what becomes of a piece: the answer of prose, or the rendering of a formula, which is one `math` element
+abbrev pub IsPieceMarkup : Piece → List ℕ → Type 0
+IsPieceMarkup (prose text) markup = ProseAnswer text markup
+IsPieceMarkup (inline body) markup = IsRendering body Inline markup × IsMathElement markup
+IsPieceMarkup (display body) markup = IsRendering body Block markup × IsMathElement markup
+
+-- the answer is what becomes of the pieces, one after another
+abbrev pub ArePiecesMarkup : List Piece → List ℕ → Type 0
+ArePiecesMarkup [] answer = answer ≡ []
+ArePiecesMarkup (piece ∷ pieces) answer =
+    (front : List ℕ) × (back : List ℕ) × IsPieceMarkup piece front × ArePiecesMarkup pieces back × (answer ≡ front ++ back)
+
+-- the answer is that of the document's prose, with one `math` element in the place of each formula
+abbrev pub HasElements : List ℕ → List ℕ → Type 0
+HasElements document answer = (pieces : List Piece) × IsCut document pieces × ArePiecesMarkup pieces answer
+
 -- what holds of all documents
 pub record AnswersHold : Type 0 where
+  pub one_cut : (document : List ℕ) → HasOneCut document
   pub for_dollars : (document : List ℕ) → IsForDollars document
   pub one_outcome : (document : List ℕ) → HasOneOutcome document
   pub repeated : (document : List ℕ) → RepeatsAnswers document
   pub joined : (first second : List ℕ) → JoinsAnswers first second
+  pub elements : (document answer : List ℕ) → IsAnswer document answer → HasElements document answer
   -- where the prose is balanced around the formulas, so is the answer, and where it is that of a page, each `math`
   -- element stands where it may and obeys the child table
   pub balanced : (document answer : List ℕ) → HasBalancedProse document → IsAnswer document answer → IsBalanced answer

@@ -1,5 +1,5 @@
--- What a document is called, and which list a walk of the files under a path may answer.
-use Rattle.std.specs.Prelude.{◌≡◌, ◌≢◌, ◌⊎◌, ◌==◌, ◌-◌, ⊤, ℕ, List, [], ◌∷◌, ◌++◌, All, length, slice_index, String, codes, string_bytes, if◌then◌else◌}
+-- What a document is called, what a walk asks of a site, and which list it answers.
+use Rattle.std.specs.Prelude.{◌≡◌, ◌≢◌, ◌⊎◌, ◌==◌, ◌-◌, ⊤, ℕ, List, [], ◌∷◌, ◌++◌, All, IsPermutation, Option, None, Some, Result, Ok, Err, length, slice_index, String, codes, string_bytes, if◌then◌else◌}
 use Rattle.std.specs.Cmp.Lexicographic.{slice_cmp}
 use Rattle.std.specs.List.Sorted.{IsSortedByKey}
 use Rattle.std.specs.Ordering.{nat_cmp}
@@ -8,6 +8,9 @@ use Rattle.std.specs.declared.alloc.Global.{Global}
 use Rattle.latex2mathml.specs.declared.error.FileFault.{FileFault}
 use Rattle.latex2mathml.specs.declared.error.FileFault.TheVariants.{List as Unlisted, Entry, TooDeep, Read, NotText, Refused, Create, Write}
 use Rattle.latex2mathml.specs.declared.files.Unconverted.{Unconverted}
+use Rattle.latex2mathml.specs.declared.files.site.Listing.{Listing}
+use Rattle.latex2mathml.specs.declared.files.site.PathKind.{PathKind}
+use Rattle.latex2mathml.specs.declared.files.site.PathKind.TheVariants.{Directory, File, Other}
 
 abbrev pub slash : ℕ
 slash = byte "/"
@@ -53,47 +56,91 @@ Ascend names = IsSortedByKey string_bytes (slice_cmp nat_cmp) names
 abbrev pub IsListed : List ℕ → FileFault → Unconverted → Type 0
 IsListed path fault unconverted = (string_bytes unconverted.path ≡ path) × (unconverted.fault ≡ fault)
 
+-- what a site was asked of a path, and what it answered
+pub data Answer : Type 0 where
+  -- what stands there
+  Stands : List ℕ → PathKind → Answer
+  -- what the directory holds, or that it cannot be listed
+  Holds : List ℕ → Option Listing → Answer
+  -- the document was converted, or why it was not
+  Comes : List ℕ → Result Unit FileFault → Answer
+
+-- between two states, in which these answers are known, the site was asked for these and for no others
+abbrev pub Answered : Option (List Answer) → Option (List Answer) → List Answer → Type 0
+Answered None new answers = ⊤
+Answered (Some before) None answers = ⊥
+Answered (Some before) (Some after) answers = after ≡ before ++ answers
+
+-- what is left alone: what is neither a file nor a directory, and a file that is no document
+abbrev pub IsLeftAlone : List ℕ → PathKind → Type 0
+IsLeftAlone path Directory = ⊥
+IsLeftAlone path File = ¬ IsDocumentPath path
+IsLeftAlone path Other = ⊤
+
 mutual
-  -- what a walk of a path may list, that reads so many levels of directories
-  pub data IsWalk : ℕ → List ℕ → List Unconverted → Type 0 where
-    -- a document that was converted, or what is left alone
-    Left : {levels : ℕ} {path : List ℕ} → IsWalk levels path []
-    -- a document that was not converted
-    NotConverted : {levels : ℕ} {path : List ℕ} {one : Unconverted}
+  -- what a walk of a path lists, that reads so many levels of directories, by what the site answers
+  pub data Lists : ℕ → List ℕ → List Answer → List Unconverted → Type 0 where
+    -- what is left alone
+    Left : {levels : ℕ} {path : List ℕ} {kind : PathKind}
+        → IsLeftAlone path kind
+        → Lists levels path (Stands path kind ∷ []) []
+    -- a document that was converted
+    Converted : {levels : ℕ} {path : List ℕ}
         → IsDocumentPath path
-        → string_bytes one.path ≡ path
-        → IsDocumentFault one.fault
-        → IsWalk levels path (one ∷ [])
+        → Lists levels path (Stands path File ∷ Comes path (Ok tt) ∷ []) []
+    -- a document that was not converted
+    NotConverted : {levels : ℕ} {path : List ℕ} {fault : FileFault} {one : Unconverted}
+        → IsDocumentPath path
+        → IsDocumentFault fault
+        → IsListed path fault one
+        → Lists levels path (Stands path File ∷ Comes path (Err fault) ∷ []) (one ∷ [])
     -- a directory below the levels that are read
     TooLow : {levels : ℕ} {path : List ℕ} {one : Unconverted}
         → levels ≡ 0
         → IsListed path TooDeep one
-        → IsWalk levels path (one ∷ [])
+        → Lists levels path (Stands path Directory ∷ []) (one ∷ [])
     -- a directory that was not listed
     NotListed : {levels : ℕ} {path : List ℕ} {one : Unconverted}
         → levels ≢ 0
         → IsListed path Unlisted one
-        → IsWalk levels path (one ∷ [])
-    -- a directory: its entries that were not read, and the walks of the others in the order of their names
-    Listed : {levels : ℕ} {path : List ℕ} {all : List Unconverted}
+        → Lists levels path (Stands path Directory ∷ Holds path None ∷ []) (one ∷ [])
+    -- a directory: each of its entries that were not read, and the walks of all others in the order of their names
+    Listed : {levels : ℕ} {path : List ℕ} {listing : Listing} {answers : List Answer} {all : List Unconverted}
         → levels ≢ 0
         → (unread walked : List Unconverted)
         → All (IsListed path Entry) unread
+        → length unread ≡ listing.unread
         → (names : List (String Global))
+        → IsPermutation listing.names.items names
         → Ascend names
-        → AreWalks (levels - 1) path names walked
+        → ListsEach (levels - 1) path names answers walked
         → all ≡ unread ++ walked
-        → IsWalk levels path all
+        → Lists levels path (Stands path Directory ∷ Holds path (Some listing) ∷ answers) all
 
-  -- what the walks of entries of a directory may list
-  pub data AreWalks : ℕ → List ℕ → List (String Global) → List Unconverted → Type 0 where
-    NoMore : {levels : ℕ} {path : List ℕ} → AreWalks levels path [] []
-    Next : {levels : ℕ} {path : List ℕ} {name : String Global} {names : List (String Global)} {all : List Unconverted}
+  -- what the walks of entries of a directory list
+  pub data ListsEach : ℕ → List ℕ → List (String Global) → List Answer → List Unconverted → Type 0 where
+    NoMore : {levels : ℕ} {path : List ℕ} → ListsEach levels path [] [] []
+    Next : {levels : ℕ} {path : List ℕ} {name : String Global} {names : List (String Global)} {answers : List Answer} {all : List Unconverted}
+        → (first others : List Answer)
         → (here rest : List Unconverted)
-        → IsWalk levels (entry_path path (string_bytes name)) here
-        → AreWalks levels path names rest
+        → Lists levels (entry_path path (string_bytes name)) first here
+        → ListsEach levels path names others rest
+        → answers ≡ first ++ others
         → all ≡ here ++ rest
-        → AreWalks levels path (name ∷ names) all
+        → ListsEach levels path (name ∷ names) answers all
+
+-- between two states of the site, a walk of the path added to the list what is due for all that it was answered
+abbrev pub IsWalked : ℕ → List ℕ → Option (List Answer) → Option (List Answer) → List Unconverted → List Unconverted → Type 0
+IsWalked levels path before after old new =
+    (answers : List Answer)
+    × (found : List Unconverted)
+    × Answered before after answers
+    × (new ≡ old ++ found)
+    × Lists levels path answers found
+
+-- what a walk of the path lists, by some answers
+abbrev pub IsWalk : ℕ → List ℕ → List Unconverted → Type 0
+IsWalk levels path unconverted = (answers : List Answer) × Lists levels path answers unconverted
 
 -- how many levels of directories are read
 abbrev pub levels_read : ℕ

@@ -4,6 +4,7 @@ pub use Rattle.latex2mathml_formulas.specs.RenderingLaws.{RendersElements, Rende
 pub use Rattle.latex2mathml_formulas.specs.TokenLists.{HasOneTokenList, TextHasOneReading}
 pub use Rattle.latex2mathml_formulas.specs.Laws.{HasOneReading, IsSliced, IsReadBySlices, IsRefusedBySlices}
 pub use Rattle.latex2mathml_formulas.specs.Places.{HasPlaces, SpaceChangesNothing}
+pub use Rattle.latex2mathml_formulas.specs.TextLaws.{TextsHold}
 pub use Rattle.latex2mathml_tokens.specs.Refusal.{Refusal, UnexpectedToken, MissingParensethis, UnknownEnvironment, InvalidNumberOfDollarSigns, IfRefused, refusal_of, refusal_text, error_text}
 pub use Rattle.latex2mathml_tokens.specs.declared.DisplayStyle.{DisplayStyle}
 pub use Rattle.latex2mathml_tokens.specs.declared.DisplayStyle.TheVariants.{Block, Inline}

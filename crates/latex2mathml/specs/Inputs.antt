@@ -3,7 +3,7 @@ use Rattle.std.specs.Prelude.{◌≡◌, ◌≢◌, ℕ, List, None, Result, Ok,
 use Rattle.std.specs.declared.alloc.Global.{Global}
 use Rattle.latex2mathml.specs.Conversions.{Conversion, document, IsConverted, IsRefusedAs}
 use Rattle.latex2mathml.specs.Documents.{IsAnswer}
-use Rattle.latex2mathml.specs.Streams.{StreamState, IsWhole}
+use Rattle.latex2mathml.specs.Streams.{StreamState, HasEnded}
 use Rattle.latex2mathml_formulas.specs.Dollars.{IsDollarFree}
 use Rattle.latex2mathml_tokens.specs.Refusal.{refusal_of}
 use Rattle.latex2mathml.specs.declared.error.FileFault.{FileFault}
@@ -20,7 +20,7 @@ pub record IsWholeText (bytes : List ℕ) (state : StreamState) : Type 0 where
 -- why no text was read
 abbrev pub IsReadFault : List ℕ → StreamState → FileFault → Type 0
 IsReadFault bytes state Read = IsTrue state.failed
-IsReadFault bytes state NotText = IsWhole state × (¬ IsUtf8 bytes)
+IsReadFault bytes state NotText = HasEnded state × (¬ IsUtf8 bytes)
 -- memory was not found for it
 IsReadFault bytes state (Refused error) = IsFalse state.failed × (refusal_of error ≡ None)
 IsReadFault bytes state _ = ⊥
@@ -28,7 +28,7 @@ IsReadFault bytes state _ = ⊥
 -- why nothing was made of the bytes; where memory is wanting, that may stand in place of anything
 abbrev pub IsMissed : Conversion → List ℕ → StreamState → FileFault → Type 0
 IsMissed conversion bytes state Read = IsTrue state.failed
-IsMissed conversion bytes state NotText = IsWhole state × (¬ IsUtf8 bytes)
+IsMissed conversion bytes state NotText = HasEnded state × (¬ IsUtf8 bytes)
 IsMissed conversion bytes state (Refused error) =
     IsFalse state.failed
     × IfSome (refusal_of error) (λ refusal. IsWholeText bytes state × IsRefusedAs conversion bytes refusal)

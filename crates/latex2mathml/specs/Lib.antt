@@ -3,6 +3,7 @@ pub mod Counting
 pub mod DocumentLaws
 pub mod Documents
 pub mod Elements
+pub mod Entries
 pub mod Faults
 pub mod Files
 pub mod Formulas

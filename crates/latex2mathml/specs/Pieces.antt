@@ -1,5 +1,5 @@
 -- What the cutter's functions answer, in the words of documents: the pieces, one at a time.
-use Rattle.std.specs.Prelude.{◌≡◌, ◌≢◌, ℕ, ◌<◌, length, get_or, List, [], ◌∷◌, ◌++◌, Option, Some, None, Result, Ok, Err}
+use Rattle.std.specs.Prelude.{◌≡◌, ℕ, List, [], ◌∷◌, ◌++◌, Option, Some, None, Result, Ok, Err}
 use Rattle.latex2mathml.specs.Documents.{Piece, prose, inline, display, piece_text, spelling, IsWhole, IsPiece, IsCut, HasNoCut}
 use Rattle.latex2mathml_formulas.specs.Dollars.{dollar}
 use Rattle.latex2mathml.specs.declared.document.NoCut.{NoCut}
@@ -9,13 +9,9 @@ use Rattle.latex2mathml.specs.declared.document.Pieces.{Pieces}
 
 -- a piece of the code without its place in memory
 abbrev pub piece_of : code.Piece → Piece
-piece_of (Prose text) = prose text.now
+piece_of (Prose plain) = prose plain.text.now
 piece_of (Inline body) = inline body.now
 piece_of (Display body) = display body.now
-
--- no byte of the text is this one
-abbrev pub HoldsNo : ℕ → List ℕ → Type 0
-HoldsNo b text = (i : ℕ) → i < length text → get_or text i 0 ≢ b
 
 -- this byte stands at the front of the text, or nothing does
 abbrev pub EndsAt : ℕ → List ℕ → Type 0

@@ -25,8 +25,8 @@ abbrev pub CanGoOn : StreamState → Type 0
 CanGoOn state = IsFalse state.failed × IsFalse state.ended
 
 -- it has not failed, and has ended: all was moved
-abbrev pub IsWhole : StreamState → Type 0
-IsWhole state = IsFalse state.failed × IsTrue state.ended
+abbrev pub HasEnded : StreamState → Type 0
+HasEnded state = IsFalse state.failed × IsTrue state.ended
 
 -- between the two states the source gave these bytes
 abbrev pub Gives : StreamState → StreamState → List ℕ → Type 0
@@ -39,7 +39,7 @@ Takes old new bytes = Appends old.bytes new.bytes bytes
 -- the sink tells this cause, and not the other
 abbrev pub IsCause : WriteCause → StreamState → Type 0
 IsCause Failed state = IsTrue state.failed × IsFalse state.ended
-IsCause TookNothing state = IsWhole state
+IsCause TookNothing state = HasEnded state
 
 -- the sink took the first bytes of the text, as many as the fault says and not all of them, and no more
 abbrev pub IsStopped : FileFault → List ℕ → StreamState → StreamState → Type 0

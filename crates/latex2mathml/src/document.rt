@@ -1,15 +1,18 @@
 //! The pieces of a document: prose, and formulas between dollar signs.
 ghost use Rattle.std.specs.Prelude.{◌≡◌, ◌≢◌, ◌++◌, [], IfNone, IfSome, OnErr, OnOk};
-ghost use Rattle.latex2mathml.specs.Pieces.{BeginsWith, EndsAt, EndsBefore, HoldsNo, piece_of};
-ghost use Rattle.latex2mathml_formulas.specs.Dollars.{dollar};
+ghost use Rattle.latex2mathml.specs.Pieces.{BeginsWith, EndsAt, EndsBefore, piece_of};
+ghost use Rattle.latex2mathml_formulas.specs.Dollars.{IsDollarFree, dollar};
 ghost use Rattle.latex2mathml.specs.Documents.{HasCut, HasNoCut, IsPlain};
 
 pub(crate) mod convert;
+pub(crate) mod plain;
 
-/// A piece of a document, as a slice of it, without its dollar signs.
+use crate::document::plain::Plain;
+
+/// A piece of a document, as a slice of it, without the dollar signs around it.
 #[derive(Debug, Clone, Copy)]
 pub(crate) enum Piece<'a> {
-    Prose(&'a str),
+    Prose(Plain<'a>),
     /// A formula in a line of text.
     Inline(&'a str),
     /// A formula in a block of its own.
@@ -78,14 +81,14 @@ fn first_piece(text: &str) -> Option<(Piece<'_>, &str)>
     if let Some(inside) = text.strip_prefix("$$") {
         let (body, end) = until_dollar(inside);
         let rest = end.strip_prefix("$$")?;
-        if body.is_empty() {
+        if body.text.is_empty() {
             return None;
         }
-        Some((Piece::Display(body), rest))
+        Some((Piece::Display(body.text), rest))
     } else if let Some(inside) = text.strip_prefix('$') {
         let (body, end) = until_dollar(inside);
         let rest = end.strip_prefix('$')?;
-        Some((Piece::Inline(body), rest))
+        Some((Piece::Inline(body.text), rest))
     } else {
         let (prose, rest) = until_dollar(text);
         Some((Piece::Prose(prose), rest))
@@ -93,23 +96,27 @@ fn first_piece(text: &str) -> Option<(Piece<'_>, &str)>
 }
 
 /// The text up to its first dollar sign that no backslash takes, and the text from there on.
-fn until_dollar(text: &str) -> (&str, &str)
-    ensures joined { result.0.now ++ result.1.now ≡ text.now }
-    ensures plain { IsPlain result.0.now }
-    ensures ends { EndsBefore result.0.now result.1.now }
+fn until_dollar(text: &str) -> (Plain<'_>, &str)
+    ensures joined { result.0.text.now ++ result.1.now ≡ text.now }
+    ensures plain { IsPlain result.0.text.now }
+    ensures ends { EndsBefore result.0.text.now result.1.now }
 {
     let (front, rest) = up_to_dollar(text);
-    // most texts have no backslash there, and two searches are faster than a look at each byte
-    match front.find('\\') {
-        None => (front, rest),
-        Some(_) => by_units(text),
+    // A backslash can take the dollar sign only from the place before it. Most texts have none there.
+    if front.ends_with('\\') {
+        return by_units(text);
     }
+    let plain = Plain {
+        text: front,
+        may_hold_dollar: false,
+    };
+    (plain, rest)
 }
 
 /// The text up to its first dollar sign, and the text from there on.
 fn up_to_dollar(text: &str) -> (&str, &str)
     ensures joined { result.0.now ++ result.1.now ≡ text.now }
-    ensures free { HoldsNo dollar result.0.now }
+    ensures free { IsDollarFree result.0.now }
     ensures ends { EndsAt dollar result.1.now }
 {
     match text.find('$') {
@@ -119,10 +126,10 @@ fn up_to_dollar(text: &str) -> (&str, &str)
 }
 
 /// As `until_dollar` answers, unit by unit.
-fn by_units(text: &str) -> (&str, &str)
-    ensures joined { result.0.now ++ result.1.now ≡ text.now }
-    ensures plain { IsPlain result.0.now }
-    ensures ends { EndsBefore result.0.now result.1.now }
+fn by_units(text: &str) -> (Plain<'_>, &str)
+    ensures joined { result.0.text.now ++ result.1.now ≡ text.now }
+    ensures plain { IsPlain result.0.text.now }
+    ensures ends { EndsBefore result.0.text.now result.1.now }
 {
     let bytes = text.as_bytes();
     let mut place = 0;
@@ -133,7 +140,12 @@ fn by_units(text: &str) -> (&str, &str)
             place += 1;
         }
     }
-    text.split_at(place)
+    let (front, rest) = text.split_at(place);
+    let plain = Plain {
+        text: front,
+        may_hold_dollar: true,
+    };
+    (plain, rest)
 }
 
 /// Goes through the pieces once, to see that the document has a cut.

@@ -6,37 +6,37 @@ use latex2mathml_tokens::LatexError;
 use std::error::Error;
 use std::fmt;
 
-/// Why a writing stopped.
+/// Why writing stopped.
 #[derive(Debug, Clone, Copy, PartialEq)]
 pub enum WriteCause {
     /// The sink failed.
     Failed,
-    /// The sink took no byte, though there were some to take.
+    /// The sink took no byte, although there were bytes to take.
     TookNothing,
 }
 
-/// Why what was to be converted was not, or not written whole.
+/// Why something was not converted, or was not written completely.
 #[derive(Debug, Drop, PartialEq)]
 pub enum FileFault {
     /// The entries of the directory could not be listed.
     List,
-    /// An entry of the directory could not be read, or its name is no text.
+    /// An entry of the directory could not be read, or its name is not UTF-8.
     Entry,
-    /// The directory lies below the 64 levels that are read.
+    /// The directory is below the 64 levels that are read.
     TooDeep,
     /// The input could not be read.
     Read,
     /// The input is not UTF-8.
     NotText,
-    /// The input was refused.
+    /// The input was refused, or memory ran out for it.
     Refused(LatexError),
-    /// The file could not be opened to be written anew.
+    /// The file could not be opened for writing.
     Create,
-    /// The output took its first `written` bytes and stopped.
+    /// The output took the first `written` bytes of the text and stopped.
     Write { written: usize, cause: WriteCause },
 }
 
-/// Prints the text of the fault, such as `The output stopped after 3 bytes.`, or that of the refusal.
+/// Prints the text of the fault, such as `The output stopped after 3 bytes.`, or the text of the refusal.
 impl fmt::Display for FileFault {
     ghost output = { λ fault. Some (fault_text fault) };
 

@@ -1,15 +1,15 @@
 //! The documents under a path, converted in place.
-ghost use Rattle.std.specs.Prelude.{◌≡◌, ◌↔◌, ◌∷◌, ◌++◌, [], List, All, IfErr, IfOk, IsTrue, OnOk, string_bytes};
-ghost use Rattle.latex2mathml.specs.Files.{Ascend, IsDocumentFault, IsDocumentPath, IsListed, IsReadingFault, IsWalk, IsWritingFault, entry_path, levels_read};
+ghost use Rattle.std.specs.Prelude.{◌≡◌, ◌↔◌, ◌∷◌, ◌++◌, [], List, All, IfOk, IsTrue, OnOk, length, string_bytes};
+ghost use Rattle.latex2mathml.specs.Files.{IsDocumentPath, IsListed, IsWalk, IsWalked, entry_path, levels_read};
 ghost use Rattle.latex2mathml.specs.declared.error.FileFault.TheVariants.{Entry};
-ghost use Rattle.latex2mathml.specs.declared.files.Kind.TheVariants.{Document};
+
+mod disk;
+mod site;
 
 use crate::error::FileFault;
-use crate::input::{Reading, read_document};
-use crate::stream::{Stream, write_text};
+pub use disk::Disk;
+pub use site::{Listing, PathKind, Site};
 use std::alloc::{AllocError, Global};
-use std::fs;
-use std::fs::ReadDir;
 use std::rt::Files;
 
 /// A file or a directory that was not converted, and why.
@@ -22,14 +22,6 @@ pub struct Unconverted {
 
 /// How many levels of directories are read.
 const LEVELS: u32 = 64;
-
-/// What stands at a path.
-enum Kind {
-    Directory,
-    Document,
-    /// What is left alone.
-    Other,
-}
 
 /// Converts the documents under a path in place, as [`replace`](crate::replace) does, and answers what it could not
 /// convert: the list is empty where it could convert all.
@@ -61,57 +53,65 @@ pub fn convert_html<R: Files + Alloc + Clone + Drop>(
 ) -> Result<Vec<Unconverted>, AllocError>
     ensures listed { IfOk result (λ unconverted. IsWalk levels_read path.now unconverted.items) }
 {
+    convert_site(&mut Disk { rt, alloc }, alloc, path)
+}
+
+/// Converts the documents under a path of a site, as [`convert_html`] does with those of the system.
+///
+/// The site is asked once what stands at a path, then, of a directory among the 64 levels, what it holds, and, of a
+/// document, to convert it. Nothing else is asked, each entry of a directory is walked, and the list has a member for
+/// each answer that is a fault, and no other.
+pub fn convert_site<S: Site>(
+    site: &mut S,
+    alloc: Global,
+    path: &str,
+) -> Result<Vec<Unconverted>, AllocError>
+    ensures walked { IfOk result (λ unconverted.
+        IsWalked levels_read path.now (S.answers site.old) (S.answers site.new) [] unconverted.items) }
+{
     let mut unconverted = Vec::new(alloc);
-    walk(rt, alloc, path, LEVELS, &mut unconverted)?;
+    walk(site, alloc, path, LEVELS, &mut unconverted)?;
     Ok(unconverted)
 }
 
 /// Converts what lies under a path, down to so many levels of directories, and adds to the list what it could not
 /// convert.
-fn walk<R: Files + Alloc + Clone + Drop>(
-    rt: &R,
+fn walk<S: Site>(
+    site: &mut S,
     alloc: Global,
     path: &str,
     levels: u32,
     unconverted: &mut Vec<Unconverted>,
 ) -> Result<(), AllocError>
-    ensures listed { OnOk result ((found : List Unconverted)
-        × (unconverted.new.items ≡ unconverted.old.items ++ found)
-        × IsWalk levels path.now found) }
+    ensures walked { OnOk result (IsWalked levels path.now
+        (S.answers site.old) (S.answers site.new) unconverted.old.items unconverted.new.items) }
 {
-    match kind_at(rt, path) {
-        Kind::Directory => {}
-        Kind::Document => {
-            return match convert(rt, alloc, path) {
+    match site.kind_at(path) {
+        PathKind::Directory => {}
+        PathKind::File => {
+            if !is_document(path) {
+                return Ok(());
+            }
+            return match site.convert(path) {
                 Ok(()) => Ok(()),
                 Err(fault) => add(alloc, unconverted, path, fault),
             };
         }
-        Kind::Other => return Ok(()),
+        PathKind::Other => return Ok(()),
     }
     if levels == 0 {
         return add(alloc, unconverted, path, FileFault::TooDeep);
     }
-    let Ok(entries) = fs::read_dir(rt, path) else {
+    let Some(Listing { mut names, unread }) = site.list(path)? else {
         return add(alloc, unconverted, path, FileFault::List);
     };
-    let names = sorted_names(alloc, path, entries, unconverted)?;
+    add_unread(alloc, unconverted, path, unread)?;
+    names.sort()?;
     for name in &names {
         let entry = join(alloc, path, name.as_str())?;
-        walk(rt, alloc, entry.as_str(), levels - 1, unconverted)?;
+        walk(site, alloc, entry.as_str(), levels - 1, unconverted)?;
     }
     Ok(())
-}
-
-/// What stands at a path, or where its links lead.
-fn kind_at<R: Files>(rt: &R, path: &str) -> Kind
-    ensures document { result ≡ Document → IsDocumentPath path.now }
-{
-    match fs::metadata(rt, path) {
-        Ok(metadata) if metadata.is_dir() => Kind::Directory,
-        Ok(metadata) if metadata.is_file() && is_document(path) => Kind::Document,
-        _ => Kind::Other,
-    }
 }
 
 /// Whether a file of this path is a document: its name ends in `.html` and is longer.
@@ -122,30 +122,6 @@ fn is_document(path: &str) -> bool
         Some(stem) => !stem.is_empty() && !stem.ends_with('/'),
         None => false,
     }
-}
-
-/// The names of the entries of a directory, in the order of their bytes. Entries that cannot be read are added to the
-/// list, each with the path of the directory.
-fn sorted_names<R: Files + Alloc + Clone + Drop>(
-    alloc: Global,
-    path: &str,
-    entries: ReadDir<R, R::A>,
-    unconverted: &mut Vec<Unconverted>,
-) -> Result<Vec<String>, AllocError>
-    ensures sorted { IfOk result (λ names. Ascend names.items) }
-    ensures unread { OnOk result ((unread : List Unconverted)
-        × (unconverted.new.items ≡ unconverted.old.items ++ unread)
-        × All (IsListed path.now Entry) unread) }
-{
-    let mut names = Vec::new(alloc);
-    for entry in entries {
-        match entry {
-            Ok(entry) => names.push(String::from_str(alloc, entry.file_name())?)?,
-            Err(_) => add(alloc, unconverted, path, FileFault::Entry)?,
-        }
-    }
-    names.sort()?;
-    Ok(names)
 }
 
 /// The path of an entry: one slash stands between the directory's path and the name.
@@ -176,32 +152,20 @@ fn add(
     Ok(())
 }
 
-/// Converts a document. It is opened for writing only where there is an answer that differs from what it holds.
-fn convert<R: Files>(rt: &R, alloc: Global, path: &str) -> Result<(), FileFault>
-    ensures fault { IfErr result IsDocumentFault }
+/// Adds the path of a directory to the list, once for each of its entries that could not be read.
+fn add_unread(
+    alloc: Global,
+    unconverted: &mut Vec<Unconverted>,
+    path: &str,
+    unread: usize,
+) -> Result<(), AllocError>
+    ensures added { OnOk result ((added : List Unconverted)
+        × (unconverted.new.items ≡ unconverted.old.items ++ added)
+        × All (IsListed path.now Entry) added
+        × (length added ≡ unread)) }
 {
-    match read(rt, alloc, path)? {
-        Reading::Changed(answer) => write_anew(rt, path, answer.as_str()),
-        Reading::Unchanged(_) => Ok(()),
+    for _entry in 0..unread {
+        add(alloc, unconverted, path, FileFault::Entry)?;
     }
-}
-
-/// Reads a document, and makes its answer.
-fn read<R: Files>(rt: &R, alloc: Global, path: &str) -> Result<Reading, FileFault>
-    ensures fault { IfErr result IsReadingFault }
-{
-    let Ok(inner) = fs::open(rt, path) else {
-        return Err(FileFault::Read);
-    };
-    read_document(alloc, &mut Stream::new(inner))
-}
-
-/// Empties the file and writes the text to it.
-fn write_anew<R: Files>(rt: &R, path: &str, text: &str) -> Result<(), FileFault>
-    ensures fault { IfErr result IsWritingFault }
-{
-    let Ok(inner) = fs::create(rt, path) else {
-        return Err(FileFault::Create);
-    };
-    write_text(&mut Stream::new(inner), text)
+    Ok(())
 }

@@ -1,8 +1,9 @@
 //! Texts and documents from sources.
-ghost use Rattle.std.specs.Prelude.{ℕ, List, IfErr, IfOk, IsTrue, string_bytes};
+ghost use Rattle.std.specs.Prelude.{ℕ, List, IfErr, IfOk, IsTrue, MatchBool, string_bytes};
 ghost use Rattle.std.specs.Io.KnownBytes.{IsAtEnd};
 ghost use Rattle.latex2mathml.specs.Inputs.{IsReadFault, IsReadingOf};
-ghost use Rattle.latex2mathml.specs.Streams.{CanGoOn, Gives, IsWhole};
+ghost use Rattle.latex2mathml.specs.Streams.{CanGoOn, Gives, HasEnded};
+ghost use Rattle.latex2mathml_formulas.specs.Dollars.{IsDollarFree};
 
 use crate::error::FileFault;
 use crate::replace;
@@ -13,21 +14,28 @@ use std::alloc::Global;
 /// A document that was read and converted.
 #[derive(Debug, Drop, PartialEq)]
 pub enum Reading {
-    /// The answer, which differs from the text that was read.
+    /// The converted document, which differs from the text that was read.
     Changed(String),
-    /// The text that was read, which is its own answer.
+    /// The text that was read, which contains no dollar sign.
     Unchanged(String),
 }
 
-/// How many bytes are asked for at once.
+/// How many bytes are requested at a time.
 const ROOM: usize = 4096;
 
 /// Reads a document to its end and converts its formulas, as [`replace`] does.
 ///
-/// It is [`Reading::Unchanged`] exactly where the text holds no dollar sign, also none behind a backslash. It is
-/// [`FileFault::Read`] where the source failed, [`FileFault::NotText`] where its bytes are not UTF-8, and
-/// [`FileFault::Refused`] where the document is refused or memory is not found, also for a source that never ends. A
-/// source that failed or ended is not asked again.
+/// Returns [`Reading::Unchanged`] exactly if the text contains no dollar sign, not even after a backslash, and otherwise
+/// [`Reading::Changed`]. The source must not have failed or ended before the call. A source that fails or ends is not called
+/// again.
+///
+/// # Errors
+///
+/// - [`FileFault::Read`] if the source failed.
+/// - [`FileFault::NotText`] if its bytes are not UTF-8.
+/// - [`FileFault::Refused`] if the document is refused or memory runs out, which also happens if a source never ends. If
+///   memory runs out during the reading, the rest of the source is not read.
+#[tactic(auto, using(crate::proofs::Repeating::own_answer, crate::proofs::Repeating::differs))]
 pub fn read_document<S: Source>(alloc: Global, source: &mut S) -> Result<Reading, FileFault>
     requires { CanGoOn (S.state source.old) }
     ensures reading { (bytes : List ℕ)
@@ -36,22 +44,37 @@ pub fn read_document<S: Source>(alloc: Global, source: &mut S) -> Result<Reading
     ensures all_read { IsTrue (S.state source.new).ended → IsAtEnd (S.state source.new).bytes }
 {
     let text = read_text(alloc, source)?;
+    // Such a document is its own answer, and need not be copied.
+    if !holds_dollar(text.as_str()) {
+        return Ok(Reading::Unchanged(text));
+    }
     match replace(alloc, text.as_str()) {
-        Ok(answer) if answer == text => Ok(Reading::Unchanged(text)),
         Ok(answer) => Ok(Reading::Changed(answer)),
         Err(refusal) => Err(FileFault::Refused(refusal)),
     }
 }
 
-/// Reads a text to its end, whatever it is.
+/// Whether a text contains a dollar sign, which may follow a backslash.
+fn holds_dollar(text: &str) -> bool
+    ensures { MatchBool result (¬ IsDollarFree text.now) (IsDollarFree text.now) }
+{
+    text.contains('$')
+}
+
+/// Reads any text to its end and returns it.
 ///
-/// It is [`FileFault::Read`] where the source failed, [`FileFault::NotText`] where its bytes are not UTF-8, and
-/// [`FileFault::Refused`] with [`LatexError::OutOfMemory`] where memory is not found, also for a source that never ends.
-/// A source that failed or ended is not asked again.
+/// The source must not have failed or ended before the call. A source that fails or ends is not called again.
+///
+/// # Errors
+///
+/// - [`FileFault::Read`] if the source failed.
+/// - [`FileFault::NotText`] if its bytes are not UTF-8.
+/// - [`FileFault::Refused`] with [`LatexError::OutOfMemory`] if memory runs out, which also happens if a source never ends.
+///   The rest of the source is then not read.
 pub fn read_text<S: Source>(alloc: Global, source: &mut S) -> Result<String, FileFault>
     requires { CanGoOn (S.state source.old) }
     ensures whole { IfOk result (λ text.
-        Gives (S.state source.old) (S.state source.new) (string_bytes text) × IsWhole (S.state source.new)) }
+        Gives (S.state source.old) (S.state source.new) (string_bytes text) × HasEnded (S.state source.new)) }
     ensures fault { IfErr result (λ fault. (bytes : List ℕ)
         × Gives (S.state source.old) (S.state source.new) bytes
         × IsReadFault bytes (S.state source.new) fault) }
@@ -63,11 +86,11 @@ pub fn read_text<S: Source>(alloc: Global, source: &mut S) -> Result<String, Fil
     }
 }
 
-/// All that the source gives.
+/// Returns all bytes of the source.
 fn read_whole<S: Source>(alloc: Global, source: &mut S) -> Result<Vec<u8>, FileFault>
     requires { CanGoOn (S.state source.old) }
     ensures whole { IfOk result (λ bytes.
-        Gives (S.state source.old) (S.state source.new) bytes.items × IsWhole (S.state source.new)) }
+        Gives (S.state source.old) (S.state source.new) bytes.items × HasEnded (S.state source.new)) }
     ensures fault { IfErr result (λ fault. (bytes : List ℕ)
         × Gives (S.state source.old) (S.state source.new) bytes
         × IsReadFault bytes (S.state source.new) fault) }

@@ -1,9 +1,10 @@
-//! Laws of the definitions: of documents, and those of formulas and nodes.
+//! Laws of the definitions: laws of documents, and re-exported laws of formulas and nodes. Each function does nothing. Its
+//! contract states a fact, and a proof calls the function to use the fact.
 ghost use Rattle.latex2mathml.specs.DocumentLaws.{AnswersHold, HasOneCut, HasOneOutcome, JoinsAnswers, RepeatsAnswers};
 
 pub use latex2mathml_formulas::laws::{
     dollar_free, one_reading, one_reading_of, one_rendering, one_token_list, places,
-    read_by_slices, refused_by_slices, rendering, renderings, sliced, white_space,
+    read_by_slices, refused_by_slices, rendering, renderings, sliced, texts, white_space,
 };
 pub use latex2mathml_nodes::laws::{
     balanced, joined_markup, one_element, restyled, widths_are_nearest,
@@ -16,9 +17,13 @@ pub fn one_cut(document: &str)
     let _ = document;
 }
 
-/// Each document has exactly one answer or exactly one refusal, which is for its dollar signs where it has no cut; an
-/// answer is its own answer, and those of documents joined are joined; and where the prose is balanced markup around the
-/// formulas, so is the answer.
+/// All laws of documents at once:
+///
+/// - A document has at most one cut.
+/// - Each document has exactly one answer or exactly one refusal. The refusal is for dollar signs exactly if there is no cut.
+/// - An answer is its own answer, and has one `math` element in the place of each formula.
+/// - Answers are joined as their documents are, under the condition of [`joined`].
+/// - If the prose around the formulas is balanced markup, so is the answer.
 pub fn answers()
     ensures { AnswersHold }
 {
@@ -26,8 +31,8 @@ pub fn answers()
     joined_markup();
 }
 
-/// Documents that have answers, joined, have the answers joined, where the first does not end in an odd number of
-/// backslashes.
+/// If two documents have answers, the joined documents have the joined answers, unless the first document ends in an odd
+/// number of backslashes.
 pub fn joined(first: &str, second: &str)
     ensures { JoinsAnswers first.now second.now }
 {

@@ -1,8 +1,11 @@
 //! LaTeX formulas to MathML, proved.
 //!
-//! [`latex_to_mathml`] turns one formula into one `math` element, [`replace`] does so with each formula of a document, and
-//! [`convert_html`] with the documents under a path. Every call that may allocate takes the allocator first, behind the
-//! runtime where it takes that, and answers a `Result`.
+//! - [`latex_to_mathml`] converts one formula to one `math` element.
+//! - [`replace`] converts each formula of a document.
+//! - [`convert_html`] converts the documents under a path.
+//!
+//! Every call that may allocate takes the allocator as its first argument, or after the runtime or the site if it takes one, and
+//! returns a `Result`.
 #![tactic(auto)]
 
 ghost use Rattle.std.specs.Prelude.{◌≡◌, None, IfOk, MatchResult, string_bytes};
@@ -17,31 +20,36 @@ mod files;
 mod input;
 pub mod laws;
 mod stream;
+pub mod token;
 
 pub use error::{FileFault, WriteCause};
-pub use files::{Unconverted, convert_html};
+pub use files::{Disk, Listing, PathKind, Site, Unconverted, convert_html, convert_site};
 pub use input::{Reading, read_document, read_text};
 pub use latex2mathml_formulas::{Steps, latex_to_mathml, latex_to_mathml_counted};
-pub use latex2mathml_tokens::{DisplayStyle, LatexError, attribute, token};
+pub use latex2mathml_tokens::{DisplayStyle, LatexError, attribute};
 use std::alloc::Global;
 pub use stream::{Sink, Source, Stream, write_document, write_text};
 
-/// The document with the `math` element of each formula in the formula's place.
+/// Returns the document with each formula replaced by its `math` element.
 ///
-/// A formula stands between single dollar signs, as `$x$`, and is set in the line, or between double dollar signs, as
-/// `$$x$$`, and is set in a block of its own. What stands before, between and behind formulas is kept byte for byte, but
-/// for `\$`.
+/// A formula is between single dollar signs, such as `$x$`, for a line of text, or between double dollar signs, such as
+/// `$$x$$`, for a block of its own. All other text is prose, and is kept byte for byte, except for `\$`.
 ///
-/// A backslash takes the character behind it with it, so the dollar sign of `\$` begins and ends no formula. In a formula
-/// it is the letter `$`, and outside formulas it becomes `&#x24;`. The answer holds no dollar sign.
+/// A backslash and the next character belong together, so the dollar sign of `\$` neither begins nor ends a formula. In a
+/// formula it is the letter `$`, and in prose it becomes `&#x24;`. The result contains no dollar sign. For example, `\$5 $x$`
+/// becomes `&#x24;5 ` and the `math` element of `x`.
 ///
-/// [`LatexError::InvalidNumberOfDollarSigns`] comes where the other dollar signs do not pair so or a formula is empty,
-/// whatever the formulas say. Otherwise the first formula that [`latex_to_mathml`] refuses decides.
+/// # Errors
+///
+/// - [`LatexError::InvalidNumberOfDollarSigns`] if the other dollar signs do not pair or a formula is empty, whatever the
+///   formulas are.
+/// - Otherwise the refusal of the first formula that [`latex_to_mathml`] refuses.
+/// - [`LatexError::OutOfMemory`] may replace any other result.
 pub fn replace(alloc: Global, input: &str) -> Result<String, LatexError>
     ensures answer { IfOk result (λ answer. IsAnswer input.now (string_bytes answer)) }
     ensures refusal { IfRefused result (IsRefusal input.now) }
 
-    // An answer holds no dollar sign, and a document without one is its own answer, unless memory is wanting.
+    // An answer contains no dollar sign, and a document without one is its own answer, unless the call is out of memory.
     ensures dollar_free { IfOk result (λ answer. IsDollarFree (string_bytes answer)) }
     ensures unchanged { IsDollarFree input.now →
         MatchResult result (λ answer. string_bytes answer ≡ input.now) (λ error. refusal_of error ≡ None) }

@@ -1,20 +1,20 @@
-//! Where bytes come from and go to, one call at a time.
-ghost use Rattle.std.specs.Prelude.{◌≡◌, ◌≤◌, false, length, take, is_none, IsTrue, IfErr, IfSome, MatchOption, OnOk};
+//! Sources and sinks of bytes.
+ghost use Rattle.std.specs.Prelude.{◌≡◌, ◌≤◌, length, take, is_none, IsFalse, IsTrue, IfErr, IfSome, MatchOption, OnOk};
 ghost use Rattle.std.specs.Io.KnownBytes.{Appends, Consumes, IsAtEnd, Keeps};
 ghost use Rattle.latex2mathml.specs.Streams.{CanGoOn, IsStopped, StreamState, Takes, meets_end};
 
 use crate::error::{FileFault, WriteCause};
 use std::io::{Read, Write};
 
-/// A source of bytes that is asked until it fails or ends, and never again.
+/// A source of bytes. It is called until it fails or ends, and never again.
 pub trait Source {
-    /// What is known of it: the bytes that the calls give from here on, and whether it has failed or ended.
+    /// What is known of the source: the bytes that later calls give, and whether it has failed or ended.
     ghost state: { Self → StreamState };
 
-    /// Puts bytes at the start of the room and answers how many, or `None` where the source fails.
+    /// Puts bytes at the start of `room` and returns how many, or returns `None` if the source fails.
     ///
-    /// It may be called while the source has neither failed nor ended. `None`, and nothing else, makes it failed, and
-    /// no byte is then lost. `Some(0)` for room that is not empty, and nothing else, makes it ended.
+    /// The source must not have failed or ended. It has failed exactly if the result is `None`, and no byte is then lost. It has
+    /// ended exactly if the result is `Some(0)` and `room` is not empty.
     fn take_in(&mut self, room: &mut [u8]) -> Option<usize>
         requires { CanGoOn (state self.old) }
         ensures bound { IfSome result (λ n. n ≤ length room.new) }
@@ -26,15 +26,15 @@ pub trait Source {
         ensures end { IsTrue (state self.new).ended → IsAtEnd (state self.new).bytes };
 }
 
-/// A sink of bytes that is asked until it fails or ends, and never again.
+/// A sink of bytes. It is called until it fails or ends, and never again.
 pub trait Sink {
-    /// What is known of it: the bytes that it took, and whether it has failed or ended.
+    /// What is known of the sink: the bytes that it took, and whether it has failed or ended.
     ghost state: { Self → StreamState };
 
-    /// Takes the first of the bytes and answers how many, or `None` where the sink fails.
+    /// Takes the first of the bytes and returns how many, or returns `None` if the sink fails.
     ///
-    /// It may be called while the sink has neither failed nor ended. `None`, and nothing else, makes it failed, and it
-    /// then took nothing. `Some(0)` for bytes that are not empty, and nothing else, makes it ended.
+    /// The sink must not have failed or ended. It has failed exactly if the result is `None`, and the call then took no byte. It
+    /// has ended exactly if the result is `Some(0)` and `bytes` is not empty.
     fn put_out(&mut self, bytes: &[u8]) -> Option<usize>
         requires { CanGoOn (state self.old) }
         ensures bound { IfSome result (λ n. n ≤ length bytes.now) }
@@ -45,24 +45,24 @@ pub trait Sink {
         ensures ended { (state self.new).ended ≡ meets_end result (length bytes.now) };
 }
 
-/// A reader as a source, and a writer as a sink. Every error of theirs is `None`, also an interruption.
+/// A reader as a source, or a writer as a sink. Each of their errors, even an interruption, is a failure.
 ///
 /// [`Stream::new`] makes one that has neither failed nor ended.
 #[derive(Debug, Drop)]
 pub struct Stream<T> {
     pub inner: T,
-    /// Whether a call has answered `None`.
+    /// Whether a call has returned `None`.
     pub failed: bool,
-    /// Whether a call has moved no byte, though some were due.
+    /// Whether a call has moved no byte, although there was room or there were bytes.
     pub ended: bool,
 }
 
 impl<T> Stream<T> {
-    /// The reader or writer as a stream that was not asked yet.
+    /// Returns the reader or writer as a stream that has neither failed nor ended.
     pub fn new(inner: T) -> Stream<T>
         ensures inner { result.inner ≡ inner }
-        ensures failed { result.failed ≡ false }
-        ensures ended { result.ended ≡ false }
+        ensures failed { IsFalse result.failed }
+        ensures ended { IsFalse result.ended }
     {
         Stream {
             inner,
@@ -114,10 +114,14 @@ impl<T: Write> Sink for Stream<T> {
     }
 }
 
-/// Puts out the whole text, whatever it is.
+/// Writes the whole text to the sink, and allocates nothing.
 ///
-/// On `Ok` the sink took exactly the text and can go on. The only error is [`FileFault::Write`]: the sink took exactly
-/// the first `written` bytes of the text, then failed or took nothing, and was not asked again. No memory is taken.
+/// The sink must not have failed or ended before the call. On `Ok` it took exactly the text and can go on.
+///
+/// # Errors
+///
+/// Only [`FileFault::Write`]: the sink took exactly the first `written` bytes of the text, then failed or took nothing, and
+/// was not called again. `cause` says which.
 #[tactic(auto, using(crate::proofs::StreamLemmas::appends_front, crate::proofs::StreamLemmas::goes_on))]
 pub fn write_text<S: Sink>(sink: &mut S, text: &str) -> Result<(), FileFault>
     requires { CanGoOn (S.state sink.old) }
@@ -144,7 +148,7 @@ pub fn write_text<S: Sink>(sink: &mut S, text: &str) -> Result<(), FileFault>
     Ok(())
 }
 
-/// Puts out the text of a document, as [`write_text`] does any.
+/// Writes the text of a document, as [`write_text`] writes any text.
 pub fn write_document<S: Sink>(writer: &mut S, text: &str) -> Result<(), FileFault>
     requires { CanGoOn (S.state writer.old) }
     ensures taken { OnOk result (Takes (S.state writer.old) (S.state writer.new) text.now) }

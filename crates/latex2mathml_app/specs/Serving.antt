@@ -1,8 +1,8 @@
 -- What the words of the command line ask for, and the lines and the status that answer them.
-use Rattle.std.specs.Prelude.{◌≡◌, ◌⊎◌, ℕ, List, [], ◌∷◌, ◌++◌, Result, Ok, Err, codes, map, string_bytes}
+use Rattle.std.specs.Prelude.{◌≡◌, ◌⊎◌, ℕ, List, [], ◌∷◌, ◌++◌, Option, Result, Ok, Err, codes, map, string_bytes}
 use Rattle.std.specs.Io.KnownBytes.{Keeps}
 use Rattle.latex2mathml.specs.Faults.{fault_text}
-use Rattle.latex2mathml.specs.Files.{IsWalk, levels_read}
+use Rattle.latex2mathml.specs.Files.{Answer, IsWalked, levels_read}
 use Rattle.latex2mathml.specs.Streams.{CanGoOn, IsStopped, StreamState, Takes}
 use Rattle.latex2mathml.specs.declared.error.FileFault.{FileFault}
 use Rattle.latex2mathml.specs.declared.error.FileFault.TheVariants.{Refused, Write}
@@ -117,36 +117,38 @@ abbrev pub ExitsWithLines : List Unconverted → StreamState → StreamState →
 ExitsWithLines [] old new status = (status ≡ done) × IsSilent old new
 ExitsWithLines (one ∷ more) old new status = (status ≡ not_done) × LinesPrinted (map unconverted_line (one ∷ more)) old new
 
--- the status and the stream of errors tell what converting the files under a path came to
-pub data ExitsAfterWalk (path : List ℕ) (old new : StreamState) (status : ℕ) : Type 0 where
+-- the status and the stream of errors tell what converting the files under a path came to, by what the site answered
+pub data ExitsAfterWalk (path : List ℕ) (before after : Option (List Answer)) (old new : StreamState) (status : ℕ) : Type 0 where
   -- the files were walked, and these were not converted
   WalkEnded : (unconverted : List Unconverted)
-      → IsWalk levels_read path unconverted
+      → IsWalked levels_read path before after [] unconverted
       → ExitsWithLines unconverted old new status
-      → ExitsAfterWalk path old new status
+      → ExitsAfterWalk path before after old new status
   -- no memory was found to walk on
   NoMemory : status ≡ not_done
       → LineWritten (fault_line (Refused OutOfMemory)) old new
-      → ExitsAfterWalk path old new status
+      → ExitsAfterWalk path before after old new status
 
--- what serving the words may come to, by what is known of the input, the output and the stream of errors before, and of
--- each of them then
-pub data IsServed (words : List (List ℕ)) (input_old input_new output_old output_new errors_old errors_new : StreamState) (status : ℕ) : Type 0 where
+-- what serving the words may come to, by what the site had answered before and then, and by what is known of the input, the
+-- output and the stream of errors before, and of each of them then
+pub data IsServed (words : List (List ℕ)) (before after : Option (List Answer)) (input_old input_new output_old output_new errors_old errors_new : StreamState) (status : ℕ) : Type 0 where
   -- the words are wrong. A line was put out: which one is not said, since a derived `Display` tells no text.
   WrongWords : AreWrong words
       → status ≡ wrong_words
+      → after ≡ before
       → (usage : List ℕ)
       → LinePrinted usage errors_old errors_new
-      → IsServed words input_old input_new output_old output_new errors_old errors_new status
+      → IsServed words before after input_old input_new output_old output_new errors_old errors_new status
   -- the job that the words ask for was run
   Ran : (job : Job)
       → AskFor job words
+      → after ≡ before
       → (result : Result Unit FileFault)
       → IsRun job input_old input_new output_old output_new result
       → ExitsWith result errors_old errors_new status
-      → IsServed words input_old input_new output_old output_new errors_old errors_new status
+      → IsServed words before after input_old input_new output_old output_new errors_old errors_new status
   -- the files under the path that the words name were converted
   Walked : (path : List ℕ)
       → AskForFiles path words
-      → ExitsAfterWalk path errors_old errors_new status
-      → IsServed words input_old input_new output_old output_new errors_old errors_new status
+      → ExitsAfterWalk path before after errors_old errors_new status
+      → IsServed words before after input_old input_new output_old output_new errors_old errors_new status

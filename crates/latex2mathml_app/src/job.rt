@@ -1,4 +1,4 @@
-//! One run of the program, from its input to its output.
+//! A run of the program, from its input to its output.
 ghost use Rattle.std.specs.Prelude.{◌≡◌, ◌++◌, IfOk, IsTrue, codes, string_bytes};
 ghost use Rattle.std.specs.Io.KnownBytes.{IsAtEnd};
 ghost use Rattle.latex2mathml.specs.Conversions.{formula, document};
@@ -15,21 +15,28 @@ use std::alloc::Global;
 /// What the program is to convert.
 #[derive(Debug, Clone, Copy, PartialEq, Eq)]
 pub enum Job {
-    /// One formula, set in a line of text.
+    /// One formula, for a line of text.
     Inline,
-    /// One formula, set in a block of its own.
+    /// One formula, for a block of its own.
     Block,
     /// A document: prose, with formulas between dollar signs.
     Document,
 }
 
-/// Converts all of the input, and puts out the whole answer or nothing of it.
+/// Converts all of the input, and writes the result to the output.
 ///
-/// The answer is the markup of the formula and a line feed, or that of the document and nothing else. The input is read
-/// until it gives no more. It is [`FileFault::Read`] where the input failed, [`FileFault::NotText`] where its bytes are
-/// not UTF-8, and [`FileFault::Refused`] where the formula or the document is refused or memory is not found; then the
-/// output was not asked and can go on. Where the input failed, or memory was not found while it was read, it was read in
-/// part. After [`FileFault::Write`] the output took the first bytes of the answer, as many as the fault says.
+/// The result is the markup of the formula with a line feed, or the answer of the document. The input is read to its end.
+/// Neither stream may have failed or ended before the call.
+///
+/// # Errors
+///
+/// - [`FileFault::Read`] if the input failed.
+/// - [`FileFault::NotText`] if its bytes are not UTF-8.
+/// - [`FileFault::Refused`] if the formula or the document is refused, or memory runs out.
+/// - [`FileFault::Write`] if the output stopped. It then took the first bytes of the result, as many as the fault says.
+///
+/// After the first three, nothing was written, and the output can go on. If the input failed, or memory ran out while it was
+/// read, only a part of it was read.
 pub fn run<R: Source, W: Sink>(
     alloc: Global,
     job: Job,
@@ -46,7 +53,7 @@ pub fn run<R: Source, W: Sink>(
     write_text(output, answer.as_str())
 }
 
-/// What the job makes of all that the source gives.
+/// Returns the result of the job for all bytes of the source.
 fn make<S: Source>(alloc: Global, job: Job, source: &mut S) -> Result<String, FileFault>
     requires { CanGoOn (S.state source.old) }
     ensures made { IsMade (conversion_of job) (S.state source.old) (S.state source.new) result }
@@ -59,7 +66,7 @@ fn make<S: Source>(alloc: Global, job: Job, source: &mut S) -> Result<String, Fi
     }
 }
 
-/// The markup of the formula that the source gives, and a line feed.
+/// Returns the markup of the formula that the source gives, with a line feed.
 fn line_made<S: Source>(
     alloc: Global,
     display: DisplayStyle,
@@ -76,7 +83,7 @@ fn line_made<S: Source>(
     }
 }
 
-/// The answer of the document that the source gives.
+/// Returns the answer of the document that the source gives.
 fn answer_made<S: Source>(alloc: Global, source: &mut S) -> Result<String, FileFault>
     requires { CanGoOn (S.state source.old) }
     ensures made { IsMade document (S.state source.old) (S.state source.new) result }
@@ -89,7 +96,7 @@ fn answer_made<S: Source>(alloc: Global, source: &mut S) -> Result<String, FileF
     }
 }
 
-/// The markup of a formula, and a line feed.
+/// Returns the markup of a formula, with a line feed.
 fn line(alloc: Global, latex: &str, display: DisplayStyle) -> Result<String, LatexError>
     ensures line { IfOk result (λ line. IsProduct (formula display) latex.now (string_bytes line)) }
     ensures refusal { IfRefused result (IsFormulaRefusal latex.now) }

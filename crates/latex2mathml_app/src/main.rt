@@ -8,12 +8,12 @@ ghost use Rattle.std.specs.IoError.{error_kind};
 mod job;
 mod serve;
 
-use latex2mathml::{LatexError, Stream};
+use latex2mathml::{Disk, LatexError, Stream};
 use std::io::{ErrorKind, Write};
 use std::process::ExitCode;
 use std::{env, io};
 
-/// Returns the arguments after the program's name, or none of them if one is not UTF-8.
+/// Returns the arguments after the program's name, or none if one of them is not UTF-8. The only `Err` is out of memory.
 fn words(rt: &HostRuntime) -> io::Result<Vec<String>>
     ensures { IfErr result (λ fault. error_kind fault ≡ ErrorKind.OutOfMemory) }
 {
@@ -33,9 +33,10 @@ fn main(rt: HostRuntime) -> ExitCode {
     let mut input = Stream::new(rt.stdin());
     let mut output = Stream::new(rt.stdout());
     let mut errors = Stream::new(rt.stderr());
+    let alloc = rt.alloc();
     let status = serve::serve(
-        &rt,
-        rt.alloc(),
+        &mut Disk { rt: &rt, alloc },
+        alloc,
         words.as_slice(),
         &mut input,
         &mut output,

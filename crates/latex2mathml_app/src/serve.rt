@@ -1,21 +1,20 @@
-//! The words of the command line, the lines on standard error, and the status.
+//! The arguments, the lines on standard error, and the status.
 ghost use Rattle.std.specs.Prelude.{◌≡◌, ◌↔◌, ℕ, List, IfNone, IfSome, IsTrue, map, string_bytes};
 ghost use Rattle.std.specs.Io.KnownBytes.{IsAtEnd};
 ghost use Rattle.latex2mathml.specs.Streams.{CanGoOn};
 ghost use Rattle.latex2mathml_app.specs.Serving.{ExitsAfterWalk, LinesPrinted, ExitsWithLines, AskFor, AskForFiles, AskForNoFiles, AskForNoJob, LinePrinted, IsServed, LineWritten, fault_line, unconverted_line, word_of, wrong_words};
 
 use crate::job::{Job, run};
-use latex2mathml::{FileFault, Sink, Source, Unconverted, convert_html, write_text};
+use latex2mathml::{FileFault, Sink, Site, Source, Unconverted, convert_site, write_text};
 use std::alloc::Global;
-use std::rt::Files;
 use thiserror::Error;
 
-/// Wrong words.
+/// The error for wrong arguments.
 #[derive(Debug, Drop, Error)]
 #[error("usage: latex2mathml inline | block | document | html PATH")]
 struct Usage;
 
-/// The line that is printed when out of memory. It takes no memory itself.
+/// The line that is printed if the walk runs out of memory. To print it allocates nothing.
 const OUT_OF_MEMORY: &str = "LaTeX2MathML Error: Memory could not be found.\n";
 
 const DONE: u8 = 0;
@@ -24,14 +23,17 @@ const REFUSED: u8 = 1;
 
 const WRONG_WORDS: u8 = 2;
 
-/// Does what the words ask for, and answers the status: 0 where it is done, 1 where it is not, 2 where the words are
-/// wrong.
+/// Does what the arguments request, and returns the exit status:
 ///
-/// Wrong words and `html` leave the input and the output as they were. Why something was not done is one line on
-/// `errors`, and for `html` one line for each file or directory that was not converted; a line for which no memory is
-/// found is left out, none comes after one that `errors` does not take whole, and neither changes the status.
-pub fn serve<F: Files + Alloc + Clone + Drop, R: Source, W: Sink, E: Sink>(
-    rt: &F,
+/// - 0 if everything is done.
+/// - 1 if something is not done. `errors` then gets a line that says why. For `html` it gets a line for each file or
+///   directory that was not converted.
+/// - 2 if the arguments are wrong. `errors` then gets the usage line.
+///
+/// With wrong arguments and with `html`, the input and the output are unchanged. If memory for a line runs out, the line is
+/// left out. After a line that `errors` does not take completely, no line follows. Neither changes the status.
+pub fn serve<S: Site, R: Source, W: Sink, E: Sink>(
+    site: &mut S,
     alloc: Global,
     words: &[String],
     input: &mut R,
@@ -42,6 +44,7 @@ pub fn serve<F: Files + Alloc + Clone + Drop, R: Source, W: Sink, E: Sink>(
     requires output { CanGoOn (W.state output.old) }
     requires errors { CanGoOn (E.state errors.old) }
     ensures served { IsServed (map string_bytes words.now)
+        (S.answers site.old) (S.answers site.new)
         (R.state input.old) (R.state input.new)
         (W.state output.old) (W.state output.new)
         (E.state errors.old) (E.state errors.new) result }
@@ -52,7 +55,7 @@ pub fn serve<F: Files + Alloc + Clone + Drop, R: Source, W: Sink, E: Sink>(
     ensures all_read { IsTrue (R.state input.new).ended → IsAtEnd (R.state input.new).bytes }
 {
     if let Some(path) = path_asked(words) {
-        return convert(rt, alloc, path, errors);
+        return convert(site, alloc, path, errors);
     }
     let Some(job) = job_asked(words) else {
         put_usage(alloc, errors);
@@ -67,7 +70,7 @@ pub fn serve<F: Files + Alloc + Clone + Drop, R: Source, W: Sink, E: Sink>(
     }
 }
 
-/// The path whose files the words ask to convert.
+/// Returns the path of the documents to convert, if the arguments are `html` and a path.
 fn path_asked(words: &[String]) -> Option<&str>
     ensures asked { IfSome result (λ path. AskForFiles path.now (map string_bytes words.now)) }
     ensures other { IfNone result (AskForNoFiles (map string_bytes words.now)) }
@@ -78,7 +81,7 @@ fn path_asked(words: &[String]) -> Option<&str>
     }
 }
 
-/// The job that the words ask for.
+/// Returns the job that the arguments request.
 fn job_asked(words: &[String]) -> Option<Job>
     ensures asked { IfSome result (λ job. AskFor job (map string_bytes words.now)) }
     ensures other { IfNone result (AskForNoJob (map string_bytes words.now)) }
@@ -89,7 +92,7 @@ fn job_asked(words: &[String]) -> Option<Job>
     }
 }
 
-/// The job that the word names.
+/// Returns the job with this name.
 fn job_named(word: &str) -> Option<Job>
     ensures named { IfSome result (λ job. word.now ≡ word_of job) }
     ensures unnamed { IfNone result ((job : Job) → ¬ (word.now ≡ word_of job)) }
@@ -102,25 +105,20 @@ fn job_named(word: &str) -> Option<Job>
     }
 }
 
-/// Converts the documents under the path, puts out a line for each that could not be converted, and answers the status.
-fn convert<F: Files + Alloc + Clone + Drop, E: Sink>(
-    rt: &F,
-    alloc: Global,
-    path: &str,
-    errors: &mut E,
-) -> u8
+/// Converts the documents under the path, writes a line for each that could not be converted, and returns the status.
+fn convert<S: Site, E: Sink>(site: &mut S, alloc: Global, path: &str, errors: &mut E) -> u8
     requires { CanGoOn (E.state errors.old) }
-    ensures told { ExitsAfterWalk path.now
+    ensures told { ExitsAfterWalk path.now (S.answers site.old) (S.answers site.new)
         (E.state errors.old) (E.state errors.new) result }
 {
-    let Ok(unconverted) = convert_html(rt, alloc, path) else {
+    let Ok(unconverted) = convert_site(site, alloc, path) else {
         put_line(errors, OUT_OF_MEMORY);
         return REFUSED;
     };
     tell(alloc, errors, unconverted.as_slice())
 }
 
-/// Puts out a line for each of these, and answers the status: they were not converted.
+/// Writes a line for each of these, which were not converted, and returns the status.
 fn tell<E: Sink>(alloc: Global, errors: &mut E, all: &[Unconverted]) -> u8
     requires { CanGoOn (E.state errors.old) }
     ensures told { ExitsWithLines all.now
@@ -133,7 +131,7 @@ fn tell<E: Sink>(alloc: Global, errors: &mut E, all: &[Unconverted]) -> u8
     REFUSED
 }
 
-/// Puts out a line for each of these, up to one that the stream does not take whole.
+/// Writes a line for each of these, until the stream does not take one completely.
 fn put_all_unconverted<E: Sink>(alloc: Global, errors: &mut E, all: &[Unconverted])
     requires { CanGoOn (E.state errors.old) }
     ensures put { LinesPrinted (map unconverted_line all.now) (E.state errors.old) (E.state errors.new) }
@@ -145,8 +143,8 @@ fn put_all_unconverted<E: Sink>(alloc: Global, errors: &mut E, all: &[Unconverte
     }
 }
 
-/// Puts out the line that tells why something was not converted, where memory is found for it, and answers whether the
-/// stream can take more.
+/// Writes the line that says why something was not converted, if there is memory for it, and returns whether the stream can
+/// take more.
 fn put_unconverted<E: Sink>(alloc: Global, errors: &mut E, unconverted: &Unconverted) -> bool
     requires { CanGoOn (E.state errors.old) }
     ensures put { LinePrinted (unconverted_line unconverted.now) (E.state errors.old) (E.state errors.new) }
@@ -160,10 +158,10 @@ fn put_unconverted<E: Sink>(alloc: Global, errors: &mut E, unconverted: &Unconve
     }
 }
 
-/// Puts out the usage line, where memory is found for it.
+/// Writes the usage line, if there is memory for it.
 fn put_usage<E: Sink>(alloc: Global, errors: &mut E)
     requires { CanGoOn (E.state errors.old) }
-    // what is derived for `Usage` says nothing of its text
+    // the derived `Display` of `Usage` has no contract about its text
     ensures put { (line : List ℕ) × LinePrinted line (E.state errors.old) (E.state errors.new) }
 {
     if let Ok(line) = format!(in alloc; "{}\n", Usage) {
@@ -171,7 +169,7 @@ fn put_usage<E: Sink>(alloc: Global, errors: &mut E)
     }
 }
 
-/// Puts out the line that tells the fault, where memory is found for it.
+/// Writes the line that reports the fault, if there is memory for it.
 fn put_fault<E: Sink>(alloc: Global, errors: &mut E, fault: &FileFault)
     requires { CanGoOn (E.state errors.old) }
     ensures put { LinePrinted (fault_line fault.now) (E.state errors.old) (E.state errors.new) }
@@ -181,7 +179,7 @@ fn put_fault<E: Sink>(alloc: Global, errors: &mut E, fault: &FileFault)
     }
 }
 
-/// Puts out the line, or its first bytes where the stream stops, and answers whether it can take more.
+/// Writes the line, or its first bytes if the stream stops, and returns whether the stream can take more.
 fn put_line<E: Sink>(errors: &mut E, line: &str) -> bool
     requires { CanGoOn (E.state errors.old) }
     ensures put { LineWritten line.now (E.state errors.old) (E.state errors.new) }

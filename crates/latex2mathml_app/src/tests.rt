@@ -4,7 +4,7 @@ ghost use Rattle.std.specs.Prelude.{IsFalse};
 use crate::job::{Job, run};
 use crate::serve::serve;
 use latex2mathml::token::Token;
-use latex2mathml::{FileFault, LatexError, Stream, WriteCause};
+use latex2mathml::{Disk, FileFault, LatexError, Stream, WriteCause};
 use std::alloc::{AllocError, Global};
 use std::io::{Read, Write};
 use std::test::Fail;
@@ -136,7 +136,7 @@ fn runs(rt: HostRuntime) -> Result<(), Fail> {
     Ok(())
 }
 
-/// The answer to a document is all that is written: no line feed is added behind it.
+/// Only the answer of a document is written: no line feed is added.
 #[test]
 fn runs_documents(rt: HostRuntime) -> Result<(), Fail> {
     for (document, answer) in [
@@ -156,7 +156,7 @@ fn runs_documents(rt: HostRuntime) -> Result<(), Fail> {
     Ok(())
 }
 
-/// Nothing is written if the dollar signs do not pair, and nothing of what stands before a refused formula.
+/// Nothing is written if the dollar signs do not pair or a formula is refused, not even what comes before that formula.
 #[test]
 fn refuses_documents(rt: HostRuntime) -> Result<(), Fail> {
     let (held, ended) = read_by_bytes(rt.alloc(), Job::Document, b"$$$", LONG_AGO);
@@ -289,7 +289,7 @@ fn served(
     let mut output = stream(Vec::new(alloc));
     let mut errors = stream(Vec::new(alloc));
     let status = serve(
-        rt,
+        &mut Disk { rt, alloc },
         alloc,
         words.as_slice(),
         &mut input,
@@ -314,8 +314,10 @@ fn served_over(
     requires errors_unfailed { IsFalse errors.old.failed }
     requires errors_unended { IsFalse errors.old.ended }
 {
-    let words = texts(rt.alloc(), words)?;
-    Ok(serve(rt, rt.alloc(), words.as_slice(), input, output, errors))
+    let alloc = rt.alloc();
+    let words = texts(alloc, words)?;
+    let mut disk = Disk { rt, alloc };
+    Ok(serve(&mut disk, alloc, words.as_slice(), input, output, errors))
 }
 
 const USAGE: &[u8] = b"usage: latex2mathml inline | block | document | html PATH\n";

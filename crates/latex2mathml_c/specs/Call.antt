@@ -1,10 +1,9 @@
 -- What a call from C comes to, for its input, a list of bytes, and the room that it is given.
 use Rattle.std.specs.Prelude.{◌≡◌, ◌≢◌, ◌<◌, ◌≤◌, ◌⊎◌, ℕ, List, ◌++◌, Bool, true, false, IsUtf8, codes, drop, length}
 use Rattle.latex2mathml.specs.Formulas.{Refusal, refusal_text, DisplayStyle, Block, Inline}
-use Rattle.latex2mathml.specs.Conversions.{IsConverted, IsRefusedAs}
-use Rattle.latex2mathml.specs.Conversions as conversions
-use Rattle.latex2mathml_c.specs.declared.Conversion.{Conversion}
-use Rattle.latex2mathml_c.specs.declared.Conversion.TheVariants.{Formula, Document}
+use Rattle.latex2mathml.specs.Conversions.{Conversion, IsConverted, IsRefusedAs, formula, document}
+use Rattle.latex2mathml_c.specs.declared.Job.{Job}
+use Rattle.latex2mathml_c.specs.declared.Job.TheVariants.{Formula, Document}
 use Rattle.latex2mathml_c.specs.declared.Status.{Status}
 use Rattle.latex2mathml_c.specs.declared.Status.TheVariants.{Done, Refused, NotUtf8, TooSmall, OutOfMemory}
 
@@ -23,19 +22,19 @@ code_of OutOfMemory = 4
 
 -- The text that a call comes to.
 
--- as what the input is converted
-abbrev pub conversion_of : Conversion → conversions.Conversion
-conversion_of (Formula display) = conversions.formula display
-conversion_of Document = conversions.document
+-- as what the job converts its input
+abbrev pub conversion_of : Job → Conversion
+conversion_of (Formula display) = formula display
+conversion_of Document = document
 
 -- the text that the input comes to, and what it is: the markup, or why there is none
-abbrev pub IsText : Conversion → List ℕ → Status → List ℕ → Type 0
-IsText conversion input Done text = IsUtf8 input × IsConverted (conversion_of conversion) input text
-IsText conversion input Refused text =
-    IsUtf8 input × ((refusal : Refusal) × IsRefusedAs (conversion_of conversion) input refusal × (text ≡ refusal_text refusal))
-IsText conversion input NotUtf8 text = (¬ IsUtf8 input) × (text ≡ codes "The input is not UTF-8 text.")
-IsText conversion input TooSmall text = ⊥
-IsText conversion input OutOfMemory text = ⊥
+abbrev pub IsText : Job → List ℕ → Status → List ℕ → Type 0
+IsText job input Done text = IsUtf8 input × IsConverted (conversion_of job) input text
+IsText job input Refused text =
+    IsUtf8 input × ((refusal : Refusal) × IsRefusedAs (conversion_of job) input refusal × (text ≡ refusal_text refusal))
+IsText job input NotUtf8 text = (¬ IsUtf8 input) × (text ≡ codes "The input is not UTF-8 text.")
+IsText job input TooSmall text = ⊥
+IsText job input OutOfMemory text = ⊥
 
 -- The room.
 
@@ -58,16 +57,16 @@ abbrev pub IsPutOrTooSmall : Status → Status → List ℕ → Room → Type 0
 IsPutOrTooSmall status result text room = ((result ≡ status) × IsPut text room) ⊎ ((result ≡ TooSmall) × IsLeftOut text room)
 
 -- what a call comes to: nothing is written where the room is too small or memory was not found, and else the text
-abbrev pub IsCallOutcome : Conversion → List ℕ → Status → Room → Type 0
-IsCallOutcome conversion input TooSmall room =
-    (status : Status) × (text : List ℕ) × IsText conversion input status text × IsLeftOut text room
-IsCallOutcome conversion input OutOfMemory room = (room.needed ≡ 0) × (room.new ≡ room.old)
-IsCallOutcome conversion input status room = (text : List ℕ) × IsText conversion input status text × IsPut text room
+abbrev pub IsCallOutcome : Job → List ℕ → Status → Room → Type 0
+IsCallOutcome job input TooSmall room =
+    (status : Status) × (text : List ℕ) × IsText job input status text × IsLeftOut text room
+IsCallOutcome job input OutOfMemory room = (room.needed ≡ 0) × (room.new ≡ room.old)
+IsCallOutcome job input status room = (text : List ℕ) × IsText job input status text × IsPut text room
 
 -- Calls after it.
 
 -- so many bytes are what each call with this input needs: each that memory was found for says so, and none with as much
 -- room finds it too small
-pub record IsLength (conversion : Conversion) (input : List ℕ) (bytes : ℕ) : Type 0 where
-  pub said : (status : Status) (room : Room) → status ≢ OutOfMemory → IsCallOutcome conversion input status room → room.needed ≡ bytes
-  pub fits : (room : Room) → bytes ≤ length room.old → ¬ IsCallOutcome conversion input TooSmall room
+pub record IsLength (job : Job) (input : List ℕ) (bytes : ℕ) : Type 0 where
+  pub said : (status : Status) (room : Room) → status ≢ OutOfMemory → IsCallOutcome job input status room → room.needed ≡ bytes
+  pub fits : (room : Room) → bytes ≤ length room.old → ¬ IsCallOutcome job input TooSmall room

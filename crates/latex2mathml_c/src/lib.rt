@@ -1,11 +1,11 @@
-//! The library for C, and for whatever calls C: `include/latex2mathml.h` is its header.
+//! The library for C, and for languages that can call C. Its header is `include/latex2mathml.h`.
 //!
-//! Each call takes a text as bytes and room that the caller owns, and answers a number, the [`Status`]. The text that it
-//! comes to, the markup or why there is none, is written into the room where it fits.
+//! Each call takes a text as bytes and a buffer that the caller owns, and returns a number, the code of a [`Status`]. The
+//! result, which is the markup or the reason why there is none, is written into the buffer if it fits.
 #![tactic(auto)]
 
 ghost use Rattle.std.specs.Prelude.{◌≡◌, ◌≢◌, IfOk, string_bytes};
-ghost use Rattle.latex2mathml_c.specs.declared.Conversion.TheVariants.{Document, Formula};
+ghost use Rattle.latex2mathml_c.specs.declared.Job.TheVariants.{Document, Formula};
 ghost use Rattle.latex2mathml_c.specs.declared.Status.{Status};
 ghost use Rattle.latex2mathml_c.specs.declared.Status.TheVariants.{OutOfMemory};
 ghost use Rattle.latex2mathml_c.specs.Call.{IsLength, IsCallOutcome, IsPutOrTooSmall, IsText, code_of, conversion_of, display_of};
@@ -17,25 +17,25 @@ use std::alloc::{AllocError, Global};
 
 /// What is to be converted.
 #[derive(Clone, Copy)]
-enum Conversion {
-    /// One formula, set so.
+enum Job {
+    /// One formula, for this display.
     Formula(DisplayStyle),
     /// A document: prose, with formulas between dollar signs.
     Document,
 }
 
-/// What a call comes to.
+/// The outcome of a call.
 #[derive(Clone, Copy)]
 enum Status {
-    /// The room holds the markup.
+    /// The buffer contains the markup.
     Done,
-    /// The text is refused, and the room holds the reason.
+    /// The text is refused, and the buffer contains the reason.
     Refused,
-    /// The bytes are not UTF-8, and the room holds a sentence that says so.
+    /// The bytes are not UTF-8, and the buffer contains a sentence that says so.
     NotUtf8,
-    /// The room is too small for whichever of the three. Nothing was written.
+    /// The buffer is too small for the text of one of these three. Nothing was written.
     TooSmall,
-    /// Memory could not be found. Nothing was written.
+    /// Memory ran out. Nothing was written.
     OutOfMemory,
 }
 
@@ -54,10 +54,10 @@ impl Status {
     }
 }
 
-/// Converts one formula, in a block of its own or in a line of text, and answers a code of the header.
+/// Converts one formula, for a block of its own or for a line of text, and returns a code of the header.
 ///
-/// The text that the call comes to stands at the start of `out` where it fits, and `needed` is its length in bytes,
-/// whether it fits or not. A second call with as much room fits.
+/// The result is at the start of `out` if it fits. Otherwise nothing is written. `needed` is its length in bytes in both
+/// cases, and 0 if memory ran out. In a second call with `needed` bytes the result fits.
 #[unsafe(no_mangle)]
 pub extern "C" fn latex2mathml_formula(
     alloc: Global,
@@ -74,13 +74,13 @@ pub extern "C" fn latex2mathml_formula(
 {
     laws::renderings();
     laws::answers();
-    let conversion = Conversion::Formula(display(block));
-    call(alloc, conversion, latex, out, needed).code()
+    let job = Job::Formula(display(block));
+    call(alloc, job, latex, out, needed).code()
 }
 
-/// Converts a document, prose with formulas between dollar signs, and answers a code of the header.
+/// Converts a document, which is prose with formulas between dollar signs, and returns a code of the header.
 ///
-/// `out` and `needed` are as those of [`latex2mathml_formula`].
+/// `out` and `needed` are as in [`latex2mathml_formula`].
 #[unsafe(no_mangle)]
 pub extern "C" fn latex2mathml_document(
     alloc: Global,
@@ -95,7 +95,7 @@ pub extern "C" fn latex2mathml_document(
 {
     laws::renderings();
     laws::answers();
-    call(alloc, Conversion::Document, document, out, needed).code()
+    call(alloc, Job::Document, document, out, needed).code()
 }
 
 fn display(block: bool) -> DisplayStyle
@@ -108,36 +108,26 @@ fn display(block: bool) -> DisplayStyle
     }
 }
 
-/// Converts the input, and puts the text that this comes to where it fits.
-fn call(
-    alloc: Global,
-    conversion: Conversion,
-    input: &[u8],
-    out: &mut [u8],
-    needed: &mut usize,
-) -> Status
-    ensures outcome { IsCallOutcome conversion input.now result
+/// Converts the input, and writes the result into the buffer if it fits.
+fn call(alloc: Global, job: Job, input: &[u8], out: &mut [u8], needed: &mut usize) -> Status
+    ensures outcome { IsCallOutcome job input.now result
         (record { old = out.old; new = out.new; needed = needed.new }) }
 {
     *needed = 0;
     let Ok(text) = str::from_utf8(input) else {
         return put(Status::NotUtf8, "The input is not UTF-8 text.", out, needed);
     };
-    match text_of(alloc, conversion, text) {
+    match text_of(alloc, job, text) {
         Ok((status, text)) => put(status, text.as_str(), out, needed),
         Err(_) => Status::OutOfMemory,
     }
 }
 
-/// What the input comes to: its markup, or the reason why it is refused.
-fn text_of(
-    alloc: Global,
-    conversion: Conversion,
-    input: &str,
-) -> Result<(Status, String), AllocError>
-    ensures { IfOk result (λ told. IsText conversion input.now told.0 (string_bytes told.1)) }
+/// Returns the markup of the input, or the reason why it is refused, with the status. The only `Err` is out of memory.
+fn text_of(alloc: Global, job: Job, input: &str) -> Result<(Status, String), AllocError>
+    ensures { IfOk result (λ told. IsText job input.now told.0 (string_bytes told.1)) }
 {
-    match converted(alloc, conversion, input) {
+    match converted(alloc, job, input) {
         Ok(markup) => Ok((Status::Done, markup)),
         Err(error) => {
             if error == LatexError::OutOfMemory {
@@ -149,20 +139,20 @@ fn text_of(
     }
 }
 
-/// The markup of the text.
-fn converted(alloc: Global, conversion: Conversion, text: &str) -> Result<String, LatexError>
+/// Returns the markup of the text.
+fn converted(alloc: Global, job: Job, text: &str) -> Result<String, LatexError>
     ensures markup { IfOk result (λ markup.
-        IsConverted (conversion_of conversion) text.now (string_bytes markup)) }
-    ensures refusal { IfRefused result (IsRefusedAs (conversion_of conversion) text.now) }
+        IsConverted (conversion_of job) text.now (string_bytes markup)) }
+    ensures refusal { IfRefused result (IsRefusedAs (conversion_of job) text.now) }
 {
     laws::dollar_free(text);
-    match conversion {
-        Conversion::Formula(display) => latex_to_mathml(alloc, text, display),
-        Conversion::Document => replace(alloc, text),
+    match job {
+        Job::Formula(display) => latex_to_mathml(alloc, text, display),
+        Job::Document => replace(alloc, text),
     }
 }
 
-/// Puts the text at the start of the room and answers its status, or writes nothing where there is too little room.
+/// Puts the text at the start of the buffer and returns its status, or writes nothing if the buffer is too small.
 fn put(status: Status, text: &str, out: &mut [u8], needed: &mut usize) -> Status
     ensures { IsPutOrTooSmall status result text.now
         (record { old = out.old; new = out.new; needed = needed.new }) }

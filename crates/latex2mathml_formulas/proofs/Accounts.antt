@@ -1,20 +1,21 @@
 -- What a whole reading answers and counts, from what its parts do.
-use Rattle.std.proofs.Common.{◌≡◌, ◌≢◌, ℕ, ◌+◌, ◌*◌, ◌<◌, ◌≤◌, Bool, true, false, List, [], ◌∷◌, ◌++◌, length, Option, Some, None, Result, Global, Ok, Err, refl, ap, ◌∙◌, arith}
+use Rattle.std.proofs.Common.{◌≡◌, ◌≢◌, ℕ, ◌+◌, ◌<◌, ◌≤◌, Bool, true, false, List, [], ◌∷◌, ◌++◌, cond, drop, length, sym, take, Option, Some, None, Result, Global, Ok, Err, refl, ap, ◌∙◌, arith}
 use Rattle.std.specs.Prelude.{IfOk, IfSome, OnOk, is_ok, string_bytes, String}
 use Rattle.std.proofs.lemmas.List.{length-map}
+use Rattle.std.proofs.lemmas.List.Sums.{sum_by-take-drop}
 use Rattle.std.specs.Str.{chars, IsUtf8}
 use Rattle.std.proofs.Math.Utf8.{encodes}
 use Rattle.std.proofs.lemmas.Str.{encodes-chars, length-le-encodes}
-use Rattle.latex2mathml_formulas.specs.Counts.{IsComparisonCount, IsTokenCount, backslashes}
+use Rattle.latex2mathml_formulas.specs.Counts.{IsComparisonCount, IsRefusalCount, IsRefusedWithin, IsTokenCount, backslashes, begins_with_backslash}
 use Rattle.latex2mathml_formulas.specs.Cutting.{slices_of}
 use Rattle.latex2mathml_formulas.specs.Grammar.{Reading, Refuses}
-use Rattle.latex2mathml_formulas.specs.Openers.{IsFrameCount, OpensFor}
+use Rattle.latex2mathml_formulas.specs.Openers.{IsFrameCount}
 use Rattle.latex2mathml_tokens.specs.Refusal.{IfRefused, InvalidNumberOfDollarSigns, Refusal, refusal_of}
 use Rattle.latex2mathml_formulas.specs.Rendering.{IsFormulaRefusal, IsRendering, math_print}
 use Rattle.latex2mathml_formulas.specs.Spelling.{HasSlices, HasTokens, Slice, takes_digit}
 use Rattle.latex2mathml_tokens.specs.Tok.{Tok}
 use Rattle.latex2mathml_nodes.specs.Tree.{Tree}
-use Rattle.latex2mathml_formulas.specs.Unread.{GoesOn, Left, token_list}
+use Rattle.latex2mathml_formulas.specs.Unread.{GoesOn, OpensFor, Unread, token_list}
 use Rattle.latex2mathml_tokens.specs.declared.DisplayStyle.{DisplayStyle}
 use Rattle.latex2mathml_tokens.specs.declared.error.LatexError.{LatexError}
 use Rattle.latex2mathml_formulas.proofs.OneList.{cut}
@@ -25,7 +26,7 @@ use Rattle.latex2mathml_formulas.proofs.Tokenizing.{step_shortens}
 pub whole_list : (text : List ℕ) (l : List Tok) → l ≡ token_list (slices_of false text) → HasTokens None text l
 whole_list text l e = (slices_of false text, cut false text, e)
 
-pub token_count : {A E : Type 0} (text : List ℕ) (r : Result A E) (old new : Left) (n : ℕ) → old.list ≡ token_list (slices_of false text) → old.tokens ≡ 0 → GoesOn old new → OnOk r (new.list ≡ []) → n ≡ new.tokens → IsTokenCount text (is_ok r) n
+pub token_count : {A E : Type 0} (text : List ℕ) (r : Result A E) (old new : Unread) (n : ℕ) → old.list ≡ token_list (slices_of false text) → old.tokens ≡ 0 → GoesOn old new → OnOk r (new.list ≡ []) → n ≡ new.tokens → IsTokenCount text (is_ok r) n
 token_count {A} {E} text r old new n e none goes all same =
     let whole : length old.list ≡ length (slices_of false text) = ap length e ∙ length-map (slices_of false text) (λ s. s.token) in
     (slices_of false text, cut false text, omega arith, exact r all)
@@ -34,14 +35,28 @@ token_count {A} {E} text r old new n e none goes all same =
     exact (Ok x) all h = let whole : length old.list ≡ length (slices_of false text) = ap length e ∙ length-map (slices_of false text) (λ s. s.token) in omega (arith, ap length all)
     exact (Err x) all h = cc
 
-pub comparison_count : {A E : Type 0} (text : List ℕ) (r : Result A E) (old new : Left) (n : ℕ) → old.backslashes ≡ backslashes (slices_of false text) → old.comparisons ≡ 0 → GoesOn old new → OnOk r (new.list ≡ []) → (new.list ≡ [] → new.backslashes ≡ 0) → n ≡ new.comparisons → IsComparisonCount text (is_ok r) n
-comparison_count {A} {E} text r old new n e none goes all at_end same = (slices_of false text, cut false text, omega arith, exact r all)
+-- where a node is refused, all tokens before it were taken, and more
+pub refusal_count : {A : Type 0} (text : List ℕ) (r : Result A LatexError) (old new : Unread) (n : ℕ) → old.list ≡ token_list (slices_of false text) → old.tokens ≡ 0 → GoesOn old new → IfRefused r (IsRefusedWithin old.list new.list) → n ≡ new.tokens → IfRefused r (IsRefusalCount text n)
+refusal_count text (Ok markup) old new n e none goes h same = tt
+refusal_count text (Err error) old new n e none goes h same = told (refusal_of error) h
   where
-    exact : (r : Result A E) → OnOk r (new.list ≡ []) → is_ok r ≡ true → backslashes (slices_of false text) ≤ n
-    exact (Ok x) all h = let gone = at_end all in omega arith
-    exact (Err x) all h = cc
+    counted : (q : Refusal) → IsRefusedWithin old.list new.list q → IsRefusalCount text n q
+    counted q (place, are, refused, fewer) = (old.list, whole_list text old.list e, (place, are, refused, omega (arith, goes.tokens)))
 
-pub frame_count : (text : List ℕ) (old new : Left) (taken before n : ℕ) → old.list ≡ token_list (slices_of false text) → old.tokens ≡ 0 → before ≡ 0 → OpensFor old new (before + 0) n → taken ≡ new.tokens → IsFrameCount text taken n
+    told : (o : Option Refusal) → IfSome o (IsRefusedWithin old.list new.list) → IfSome o (IsRefusalCount text n)
+    told None h = tt
+    told (Some q) h = counted q h
+
+pub comparison_count : (text : List ℕ) (old new : Unread) (taken n : ℕ) → old.slices ≡ slices_of false text → old.tokens ≡ 0 → old.backslashes ≡ backslashes (slices_of false text) → old.comparisons ≡ 0 → GoesOn old new → new.backslashes ≡ backslashes new.slices → taken ≡ new.tokens → n ≡ new.comparisons → IsComparisonCount text taken n
+comparison_count text old new taken n is start all none goes left same_taken same =
+    let slices = slices_of false text in
+    let stood : old.slices ≡ drop old.tokens slices = is ∙ ap (λ k. drop k slices) (sym start) in
+    let stands : new.slices ≡ drop taken slices = goes.rest slices stood ∙ ap (λ k. drop k slices) (sym same_taken) in
+    let unread : new.backslashes ≡ backslashes (drop taken slices) = left ∙ ap backslashes stands in
+    let parted : backslashes (take taken slices) + backslashes (drop taken slices) ≡ backslashes slices = sum_by-take-drop (λ s. cond (begins_with_backslash s.text) 1 0) slices taken in
+    (slices, cut false text, omega arith, omega arith)
+
+pub frame_count : (text : List ℕ) (old new : Unread) (taken before n : ℕ) → old.list ≡ token_list (slices_of false text) → old.tokens ≡ 0 → before ≡ 0 → OpensFor old new (before + 0) n → taken ≡ new.tokens → IsFrameCount text taken n
 frame_count text old new taken before n e none start opens same = (omega arith, (old.list, whole_list text old.list e, omega arith))
 
 rendering : (text : List ℕ) (display : DisplayStyle) (l : List Tok) (markup : List ℕ) (xs : List Tree) → l ≡ token_list (slices_of false (chars text)) → Reading l xs → markup ≡ math_print display xs → IsRendering text display markup

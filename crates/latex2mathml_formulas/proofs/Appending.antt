@@ -1,9 +1,15 @@
 -- The nodes of a formula, read and printed one after another.
-use Rattle.std.proofs.Common.{◌≡◌, ◌≢◌, ℕ, ◌<◌, Option, List, [], ◌∷◌, ◌++◌, length, Some, None, refl, sym, ap, subst, ◌∙◌, append_assoc, append-nil, arith}
+use Rattle.std.proofs.Common.{◌≡◌, ◌≢◌, ℕ, ◌<◌, Bool, true, false, Option, List, [], ◌∷◌, ◌++◌, length, Some, None, refl, sym, ap, subst, ◌∙◌, append_assoc, append-nil, arith}
+use Rattle.latex2mathml_formulas.specs.Counts.{AreNodes, IsRefusedWithin, no_node, one_more}
 use Rattle.latex2mathml_formulas.specs.Frames.{inside}
 use Rattle.latex2mathml_formulas.specs.Grammar.{core, first, gives, rule, node, Outcome, Read, Refused, Reads, ReadsAll, formula_ends, member_read, later_refused, member_refused, Reading, Refuses}
 use Rattle.latex2mathml_nodes.specs.Print.{print, prints}
-use Rattle.latex2mathml_tokens.specs.Refusal.{Refusal}
+use Rattle.std.specs.Prelude.{IfSome}
+use Rattle.latex2mathml_formulas.specs.Steps.{Holds, IsAppended, end_of}
+use Rattle.latex2mathml_tokens.specs.Refusal.{Refusal, refusal_of}
+use Rattle.latex2mathml_tokens.specs.declared.error.LatexError.{LatexError}
+use Rattle.latex2mathml_formulas.specs.declared.parse.Parser.{Parser}
+use Rattle.latex2mathml_formulas.specs.declared.parse.State.TheVariants as state
 use Rattle.latex2mathml_tokens.specs.Tok.{Tok}
 use Rattle.latex2mathml_nodes.specs.Tree.{Tree, trees_of}
 use Rattle.latex2mathml_formulas.specs.Levels.{Made, RuleLeads}
@@ -24,12 +30,14 @@ pub record Appends (input place : List Tok) (old new : List ℕ) : Type 0 where
   pub nodes : List Tree
   -- whatever the tokens that are left come to, the formula comes to that behind the nodes
   pub leads : (o : Outcome (List Tree)) → ReadsAll None place o → ReadsAll None input (behind nodes o)
+  pub are : AreNodes input place
   pub text : new ≡ old ++ prints (trees_of nodes)
 
 pub no_nodes : (input : List Tok) (old new : List ℕ) → new ≡ old → Appends input input old new
 no_nodes input old new e = record {
   nodes = [];
   leads = unchanged;
+  are = no_node;
   text = e ∙ sym (append-nil old);
 }
   where
@@ -53,11 +61,16 @@ one_read [] to x o some d ds = absurd (some refl)
 one_read (t ∷ ts) to x (Read xs rest) some d ds = member_read (no_end t) d ds
 one_read (t ∷ ts) to x (Refused r) some d ds = later_refused (no_end t) d ds
 
+one_more_node : {input : List Tok} (place to : List Tok) (x : Tree) → place ≢ [] → Reads node place (Read x to) → AreNodes input place → AreNodes input to
+one_more_node [] to x some d are = absurd (some refl)
+one_more_node (t ∷ ts) to x some d are = one_more are d
+
 -- one more node is read and printed
 pub one_node : (input place to : List Tok) (old new newer : List ℕ) (x : Tree) → place ≢ [] → Reads node place (Read x to) → newer ≡ new ++ print x → Appends input place old new → Appends input to old newer
 one_node input place to old new newer x some d e so_far = record {
   nodes = so_far.nodes ++ x ∷ [];
   leads = λ o ds. subst (ReadsAll None input) (sym (behind-push so_far.nodes x o)) (so_far.leads _ (one_read place to x o some d ds));
+  are = one_more_node place to x some d so_far.are;
   text = e ∙ ap (λ l. l ++ print x) so_far.text ∙ append_assoc old (prints (trees_of so_far.nodes)) (print x) ∙ ap (λ l. old ++ l) (sym (prints-push so_far.nodes x));
 }
 
@@ -73,9 +86,41 @@ one_refused [] r some d = absurd (some refl)
 one_refused (t ∷ ts) r some d = member_refused (no_end t) d
 
 -- the next node refuses
-pub node_refused : (input place : List Tok) (old new : List ℕ) (r : Refusal) → (place ≢ []) × Reads node place (Refused r) → Appends input place old new → Refuses input r
+node_refused : (input place : List Tok) (old new : List ℕ) (r : Refusal) → (place ≢ []) × Reads node place (Refused r) → Appends input place old new → Refuses input r
 unfolding Refuses
 node_refused input place old new r d so_far = so_far.leads _ (one_refused place r d.0 d.1)
+
+-- .. as the parser holds it
+pub formula_refused : (input place : List Tok) (old new : List ℕ) (error held : LatexError) → error ≡ held → place ≢ [] → IfSome (refusal_of held) (λ r. Reads node place (Refused r)) → Appends input place old new → IfSome (refusal_of error) (Refuses input)
+formula_refused input place old new error held same some d so_far =
+    subst (λ e. IfSome (refusal_of e) (Refuses input)) (sym same) (told (refusal_of held) d)
+  where
+    told : (o : Option Refusal) → IfSome o (λ r. Reads node place (Refused r)) → IfSome o (Refuses input)
+    told None d = tt
+    told (Some r) d = node_refused input place old new r (some, d) so_far
+
+-- .. and some of its tokens were taken
+pub within_node : (input place left : List Tok) (old new : List ℕ) (error held : LatexError) → error ≡ held → IfSome (refusal_of held) (λ r. Reads node place (Refused r)) → Appends input place old new → length left < length place → IfSome (refusal_of error) (IsRefusedWithin input left)
+within_node input place left old new error held same d so_far less =
+    subst (λ e. IfSome (refusal_of e) (IsRefusedWithin input left)) (sym same) (told (refusal_of held) d)
+  where
+    told : (o : Option Refusal) → IfSome o (λ r. Reads node place (Refused r)) → IfSome o (IsRefusedWithin input left)
+    told None d = tt
+    told (Some r) d = (place, so_far.are, d, less)
+
+-- Whether the node is read.
+
+pub node_read : (p : Parser) (input : List Tok) (read : Bool) → read ≡ true → Holds input p (end_of read) → Holds input p state.End
+node_read p input read is k = subst (λ b. Holds input p (end_of b)) is k
+
+pub none_read : (p : Parser) (input : List Tok) (read : Bool) → read ≡ false → Holds input p (end_of read) → Holds input p state.Refused
+none_read p input read is k = subst (λ b. Holds input p (end_of b)) is k
+
+pub appended : (input : List Tok) (p : Parser) (old new : List ℕ) (read : Bool) → read ≡ true → IsAppended input p old new read → IsAppended input p old new true
+appended input p old new read is k = subst (IsAppended input p old new) is k
+
+pub not_appended : (input : List Tok) (p : Parser) (old new : List ℕ) (read : Bool) → read ≡ false → IsAppended input p old new read → Holds input p state.Refused
+not_appended input p old new read is k = subst (IsAppended input p old new) is k
 
 -- where a token stands, some token does
 pub some_stands : (t : Tok) (place to : List Tok) → place ≡ t ∷ to → place ≢ []

@@ -1,10 +1,10 @@
 -- How the rules of lexemes begin.
 use Rattle.std.proofs.Common.{◌≡◌, ◌≢◌, ℕ, List, [], ◌∷◌, ◌++◌, Option, Some, None, refl, sym, ap, subst, ◌∙◌}
 use Rattle.latex2mathml_formulas.specs.Frames.{inside}
-use Rattle.latex2mathml_formulas.specs.Grammar.{Sort, core, Outcome, Read, Refused, Rule, a_fence, first_or_end, gives, refuses, reads_part, rule, rule_gives, rule_refuses, single, sized, stretching, with_fence, ReadsRule}
+use Rattle.latex2mathml_formulas.specs.Grammar.{Sort, core, Outcome, Read, Refused, Rule, a_fence, first_or_end, gives, refuses, reads_part, rule, rule_gives, rule_refuses, single, sized, stretched_or_refused, with_fence, ReadsRule}
 use Rattle.latex2mathml_formulas.specs.Levels.{due_of, Leads, Level, Made, MayBegin, RuleLeads}
 use Rattle.latex2mathml_formulas.specs.Marks.{rest_of}
-use Rattle.latex2mathml_nodes.specs.Productions.{fence_of, stretched_of}
+use Rattle.latex2mathml_nodes.specs.Productions.{fence_of, stretched_operator}
 use Rattle.latex2mathml_nodes.specs.Tree.{Tree, undefined}
 use Rattle.latex2mathml_tokens.specs.Lexemes.{lexeme_tok}
 use Rattle.latex2mathml_tokens.specs.Refusal.{Refusal, MissingParensethis, UnexpectedToken}
@@ -60,11 +60,11 @@ seen_begun l (u ∷ us) to t may e same k =
 pub stretch_begun : (input : List Tok) (fs gs : List Frame) (ts : List Tree) (got : Lexeme) (place to : List Tok) → gs ≡ fs ++ frame.Stretch got ∷ [] → lexeme_tok got ≡ first_or_end place → to ≡ rest_of place → RuleLeads (rule Middle) (Made core (inside input fs ts)) place → RuleLeads (rule (lexeme_tok got)) (Made core (inside input gs ts)) to
 stretch_begun input fs gs ts got place to on e same k =
     let l = inside input fs ts in
-    let a = looked (λ t. reads_part single (λ x. stretching t (stretched_of x))) (Made core l) place place refl k in
-    let b : RuleLeads (reads_part single (λ x. stretching (lexeme_tok got) (stretched_of x))) (Made core l) place = subst (λ t. RuleLeads (reads_part single (λ x. stretching t (stretched_of x))) (Made core l) place) (sym e) a in
+    let a = looked (λ t. reads_part single (λ x. stretched_or_refused t (stretched_operator x))) (Made core l) place place refl k in
+    let b : RuleLeads (reads_part single (λ x. stretched_or_refused (lexeme_tok got) (stretched_operator x))) (Made core l) place = subst (λ t. RuleLeads (reads_part single (λ x. stretched_or_refused t (stretched_operator x))) (Made core l) place) (sym e) a in
     let due_is : due_of (inside input gs ts) ≡ due.Single = due_of_inside input gs ts ∙ innermost_is fs gs (frame.Stretch got) on in
     seen_begun (inside input gs ts) place to (lexeme_tok got) (λ any. subst (λ d. MayBegin d any) (sym due_is) tt) e same
-    (put_on input fs gs (frame.Stretch got) ts place on (part_leads single (λ x. stretching (lexeme_tok got) (stretched_of x)) (Made core l) place b))
+    (put_on input fs gs (frame.Stretch got) ts place on (part_leads single (λ x. stretched_or_refused (lexeme_tok got) (stretched_operator x)) (Made core l) place b))
 
 -- a lexeme without a meaning where it stands
 pub bare_at : (t u : Lexeme) → t ≡ u → rule (lexeme_tok u) ≡ gives (undefined (token_text (lexeme_tok u))) → rule (lexeme_tok t) ≡ gives (undefined (token_text (lexeme_tok t)))

@@ -2,9 +2,9 @@
 use Rattle.std.proofs.Common.{◌≡◌, ◌≢◌, ℕ, zero, suc, ◌+◌, ◌-◌, ◌≤◌, List, [], ◌∷◌, ◌++◌, length, drop, take, reverse, refl, sym, ap, subst, ◌∙◌, arith, add-one}
 use Rattle.std.proofs.lemmas.List.{reverse-append}
 use Rattle.std.proofs.Math.Seq.{drop-nil}
-use Rattle.latex2mathml_formulas.specs.Frames.{after_members, end_of, held, innermost, inside, script, within}
+use Rattle.latex2mathml_formulas.specs.Frames.{after_members, end_of, tree_count, innermost, inside, script, within}
 use Rattle.latex2mathml_formulas.specs.Grammar.{Sort, core, node, gives, of_one, Outcome, Read, rule_gives}
-use Rattle.latex2mathml_formulas.specs.Levels.{awaits_members, end_token, entered, Leads, Made, RuleLeads, Takes}
+use Rattle.latex2mathml_formulas.specs.Levels.{awaits_members, end_token, level_of_rule, Leads, Made, RuleLeads, Takes}
 use Rattle.latex2mathml_nodes.specs.Style.{styled}
 use Rattle.latex2mathml_nodes.specs.Tree.{Tree}
 use Rattle.latex2mathml_parts.specs.Parts.{arity, put, top}
@@ -121,29 +121,29 @@ one_more : (n : ℕ) (ts : List Tree) → 1 ≤ length ts → reverse (take (n +
 one_more n [] h = absurd (omega arith)
 one_more n (t ∷ ts) h = rw add-one (reverse-append (t ∷ []) (take n ts))
 
-held_more : (g : Group) (n : ℕ) → held (frame.Members g (n + 1)) ≡ held (frame.Members g n) + 1
+held_more : (g : Group) (n : ℕ) → tree_count (frame.Members g (n + 1)) ≡ tree_count (frame.Members g n) + 1
 held_more group.Brace n = refl
 held_more g n = refl
 
 -- one more member is read
 pub member_read : (input : List Tok) (fs : List Frame) (f : Frame) (g : Group) (n : ℕ) (ts : List Tree) (place : List Tok) → f ≡ frame.Members g n → 1 ≤ length ts → Takes (within input fs f (drop 1 ts)) (Read (top ts) place) → Leads (within input fs (frame.Members g (n + 1)) ts) place
 member_read input fs f g n ts place e h m =
-    let held_is : drop (held (frame.Members g n)) (drop 1 ts) ≡ drop (held (frame.Members g (n + 1))) ts = sym (ap (λ k. drop k ts) (held_more g n) ∙ drop_suc (held (frame.Members g n)) ts) in
+    let held_is : drop (tree_count (frame.Members g n)) (drop 1 ts) ≡ drop (tree_count (frame.Members g (n + 1))) ts = sym (ap (λ k. drop k ts) (held_more g n) ∙ drop_suc (tree_count (frame.Members g n)) ts) in
     let a = as_frame input fs f (frame.Members g n) (drop 1 ts) _ e m in
-    let b = group_grown (end_of g) (reverse (take n (drop 1 ts))) (reverse (take (n + 1) ts)) (after_members g (drop n (drop 1 ts))) core (inside input fs (drop (held (frame.Members g n)) (drop 1 ts))) (top ts) place (one_more n ts h) a in
+    let b = group_grown (end_of g) (reverse (take n (drop 1 ts))) (reverse (take (n + 1) ts)) (after_members g (drop n (drop 1 ts))) core (inside input fs (drop (tree_count (frame.Members g n)) (drop 1 ts))) (top ts) place (one_more n ts h) a in
     grown held_is b
   where
-    grown : drop (held (frame.Members g n)) (drop 1 ts) ≡ drop (held (frame.Members g (n + 1))) ts → Leads (entered (awaits_members (end_of g) (reverse (take (n + 1) ts)) (after_members g (drop n (drop 1 ts)))) core (inside input fs (drop (held (frame.Members g n)) (drop 1 ts)))) place → Leads (within input fs (frame.Members g (n + 1)) ts) place
-    grown e k = subst (λ us. Leads (entered (awaits_members (end_of g) (reverse (take (n + 1) ts)) (after_members g us)) core (inside input fs (drop (held (frame.Members g (n + 1))) ts))) place) (sym (drop_suc n ts))
-        (subst (λ us. Leads (entered (awaits_members (end_of g) (reverse (take (n + 1) ts)) (after_members g (drop n (drop 1 ts)))) core (inside input fs us)) place) e k)
+    grown : drop (tree_count (frame.Members g n)) (drop 1 ts) ≡ drop (tree_count (frame.Members g (n + 1))) ts → Leads (level_of_rule (awaits_members (end_of g) (reverse (take (n + 1) ts)) (after_members g (drop n (drop 1 ts)))) core (inside input fs (drop (tree_count (frame.Members g n)) (drop 1 ts)))) place → Leads (within input fs (frame.Members g (n + 1)) ts) place
+    grown e k = subst (λ us. Leads (level_of_rule (awaits_members (end_of g) (reverse (take (n + 1) ts)) (after_members g us)) core (inside input fs (drop (tree_count (frame.Members g (n + 1))) ts))) place) (sym (drop_suc n ts))
+        (subst (λ us. Leads (level_of_rule (awaits_members (end_of g) (reverse (take (n + 1) ts)) (after_members g (drop n (drop 1 ts)))) core (inside input fs us)) place) e k)
 
 same_end : (end other : GroupEnd) → due.Member end ≡ due.Member other → end ≡ other
 same_end end other e = cc
 
 -- the end of the innermost group is taken
-pub group_closed : (input : List Tok) (fs gs : List Frame) (g : Group) (n : ℕ) (end : GroupEnd) (ts : List Tree) (place : List Tok) → gs ≡ fs ++ frame.Members g n ∷ [] → innermost gs ≡ due.Member end → Leads (inside input gs ts) (end_token end ∷ place) → RuleLeads (after_members g (drop n ts) (reverse (take n ts))) (Made core (inside input fs (drop (held (frame.Members g n)) ts))) place
+pub group_closed : (input : List Tok) (fs gs : List Frame) (g : Group) (n : ℕ) (end : GroupEnd) (ts : List Tree) (place : List Tok) → gs ≡ fs ++ frame.Members g n ∷ [] → innermost gs ≡ due.Member end → Leads (inside input gs ts) (end_token end ∷ place) → RuleLeads (after_members g (drop n ts) (reverse (take n ts))) (Made core (inside input fs (drop (tree_count (frame.Members g n)) ts))) place
 group_closed input fs gs g n end ts place e d k =
     let ends : end ≡ end_of g = same_end end (end_of g) (sym d ∙ innermost_is fs gs (frame.Members g n) e) in
     let a = subst (λ x. Leads (inside input gs ts) (end_token x ∷ place)) ends k in
     let b = subst (λ l. Leads l (end_token (end_of g) ∷ place)) (inside_push input fs gs (frame.Members g n) ts e) a in
-    group_ended (end_of g) (reverse (take n ts)) (after_members g (drop n ts)) core (inside input fs (drop (held (frame.Members g n)) ts)) place b
+    group_ended (end_of g) (reverse (take n ts)) (after_members g (drop n ts)) core (inside input fs (drop (tree_count (frame.Members g n)) ts)) place b

@@ -2,10 +2,10 @@
 use Rattle.std.proofs.Common.{◌≡◌, ◌≢◌, ◌⊎◌, inl, inr, ℕ, suc, ◌+◌, ◌-◌, ◌≤◌, List, ◌∷◌, Bool, true, false, Option, Some, None, length, drop, take, reverse, refl, sym, ap, subst, ◌∙◌, arith}
 use Rattle.std.specs.Prelude.{MatchBool}
 use Rattle.latex2mathml_formulas.specs.Frames.{after_first, inside, one_of_pair, pair_sign, two_of_pair, unfit, within}
-use Rattle.latex2mathml_formulas.specs.Grammar.{core, ending, environment, first, gives, node, of_one, Read, reads_part, Reads, Refused, rule_gives, single}
+use Rattle.latex2mathml_formulas.specs.Grammar.{core, after_environment_members, environment, first, gives, node, of_one, Read, reads_part, Reads, Refused, rule_gives, single}
 use Rattle.latex2mathml_formulas.specs.Levels.{Leads, Made, RuleLeads, Takes}
 use Rattle.latex2mathml_formulas.specs.Marks.{NameStands, sign_token}
-use Rattle.latex2mathml_nodes.specs.Productions.{environment_tree, grouped}
+use Rattle.latex2mathml_nodes.specs.Productions.{environment_tree, group_tree}
 use Rattle.latex2mathml_nodes.specs.Tree.{Tree, fenced, root}
 use Rattle.latex2mathml_parts.specs.Parts.{arity, fence_text, put, top, words_of}
 use Rattle.latex2mathml_parts.specs.declared.kind.Kind.{Kind}
@@ -99,7 +99,7 @@ name_of n ts = words_of (top (drop n ts))
 
 -- the environment of this name, of the last n trees
 abbrev pub environment_of : ℕ → List Tree → Option Tree
-environment_of n ts = environment_tree (name_of n ts) (grouped (reverse (take n ts)))
+environment_of n ts = environment_tree (name_of n ts) (group_tree (reverse (take n ts)))
 
 -- what is known of an environment by whether there is one of this name: its tree stands in the place of its members and their
 -- name, or all stands as it was
@@ -115,19 +115,19 @@ plus_one n ts us x e =
     subst (λ m. us ≡ x ∷ drop m ts) same e
 
 -- the name behind the members is passed over
-behind_name : (input : List Tok) (fs : List Frame) (n : ℕ) (ts : List Tree) (place to : List Tok) → (bytes : List ℕ) × NameStands bytes place to → RuleLeads (ending (name_of n ts) (reverse (take n ts))) (Made core (inside input fs (drop (n + 1) ts))) place → RuleLeads (environment (name_of n ts) (environment_of n ts)) (Made core (inside input fs (drop (n + 1) ts))) to
+behind_name : (input : List Tok) (fs : List Frame) (n : ℕ) (ts : List Tree) (place to : List Tok) → (bytes : List ℕ) × NameStands bytes place to → RuleLeads (after_environment_members (name_of n ts) (reverse (take n ts))) (Made core (inside input fs (drop (n + 1) ts))) place → RuleLeads (environment (name_of n ts) (environment_of n ts)) (Made core (inside input fs (drop (n + 1) ts))) to
 behind_name input fs n ts place to name m =
     named (λ again. environment (name_of n ts) (environment_of n ts)) (Made core (inside input fs (drop (n + 1) ts))) name.0 place to name.1 m
 
 -- there is an environment of this name
-pub environment_ended : (input : List Tok) (fs : List Frame) (known : Bool) (n : ℕ) (ts us : List Tree) (place to : List Tok) → known ≡ true → IsEnvironment known n ts us → (bytes : List ℕ) × NameStands bytes place to → RuleLeads (ending (name_of n ts) (reverse (take n ts))) (Made core (inside input fs (drop (n + 1) ts))) place → Made core (inside input fs (drop 1 us)) (Read (top us) to)
+pub environment_ended : (input : List Tok) (fs : List Frame) (known : Bool) (n : ℕ) (ts us : List Tree) (place to : List Tok) → known ≡ true → IsEnvironment known n ts us → (bytes : List ℕ) × NameStands bytes place to → RuleLeads (after_environment_members (name_of n ts) (reverse (take n ts))) (Made core (inside input fs (drop (n + 1) ts))) place → Made core (inside input fs (drop 1 us)) (Read (top us) to)
 environment_ended input fs true n ts us place to is h name m =
     core_put input fs us (drop (n + 1) ts) h.0 to (plus_one n ts us h.0 h.2)
     (given_at (inside input fs (drop (n + 1) ts)) core _ h.0 to (ap (environment (name_of n ts)) h.1) (behind_name input fs n ts place to name m))
 environment_ended input fs false n ts us place to is h name m = absurd cc
 
 -- there is none, and the formula is refused by the name
-pub environment_unknown : (input : List Tok) (fs : List Frame) (known : Bool) (n : ℕ) (ts us : List Tree) (place to : List Tok) (text : List ℕ) → known ≡ false → IsEnvironment known n ts us → text ≡ name_of n us → (bytes : List ℕ) × NameStands bytes place to → RuleLeads (ending (name_of n ts) (reverse (take n ts))) (Made core (inside input fs (drop (n + 1) ts))) place → Reads node input (Refused (UnknownEnvironment text))
+pub environment_unknown : (input : List Tok) (fs : List Frame) (known : Bool) (n : ℕ) (ts us : List Tree) (place to : List Tok) (text : List ℕ) → known ≡ false → IsEnvironment known n ts us → text ≡ name_of n us → (bytes : List ℕ) × NameStands bytes place to → RuleLeads (after_environment_members (name_of n ts) (reverse (take n ts))) (Made core (inside input fs (drop (n + 1) ts))) place → Reads node input (Refused (UnknownEnvironment text))
 environment_unknown input fs true n ts us place to text is h said name m = absurd cc
 environment_unknown input fs false n ts us place to text is h said name m =
     let below = drop (n + 1) ts in

@@ -4,8 +4,8 @@ use Rattle.std.proofs.Common.{ℕ, Bool, true, false, List, [], ◌∷◌, Optio
 use Rattle.std.specs.Str.{bytes_eq, chars, encode_utf8_all}
 use Rattle.latex2mathml_formulas.specs.RenderingLaws.{RendersDollarFree}
 use Rattle.latex2mathml_formulas.specs.Dollars.{IsDollarFree}
-use Rattle.latex2mathml_formulas.specs.Grammar.{environment, sized, stretching, with_fence, Rule, rule, primed, scripted, Outcome, Read, Reading}
-use Rattle.latex2mathml_nodes.specs.Productions.{environment_tree, fence_of, fenced_matrix, matrix_of, spread, stretched_of, grouped}
+use Rattle.latex2mathml_formulas.specs.Grammar.{environment, sized, stretched_or_refused, with_fence, Rule, rule, rule_after_core, rule_after_single, Outcome, Read, Reading}
+use Rattle.latex2mathml_nodes.specs.Productions.{environment_tree, fence_of, fenced_matrix, matrix_of, matrix_members, stretched_operator, group_tree}
 use Rattle.latex2mathml_formulas.specs.Rendering.{IsRendering}
 use Rattle.latex2mathml_tokens.specs.Tok.{Tok, EOF, Begin, Paren, LBrace, Left, Right, Middle, Frac, Binom, Overset, Underset, Overbrace, Underbrace, Sqrt, Integral, Lim, BigOp, Style, Big, Over, Under, OperatorName, Slashed, Text}
 use Rattle.latex2mathml_nodes.specs.Style.{styled, all_styled}
@@ -28,7 +28,7 @@ free_sizes = record {
 abbrev IsFreeRule : Rule → Type 0
 IsFreeRule r = KeepsRule free_sizes r
 
-free_grouped : (xs : List Tree) → AreFreeTrees (trees_of xs) → IsFreeTree (grouped xs)
+free_grouped : (xs : List Tree) → AreFreeTrees (trees_of xs) → IsFreeTree (group_tree xs)
 free_grouped [] h = tt
 free_grouped (x ∷ []) h = h.0
 free_grouped (x ∷ y ∷ ys) h = h
@@ -52,12 +52,12 @@ free_fence : (place t : Tok) (fence : Option (List ℕ)) (then : List ℕ → Ru
 free_fence place t (Some text) then k = k text
 free_fence place t None then k = tt
 
-free_stretch : (t : Tok) (x : Tree) → IsFreeRule (stretching t (stretched_of x))
+free_stretch : (t : Tok) (x : Tree) → IsFreeRule (stretched_or_refused t (stretched_operator x))
 free_stretch t (operator c) = tt
 free_stretch t (other_operator text) = tt
 free_stretch t x = tt
 
-free_spread : (x : Tree) → IsFreeTree x → AreFreeTrees (spread x)
+free_spread : (x : Tree) → IsFreeTree x → AreFreeTrees (matrix_members x)
 free_spread (row members) h = h
 free_spread x h = (h, tt)
 
@@ -97,14 +97,14 @@ free_rule OperatorName h = λ before i cs behind j. tt
 free_rule Slashed h = λ before i x k behind j. k
 free_rule Left h = λ t i. free_fence Left t (fence_of t) _ (λ opening xs f u j. free_fence Right u (fence_of u) _ (λ close. free_grouped xs f))
 free_rule Middle h = λ t i x k. free_stretch t x
-free_rule Begin h = λ before i cs behind j xs f again l ds last n. free_environment (encode_utf8_all cs) (grouped xs) (free_grouped xs f)
+free_rule Begin h = λ before i cs behind j xs f again l ds last n. free_environment (encode_utf8_all cs) (group_tree xs) (free_grouped xs f)
 free_rule t h = tt
 
 -- what follows a core, and what follows a single
-free_primed : (x : Tree) → IsFreeTree x → IsFreeRule (primed x)
+free_primed : (x : Tree) → IsFreeTree x → IsFreeRule (rule_after_core x)
 free_primed x h = ((h, tt), h)
 
-free_scripted : (x : Tree) → IsFreeTree x → IsFreeRule (scripted x)
+free_scripted : (x : Tree) → IsFreeTree x → IsFreeRule (rule_after_single x)
 free_scripted x h = (λ y k. (h, k), (λ y k. (h, k), h))
 
 free_kept : IsKept free_sizes

@@ -1,9 +1,26 @@
--- What stands in a text before its end, byte by byte.
-use Rattle.std.proofs.Common.{◌≡◌, ℕ, ◌+◌, ◌-◌, ◌≤◌, List, ◌++◌, take, length, sym, ap, subst, ◌∙◌, arith}
+-- The first character of a text, and what stands in it before its end, byte by byte.
+use Rattle.std.proofs.Common.{◌≡◌, ℕ, ◌+◌, ◌-◌, ◌<◌, ◌≤◌, List, [], ◌∷◌, ◌++◌, take, drop, length, Some, sym, ap, subst, ◌∙◌, arith}
 use Rattle.std.proofs.Math.Seq.{take-append_seam}
 use Rattle.std.proofs.lemmas.List.{length-append}
-use Rattle.std.proofs.lemmas.Str.{encodes-append, encodes-chars, IsCharBoundary-at_seam}
+use Rattle.std.proofs.lemmas.Str.{chars_past_char, encode_ascii, encodes-append, encodes-chars, IsCharBoundary-after_ascii, IsCharBoundary-at_seam}
+use Rattle.std.specs.Char.{encode_utf8}
+use Rattle.std.specs.Prelude.{slice_get}
 use Rattle.std.specs.Str.{chars, encode_utf8_all, IsUtf8, IsCharBoundary}
+
+some_same : {x y : ℕ} → Some x ≡ Some y → x ≡ y
+some_same e = cc
+
+-- a text that begins with an ASCII byte may be cut behind it
+pub cut_after_first : (text : List ℕ) (b : ℕ) → IsUtf8 text → slice_get text 0 ≡ Some b → b < 128 → IsCharBoundary text 1
+cut_after_first [] b u e l = absurd cc
+cut_after_first (x ∷ xs) b u e l = IsCharBoundary-after_ascii (x ∷ xs) 0 u (omega arith) (subst (λ y. y < 128) (sym (some_same e)) l)
+
+-- .. and begins with that character
+pub first_is_byte : (text rest : List ℕ) (b : ℕ) → IsUtf8 text → slice_get text 0 ≡ Some b → b < 128 → rest ≡ drop 1 text → chars text ≡ b ∷ chars rest
+first_is_byte [] rest b u e l f = absurd cc
+first_is_byte (x ∷ xs) rest b u e l f =
+    let whole : x ∷ xs ≡ encode_utf8 b ++ rest = ap (λ y. y ∷ xs) (some_same e) ∙ ap (λ ys. b ∷ ys) (sym f) ∙ ap (λ bs. bs ++ rest) (sym (encode_ascii b l)) in
+    chars_past_char (x ∷ xs) rest b u whole
 
 -- the characters before the end, in bytes
 pub front_bytes : (text rest front : List ℕ) → IsUtf8 text → IsUtf8 rest → chars text ≡ front ++ chars rest → text ≡ encode_utf8_all front ++ rest

@@ -1,7 +1,7 @@
 -- One induction over what is read: where each rule keeps a property of trees, of refusals and of tokens, all that is read
 -- of tokens that have it has it.
 use Rattle.std.proofs.Common.{ℕ, List, [], ◌∷◌, Option, Some, None, subst}
-use Rattle.latex2mathml_formulas.specs.Grammar.{Sort, Rule, gives, refuses, reads_part, reads_members, reads_sign, takes_token, sees_token, takes_letters, rule, primed, scripted, Outcome, Read, Refused, first_or_end, AreLetters, Reads, core_at_end, core_begun, single_read, node_read, ReadsRule, rule_gives, rule_refuses, part_read, part_refused, members_read, members_refused, sign_stands, sign_missing, token_taken, token_at_end, token_seen, letters_taken, ReadsAll, formula_ends, group_ends, never_closed, member_read, later_refused, member_refused}
+use Rattle.latex2mathml_formulas.specs.Grammar.{Sort, Rule, gives, refuses, reads_part, reads_members, reads_sign, takes_token, sees_token, takes_letters, rule, rule_after_core, rule_after_single, Outcome, Read, Refused, first_or_end, AreLetters, Reads, core_at_end, core_begun, single_read, node_read, ReadsRule, rule_gives, rule_refuses, part_read, part_refused, members_read, members_refused, sign_stands, sign_missing, token_taken, token_at_end, token_seen, letters_taken, ReadsAll, formula_ends, group_ends, never_closed, member_read, later_refused, member_refused}
 use Rattle.latex2mathml_nodes.specs.Tree.{Tree, undefined}
 use Rattle.latex2mathml_tokens.specs.Refusal.{Refusal, UnexpectedToken}
 use Rattle.latex2mathml_tokens.specs.Tok.{Tok, EOF}
@@ -28,8 +28,8 @@ KeepsRule P (takes_letters then) = (cs : List ℕ) → KeepsRule P (then cs)
 pub record IsKept (P : Property) : Type 0 where
   pub rules : (t : Tok) → P.of_token t → KeepsRule P (rule t)
   -- what may follow a core, and a single
-  pub primes : (x : Tree) → P.of_tree x → KeepsRule P (primed x)
-  pub scripts : (x : Tree) → P.of_tree x → KeepsRule P (scripted x)
+  pub primes : (x : Tree) → P.of_tree x → KeepsRule P (rule_after_core x)
+  pub scripts : (x : Tree) → P.of_tree x → KeepsRule P (rule_after_single x)
   -- the end of the tokens, as a token, as a core, and where a group is open
   pub at_end : P.of_token EOF
   pub core_there : P.of_tree (undefined (token_text EOF))

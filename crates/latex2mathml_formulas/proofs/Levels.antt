@@ -3,10 +3,10 @@ use Rattle.std.proofs.Common.{◌≡◌, ◌≢◌, ◌⊎◌, ℕ, inl, inr, Li
 use Rattle.std.specs.Prelude.{IsNone}
 use Rattle.std.specs.Str.{encode_utf8_all}
 use Rattle.latex2mathml_nodes.specs.Productions.{prime_mark}
-use Rattle.latex2mathml_formulas.specs.Grammar.{Sort, core, single, node, Rule, gives, reads_part, reads_members, reads_sign, takes_token, sees_token, takes_letters, rule, a_name, first_or_end, AreLetters, prime, primed, scripted, Outcome, Read, Refused, first, Reads, ReadsRule, core_at_end, core_begun, single_read, node_read, rule_gives, token_taken, token_at_end, token_seen, letters_taken, part_read, part_refused, members_read, members_refused, sign_stands, sign_missing, ReadsAll, group_ends, never_closed, member_read, later_refused, member_refused}
+use Rattle.latex2mathml_formulas.specs.Grammar.{Sort, core, single, node, Rule, gives, reads_part, reads_members, reads_sign, takes_token, sees_token, takes_letters, rule, a_name, first_or_end, AreLetters, prime, rule_after_core, rule_after_single, Outcome, Read, Refused, first, Reads, ReadsRule, core_at_end, core_begun, single_read, node_read, rule_gives, token_taken, token_at_end, token_seen, letters_taken, part_read, part_refused, members_read, members_refused, sign_stands, sign_missing, ReadsAll, group_ends, never_closed, member_read, later_refused, member_refused}
 use Rattle.latex2mathml_formulas.specs.Frames.{script}
 use Rattle.latex2mathml_formulas.specs.Marks.{LettersStand, MarkStands, NameStands, mark_token, rest_of, sign_token}
-use Rattle.latex2mathml_formulas.specs.Levels.{Standing, awaits_part, awaits_members, end_token, MayBegin, RuleLeads, Then, As, behind, Level, part, members, due_of, sort_of, Leads, Takes, Made, entered}
+use Rattle.latex2mathml_formulas.specs.Levels.{Standing, awaits_part, awaits_members, end_token, MayBegin, RuleLeads, Then, As, behind, Level, part, members, due_of, sort_of, Leads, Takes, Made, level_of_rule}
 use Rattle.latex2mathml_tokens.specs.Refusal.{Refusal, UnexpectedToken}
 use Rattle.latex2mathml_tokens.specs.Tok.{Tok, EOF, Underscore, Circumflex}
 use Rattle.latex2mathml_tokens.specs.TokenText.{token_text}
@@ -86,8 +86,8 @@ part_at (members end K) (t ∷ rest) may k (Refused r) d = k _ (member_refused (
 
 core_at : (s : Sort) (K : Outcome Tree → Type 0) (place : List Tok) → ((o : Outcome Tree) → Reads s place o → K o) → (o : Outcome Tree) → Reads core place o → As core s K o
 core_at core K place k = k
-core_at single K place k = part_leads core primed K place (λ o d. k o (single_read d))
-core_at node K place k = part_leads core primed (Then scripted K) place (λ o d. part_leads single scripted K place (λ p e. k p (node_read e)) o (single_read d))
+core_at single K place k = part_leads core rule_after_core K place (λ o d. k o (single_read d))
+core_at node K place k = part_leads core rule_after_core (Then rule_after_single K) place (λ o d. part_leads single rule_after_single K place (λ p e. k p (node_read e)) o (single_read d))
 
 -- a token is taken: its rule leads on
 pub begun : (l : Level) (place to : List Tok) (t : Tok) → MayBegin (due_of l) place → place ≡ t ∷ to → Leads l place → RuleLeads (rule t) (Made core l) to
@@ -108,15 +108,15 @@ behind-push xs x (Read ys to) = ap (λ zs. Read zs to) (append_assoc xs (x ∷ [
 behind-push xs x (Refused r) = refl
 
 -- a group is begun
-pub group_begun : (end : GroupEnd) (xs : List Tree) (then : List Tree → Rule) (s : Sort) (l : Level) (place : List Tok) → xs ≡ [] → RuleLeads (reads_members (end_token end) then) (Made s l) place → Leads (entered (awaits_members end xs then) s l) place
+pub group_begun : (end : GroupEnd) (xs : List Tree) (then : List Tree → Rule) (s : Sort) (l : Level) (place : List Tok) → xs ≡ [] → RuleLeads (reads_members (end_token end) then) (Made s l) place → Leads (level_of_rule (awaits_members end xs then) s l) place
 group_begun end xs then s l place none k = λ o d. subst (Then then (Made s l)) (sym (ap (λ ys. behind ys o) none ∙ behind-nil o)) (members_lead end then (Made s l) place k o d)
 
 -- one more member is read
-pub group_grown : (end : GroupEnd) (xs ys : List Tree) (then : List Tree → Rule) (s : Sort) (l : Level) (x : Tree) (place : List Tok) → ys ≡ xs ++ x ∷ [] → Takes (entered (awaits_members end xs then) s l) (Read x place) → Leads (entered (awaits_members end ys then) s l) place
+pub group_grown : (end : GroupEnd) (xs ys : List Tree) (then : List Tree → Rule) (s : Sort) (l : Level) (x : Tree) (place : List Tok) → ys ≡ xs ++ x ∷ [] → Takes (level_of_rule (awaits_members end xs then) s l) (Read x place) → Leads (level_of_rule (awaits_members end ys then) s l) place
 group_grown end xs ys then s l x place same k = λ o d. subst (Then then (Made s l)) (sym (ap (λ zs. behind zs o) same ∙ behind-push xs x o)) (k o d)
 
 -- the end of a group is taken
-pub group_ended : (end : GroupEnd) (xs : List Tree) (then : List Tree → Rule) (s : Sort) (l : Level) (to : List Tok) → Leads (entered (awaits_members end xs then) s l) (end_token end ∷ to) → RuleLeads (then xs) (Made s l) to
+pub group_ended : (end : GroupEnd) (xs : List Tree) (then : List Tree → Rule) (s : Sort) (l : Level) (to : List Tok) → Leads (level_of_rule (awaits_members end xs then) s l) (end_token end ∷ to) → RuleLeads (then xs) (Made s l) to
 group_ended end xs then s l to k = subst (λ ys. RuleLeads (then ys) (Made s l) to) (append-nil xs) (k (Read [] to) (group_ends refl))
 
 -- What follows a core and a single.
@@ -184,7 +184,7 @@ more_than_core (members end K) h e = cc
 pub prime_taken : (l : Level) (x y : Tree) (place to : List Tok) → due_of l ≢ due.Core → place ≡ prime ∷ to → y ≡ superscript x prime_mark → Made core l (Read x place) → Made single l (Read y to)
 prime_taken l x y place to h same made k = subst (λ z. Made single l (Read z to)) (sym made) (primed_as (sort_of l) (Takes l) x place to (more_than_core l h) same k)
 
-scripted_as : (s : Sort) (K : Outcome Tree → Type 0) (x : Tree) (place : List Tok) → s ≡ node → As single s K (Read x place) → RuleLeads (scripted x) (As node s K) place
+scripted_as : (s : Sort) (K : Outcome Tree → Type 0) (x : Tree) (place : List Tok) → s ≡ node → As single s K (Read x place) → RuleLeads (rule_after_single x) (As node s K) place
 scripted_as core K x place e k = absurd cc
 scripted_as single K x place e k = absurd cc
 scripted_as node K x place e k = k
@@ -196,11 +196,11 @@ more_than_single (part node K) h i = refl
 more_than_single (members end K) h i = refl
 
 -- a sign may follow, where a node is due
-pub script_follows : (l : Level) (x : Tree) (place : List Tok) → due_of l ≢ due.Core → due_of l ≢ due.Single → Made single l (Read x place) → RuleLeads (scripted x) (Made node l) place
+pub script_follows : (l : Level) (x : Tree) (place : List Tok) → due_of l ≢ due.Core → due_of l ≢ due.Single → Made single l (Read x place) → RuleLeads (rule_after_single x) (Made node l) place
 script_follows l x place h i k = scripted_as (sort_of l) (Takes l) x place (more_than_single l h i) k
 
 -- a sign is taken: a node follows
-pub sign_taken : (l : Level) (sign : Sign) (x : Tree) (place to : List Tok) → place ≡ sign_token sign ∷ to → RuleLeads (scripted x) (Made node l) place → RuleLeads (reads_part node (λ y. gives (script sign x y))) (Made node l) to
+pub sign_taken : (l : Level) (sign : Sign) (x : Tree) (place to : List Tok) → place ≡ sign_token sign ∷ to → RuleLeads (rule_after_single x) (Made node l) place → RuleLeads (reads_part node (λ y. gives (script sign x y))) (Made node l) to
 sign_taken l Sub x place to same k = λ o d. k o (sign_stands same d)
 sign_taken l Sup x place to same k = λ o d. k o (sign_missing (λ e. cc) (sign_stands same d))
 
@@ -268,7 +268,7 @@ pub made_refused : (s : Sort) (l : Level) (r : Refusal) → Made s l (Refused r)
 made_refused s l r k = takes_refused l r (as_refused s (sort_of l) (Takes l) r k)
 
 -- what is begun at a level refuses there
-pub entered_denies : (f : Standing) (s : Sort) (l : Level) (r : Refusal) → Denies (entered f s l) r → Denies l r
+pub entered_denies : (f : Standing) (s : Sort) (l : Level) (r : Refusal) → Denies (level_of_rule f s l) r → Denies l r
 entered_denies (awaits_part t then) s l r k = made_refused s l r k
 entered_denies (awaits_members end xs then) s l r k = made_refused s l r k
 

@@ -3,7 +3,6 @@ pub mod Appending
 pub mod Beginning
 pub mod Begins
 pub mod Combining
-pub mod Counted
 pub mod Counting
 pub mod Delivering
 pub mod DollarReads

@@ -1,6 +1,5 @@
 -- Names that are taken letter by letter.
-use Rattle.std.proofs.Common.{◌≡◌, ℕ, List, [], ◌∷◌, ◌++◌, Option, None, Some, refl, sym, subst, ap, ◌∙◌, append_assoc, append-nil}
-use Rattle.std.specs.Prelude.{MatchOption}
+use Rattle.std.proofs.Common.{◌≡◌, ℕ, List, [], ◌∷◌, ◌++◌, None, Some, refl, sym, subst, ap, ◌∙◌, append_assoc, append-nil}
 use Rattle.std.specs.Char.{encode_utf8}
 use Rattle.std.specs.Str.{encode_utf8_all}
 use Rattle.std.proofs.lemmas.Str.{encodes-append}
@@ -15,9 +14,6 @@ use Rattle.latex2mathml_tokens.specs.declared.lexeme.Lexeme.TheVariants as lexem
 -- letters of these bytes were taken, and whatever letters stand next belong to them
 abbrev pub AreTaken : List ℕ → List Tok → List Tok → Type 0
 AreTaken bytes old place = (taken : List ℕ) × (bytes ≡ encode_utf8_all taken) × ((cs : List ℕ) (to : List Tok) → AreLetters cs place to → AreLetters (taken ++ cs) old to)
-
-pub none_taken : (bytes : List ℕ) (l : List Tok) → bytes ≡ [] → AreTaken bytes l l
-none_taken bytes l e = ([], e, λ cs to d. d)
 
 one_letter : (c : ℕ) (cs : List ℕ) (place next to : List Tok) → first_letter place ≡ Some c → next ≡ rest_of place → AreLetters cs next to → AreLetters (c ∷ cs) place to
 one_letter c cs [] next to h same d = absurd cc
@@ -35,16 +31,6 @@ pub all_taken : (bytes : List ℕ) (old place to : List Tok) → first_letter pl
 all_taken bytes old place to h same k =
     let ends : AreLetters [] place to = (sym same, subst (λ l. first_letter l ≡ None) (sym same) h) in
     (k.0, subst (λ cs. AreLetters cs old to) (append-nil k.0) (k.2 [] to ends), k.1)
-
--- what was found of the token that stands next
-
-pub found_taken : (found : Option ℕ) (c : ℕ) (place next : List Tok) → found ≡ Some c → MatchOption found (next ≡ place) (λ d. next ≡ rest_of place) → next ≡ rest_of place
-found_taken (Some d) c place next e h = h
-found_taken None c place next e h = absurd cc
-
-pub none_found : (found : Option ℕ) (place next : List Tok) → found ≡ None → MatchOption found (next ≡ place) (λ d. next ≡ rest_of place) → next ≡ place
-none_found (Some d) place next e h = absurd cc
-none_found None place next e h = h
 
 -- what was taken tells whether a letter stood next
 

@@ -1,6 +1,6 @@
 -- No formula is refused for dollar signs.
 use Rattle.std.proofs.Common.{◌≡◌, ◌≢◌, ℕ, List, [], ◌∷◌, Option, Some, None}
-use Rattle.latex2mathml_formulas.specs.Grammar.{Rule, rule, sized, with_fence, stretching, environment, Outcome, Refused, Refuses}
+use Rattle.latex2mathml_formulas.specs.Grammar.{Rule, rule, sized, with_fence, stretched_or_refused, environment, Outcome, Refused, Refuses}
 use Rattle.latex2mathml_formulas.specs.Rendering.{IsFormulaRefusal}
 use Rattle.latex2mathml_nodes.specs.Productions.{fence_of}
 use Rattle.latex2mathml_nodes.specs.Tree.{Tree}
@@ -34,7 +34,7 @@ of_fence : (location t : Tok) (o : Option (List ℕ)) (then : List ℕ → Rule)
 of_fence location t (Some text) then h = h text
 of_fence location t None then h = tt
 
-of_stretched : (t : Tok) (o : Option Tree) → IsOtherRule (stretching t o)
+of_stretched : (t : Tok) (o : Option Tree) → IsOtherRule (stretched_or_refused t o)
 of_stretched t (Some x) = tt
 of_stretched t None = tt
 

@@ -3,8 +3,8 @@
 use Rattle.std.proofs.Common.{ℕ, Bool, true, false, List, [], ◌∷◌, Option, Some, None, codes, cond}
 use Rattle.std.specs.Str.{bytes_eq, encode_utf8_all}
 use Rattle.latex2mathml_nodes.specs.Arguments.{HasNoArgument, HaveNoArgument}
-use Rattle.latex2mathml_formulas.specs.Grammar.{environment, sized, stretching, with_fence, Rule, rule, primed, scripted, Outcome, Read, Reading}
-use Rattle.latex2mathml_nodes.specs.Productions.{environment_tree, fence_of, fenced_matrix, matrix_of, spread, stretched_of, grouped}
+use Rattle.latex2mathml_formulas.specs.Grammar.{environment, sized, stretched_or_refused, with_fence, Rule, rule, rule_after_core, rule_after_single, Outcome, Read, Reading}
+use Rattle.latex2mathml_nodes.specs.Productions.{environment_tree, fence_of, fenced_matrix, matrix_of, matrix_members, stretched_operator, group_tree}
 use Rattle.latex2mathml_tokens.specs.Tok.{Tok, EOF, Begin, Paren, LBrace, Left, Right, Middle, Frac, Binom, Overset, Underset, Overbrace, Underbrace, Sqrt, Integral, Lim, BigOp, Style, Big, Over, Under, OperatorName, Slashed, Text}
 use Rattle.latex2mathml_nodes.specs.Style.{styled, all_styled}
 use Rattle.latex2mathml_nodes.specs.Tree.{Tree, Trees, letter, operator, other_operator, row, no_trees, more_trees, trees_of}
@@ -28,7 +28,7 @@ no_argument = record {
 abbrev Keeps : Rule → Type 0
 Keeps r = KeepsRule no_argument r
 
-keeps_group : (xs : List Tree) → NoneHasArgument xs → HasNoArgument (grouped xs)
+keeps_group : (xs : List Tree) → NoneHasArgument xs → HasNoArgument (group_tree xs)
 keeps_group [] h = tt
 keeps_group (x ∷ []) h = h.0
 keeps_group (x ∷ y ∷ ys) h = h
@@ -51,12 +51,12 @@ keeps_fence : (place t : Tok) (fence : Option (List ℕ)) (then : List ℕ → R
 keeps_fence place t (Some text) then h = h text
 keeps_fence place t None then h = tt
 
-keeps_stretch : (t : Tok) (x : Tree) → Keeps (stretching t (stretched_of x))
+keeps_stretch : (t : Tok) (x : Tree) → Keeps (stretched_or_refused t (stretched_operator x))
 keeps_stretch t (operator c) = tt
 keeps_stretch t (other_operator text) = tt
 keeps_stretch t x = tt
 
-keeps_spread : (x : Tree) → HasNoArgument x → HaveNoArgument (spread x)
+keeps_spread : (x : Tree) → HasNoArgument x → HaveNoArgument (matrix_members x)
 keeps_spread (row members) h = h
 keeps_spread x h = (h, tt)
 
@@ -96,13 +96,13 @@ keeps OperatorName = λ before free cs behind free'. tt
 keeps Slashed = λ before free x h behind free'. h
 keeps Left = λ t free. keeps_fence Left t (fence_of t) _ (λ opening xs h u free'. keeps_fence Right u (fence_of u) _ (λ close. keeps_group xs h))
 keeps Middle = λ t free x h. keeps_stretch t x
-keeps Begin = λ before free cs behind free' xs h again free'' ds last free'''. keeps_environment (encode_utf8_all cs) (grouped xs) (keeps_group xs h)
+keeps Begin = λ before free cs behind free' xs h again free'' ds last free'''. keeps_environment (encode_utf8_all cs) (group_tree xs) (keeps_group xs h)
 keeps t = tt
 
-keeps_primed : (x : Tree) → HasNoArgument x → Keeps (primed x)
+keeps_primed : (x : Tree) → HasNoArgument x → Keeps (rule_after_core x)
 keeps_primed x h = ((h, tt), h)
 
-keeps_scripted : (x : Tree) → HasNoArgument x → Keeps (scripted x)
+keeps_scripted : (x : Tree) → HasNoArgument x → Keeps (rule_after_single x)
 keeps_scripted x h = (λ sub i. (h, i), (λ sup i. (h, i), h))
 
 no_argument_kept : IsKept no_argument

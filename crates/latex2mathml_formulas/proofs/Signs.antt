@@ -1,15 +1,13 @@
 -- Signs and tokens that the parser takes where they stand.
-use Rattle.std.proofs.Common.{◌≡◌, ◌≢◌, Bool, true, false, List, [], ◌∷◌, Some, Bor, ℕ, None, refl, sym, subst, ap, ◌∙◌}
+use Rattle.std.proofs.Common.{◌≡◌, ◌≢◌, Bool, true, false, List, ◌∷◌, Some, ℕ, None, sym, subst, ap, ◌∙◌}
 use Rattle.std.specs.Prelude.{MatchBool}
-use Rattle.latex2mathml_formulas.specs.Grammar.{Sort, Rule, a_fence, with_fence, refuses, first, first_or_end, sized, Outcome, Refused, rule_refuses}
+use Rattle.latex2mathml_formulas.specs.Grammar.{Sort, Rule, a_fence, with_fence, refuses, first, first_or_end, Outcome, Refused, rule_refuses}
 use Rattle.latex2mathml_formulas.specs.Levels.{RuleLeads, Level, Made}
 use Rattle.latex2mathml_formulas.specs.Marks.{rest_of}
 use Rattle.latex2mathml_nodes.specs.Productions.{fence_of}
-use Rattle.latex2mathml_tokens.specs.Refusal.{Refusal, MissingParensethis, UnexpectedToken}
-use Rattle.latex2mathml_tokens.specs.Tok.{Tok, Paren, tok}
+use Rattle.latex2mathml_tokens.specs.Refusal.{Refusal, MissingParensethis}
+use Rattle.latex2mathml_tokens.specs.Tok.{Tok}
 use Rattle.latex2mathml_nodes.specs.Tree.{Tree}
-use Rattle.latex2mathml_tokens.specs.declared.token.Token.{Token}
-use Rattle.latex2mathml_tokens.specs.declared.token.Token.TheVariants as token
 use Rattle.latex2mathml_formulas.proofs.Levels.{skipped}
 
 -- a sign that was found
@@ -29,11 +27,6 @@ refused_at l s r q place same k = subst (λ x. RuleLeads x (Made s l) place) sam
 -- an equal rule leads to the same
 pub same_rule : (l : Level) (s : Sort) (r q : Rule) (place : List Tok) → r ≡ q → RuleLeads r (Made s l) place → RuleLeads q (Made s l) place
 same_rule l s r q place same k = subst (λ x. RuleLeads x (Made s l) place) same k
-
--- a token that is no parenthesis has no size
-pub not_sized : (size : List ℕ) (got : Token) → ((x : Bor (List ℕ)) → got ≡ token.Paren x → ⊥) → sized size (tok got) ≡ refuses (UnexpectedToken (Paren []) (tok got))
-not_sized size (token.Paren x) h = absurd (h x refl)
-not_sized size t h = refl
 
 -- a token was taken where a fence must stand
 fence_taken : (location t : Tok) (then : List ℕ → Rule) (K : Outcome Tree → Type 0) (place to : List Tok) → t ≡ first_or_end place → to ≡ rest_of place → RuleLeads (a_fence location then) K place → RuleLeads (with_fence location t (fence_of t) then) K to

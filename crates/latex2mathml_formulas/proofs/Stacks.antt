@@ -2,7 +2,7 @@
 use Rattle.std.proofs.Common.{◌≡◌, ◌≢◌, ℕ, ◌+◌, ◌-◌, ◌≤◌, Bool, true, false, List, [], ◌∷◌, ◌++◌, Option, Some, refl, sym, ap, subst, ◌∙◌, reverse}
 use Rattle.std.specs.Prelude.{IsTrue}
 use Rattle.std.proofs.lemmas.List.{reverse-append}
-use Rattle.latex2mathml_formulas.specs.Frames.{awaits, enter, first_due, held, innermost, inside, inside_all, made, stands, takes_script, whole, within}
+use Rattle.latex2mathml_formulas.specs.Frames.{awaits, enter, first_due, tree_count, innermost, inside, inside_all, sort_made, standing_of, takes_script, whole, within}
 use Rattle.latex2mathml_formulas.specs.Grammar.{core, node, Outcome, Read, Reads, Refused, rule, Rule, rule_gives, gives, refuses, rule_refuses}
 use Rattle.latex2mathml_formulas.specs.Levels.{due_of, end_token, Leads, Level, Made, MayBegin, RuleLeads, Takes}
 use Rattle.latex2mathml_nodes.specs.Tree.{Tree, undefined}
@@ -71,7 +71,7 @@ no_end d fs place to t e same may = subst (λ p. MayBegin (innermost fs) p) (sym
 
 inside_denies : (input : List Tok) (fs : List Frame) (ts : List Tree) (r : Refusal) → Denies (inside_all (whole input) fs ts) r → Reads node input (Refused r)
 inside_denies input [] ts r k = k
-inside_denies input (f ∷ fs) ts r k = inside_denies input fs _ r (entered_denies (stands f ts) (made f) _ r k)
+inside_denies input (f ∷ fs) ts r k = inside_denies input fs _ r (entered_denies (standing_of f ts) (sort_made f) _ r k)
 
 -- a core that refuses refuses the node of the formula
 pub core_refused : (input : List Tok) (fs : List Frame) (ts : List Tree) (r : Refusal) → Made core (inside input fs ts) (Refused r) → Reads node input (Refused r)

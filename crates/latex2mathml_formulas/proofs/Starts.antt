@@ -1,9 +1,8 @@
 -- What the reader takes from the slices that are left of a text, and what it leaves where it only looks.
-use Rattle.std.proofs.Common.{◌≡◌, ◌≢◌, ℕ, ◌+◌, ◌*◌, ◌^◌, ◌<◌, ◌≤◌, Bool, true, false, ◌&&◌, List, [], ◌∷◌, ◌++◌, length, refl, sym, ap, subst, ◌∙◌, Some, inl, inr, append_assoc, arith}
+use Rattle.std.proofs.Common.{◌≡◌, ◌≢◌, ℕ, ◌+◌, ◌*◌, ◌^◌, ◌<◌, ◌≤◌, Bool, true, false, not, ◌&&◌, ◌||◌, List, [], ◌∷◌, ◌++◌, drop, drop-drop, length, refl, sym, ap, subst, ◌∙◌, Some, inl, inr, arith}
 use Rattle.std.proofs.lemmas.Bool.{cases_Bool}
 use Rattle.std.proofs.lemmas.Bool.Decides.{nat_tests}
-use Rattle.std.proofs.lemmas.List.Elements.{All-append, All-cons, All-nil}
-use Rattle.std.specs.List.{AllPass}
+use Rattle.std.proofs.lemmas.List.Elements.{All-cons, All-nil}
 use Rattle.std.specs.Str.{byte}
 use Rattle.latex2mathml_formulas.specs.Characters.{◌∈◌, head, is_space}
 use Rattle.latex2mathml_formulas.specs.Counts.{backslash_count, backslashes}
@@ -11,11 +10,12 @@ use Rattle.latex2mathml_formulas.specs.Cutting.{slice, slices_of}
 use Rattle.latex2mathml_formulas.specs.Grammar.{first_or_end}
 use Rattle.latex2mathml_formulas.specs.Lexing.{BeginsWith, IsLongestRun, IsStart}
 use Rattle.latex2mathml_formulas.specs.Marks.{rest_of}
-use Rattle.latex2mathml_formulas.specs.Spelling.{Slice, SpellsAt, IsStep, takes_digit}
-use Rattle.latex2mathml_formulas.specs.Unread.{GoesOn, left_in, token_list}
+use Rattle.latex2mathml_formulas.specs.Spelling.{Slice, SpellsAt, IsStep, begins_longer, character_token, takes_digit}
+use Rattle.latex2mathml_formulas.specs.Unread.{GoesOn, unread_in, token_list}
 use Rattle.latex2mathml_tokens.specs.Tok.{Tok}
+use Rattle.latex2mathml_formulas.proofs.Numbers.{true_false}
 use Rattle.latex2mathml_formulas.proofs.OneList.{Begun, begun, cut_end, cut_step}
-use Rattle.latex2mathml_formulas.proofs.Spellings.{only_space}
+use Rattle.latex2mathml_formulas.proofs.Spellings.{one_character, only_space}
 use Rattle.latex2mathml_formulas.proofs.Taking.{backslashes-cons, same_first}
 use Rattle.latex2mathml_formulas.proofs.Tokenizing.{step_shortens}
 
@@ -30,14 +30,6 @@ and_false false = refl
 -- a text that begins with no white space starts there
 pub starts_here : (takes : Bool) (text : List ℕ) (c : ℕ) (after : List ℕ) → text ≡ c ∷ after → is_space c ≡ false → IsStart takes text text takes
 starts_here takes text c after e dark = ([], (refl, All-nil (λ x. is_space x ≡ true), rw e dark), sym (and_true takes))
-
-pub starts_at_end : (takes : Bool) (text : List ℕ) → text ≡ [] → IsStart takes text text takes
-starts_at_end takes text e = ([], (refl, All-nil (λ x. is_space x ≡ true), rw e tt), sym (and_true takes))
-
--- a character more of white space
-pub more_space : (text rest : List ℕ) (c : ℕ) (after : List ℕ) → (space : List ℕ) × (text ≡ space ++ rest) × AllPass is_space space → rest ≡ c ∷ after → is_space c ≡ true → (space : List ℕ) × (text ≡ space ++ after) × AllPass is_space space
-more_space text rest c after (space, e, white) f light =
-    (space ++ c ∷ [], e ∙ ap (λ k. space ++ k) f ∙ sym (append_assoc space (c ∷ []) after), All-append (λ x. is_space x ≡ true) space (c ∷ []) white (All-cons (λ x. is_space x ≡ true) c [] light (All-nil (λ x. is_space x ≡ true))))
 
 -- a text that begins with white space starts behind it
 pub starts_behind : (takes : Bool) (text : List ℕ) (c : ℕ) (after start : List ℕ) → text ≡ c ∷ after → is_space c ≡ true → (space : List ℕ) × IsLongestRun is_space after space start → IsStart takes text start false
@@ -87,6 +79,20 @@ taken_uncounted takes alone text start c after t rest starts e dark begins no_di
     let none : backslash_count start ≡ 0 = ap backslash_count e ∙ no_backslash_count c after dark in
     taken takes alone false text start t 0 rest starts begins (sym no_digit) (omega arith) (omega arith)
 
+no_backslash : (c : ℕ) → begins_longer c ≡ false → c ≢ byte "\\"
+no_backslash c h = λ e. absurd (true_false (sym (ap begins_longer e) ∙ h))
+
+both_false : (a b : Bool) → not (a || b) ≡ true → (a ≡ false) × (b ≡ false)
+both_false true b h = absurd (true_false (sym h))
+both_false false true h = absurd (true_false (sym h))
+both_false false false h = (refl, refl)
+
+-- .. which is one character that stands for itself
+pub taken_character : (takes : Bool) (text : List ℕ) (c : ℕ) (after : List ℕ) (t : Tok) → text ≡ c ∷ after → not (begins_longer c || is_space c) ≡ true → t ≡ character_token c → takes_digit (Some t) ≡ false → IsTaken takes text t 0 false after
+taken_character takes text c after t e alone f no_digit =
+    let parts = both_false (begins_longer c) (is_space c) alone in
+    taken_uncounted takes takes text text c after t after (starts_here takes text c after e parts.1) e (no_backslash c parts.0) (one_character takes text c after t e parts.0 parts.1 f) no_digit
+
 -- .. which is a command
 pub taken_command : (takes alone takes' : Bool) (text start : List ℕ) (c : ℕ) (after : List ℕ) (t : Tok) (n : ℕ) (rest : List ℕ) → IsStart takes text start alone → start ≡ c ∷ after → c ≡ byte "\\" → BeginsWith alone (byte "\\" ∷ after) t rest → takes' ≡ takes_digit (Some t) → 1 ≤ n → n ≤ 9 → IsTaken takes text t n takes' rest
 taken_command takes alone takes' text start c after t n rest starts e backslash begins f least most =
@@ -102,14 +108,20 @@ first_taken takes text t n takes' rest h = sym (ap (λ ss. first_or_end (token_l
 pub rest_taken : (takes : Bool) (text : List ℕ) (t : Tok) (n : ℕ) (takes' : Bool) (rest : List ℕ) → IsTaken takes text t n takes' rest → token_list (slices_of takes' rest) ≡ rest_of (token_list (slices_of takes text))
 rest_taken takes text t n takes' rest h = sym (ap (λ ss. rest_of (token_list ss)) h.1)
 
-pub counts_taken : (takes : Bool) (text : List ℕ) (t : Tok) (n : ℕ) (takes' : Bool) (rest : List ℕ) (tokens tokens' comparisons comparisons' : ℕ) → IsTaken takes text t n takes' rest → tokens' ≡ tokens + 1 → comparisons' ≡ comparisons + n → GoesOn (left_in (slices_of takes text) tokens comparisons) (left_in (slices_of takes' rest) tokens' comparisons')
+pub counts_taken : (takes : Bool) (text : List ℕ) (t : Tok) (n : ℕ) (takes' : Bool) (rest : List ℕ) (tokens tokens' comparisons comparisons' : ℕ) → IsTaken takes text t n takes' rest → tokens' ≡ tokens + 1 → comparisons' ≡ comparisons + n → GoesOn (unread_in (slices_of takes text) tokens comparisons) (unread_in (slices_of takes' rest) tokens' comparisons')
 counts_taken takes text t n takes' rest tokens tokens' comparisons comparisons' h e f =
     let s : Slice = slice h.0 t in
     let shorter : length (token_list (slices_of takes text)) ≡ 1 + length (token_list (slices_of takes' rest)) = ap (λ ss. length (token_list ss)) h.1 ∙ omega arith in
     let fewer : backslashes (slices_of takes text) ≡ backslash_count h.0 + backslashes (slices_of takes' rest) = ap backslashes h.1 ∙ backslashes-cons s (slices_of takes' rest) in
     let least : backslash_count h.0 ≤ n = h.2 in
     let most : n ≤ 9 * backslash_count h.0 = h.3 in
-    record { tokens = omega arith; at_least = omega arith; at_most = omega arith }
+    record {
+      tokens = omega arith;
+      more = omega arith;
+      rest = λ slices stands. sym (ap (λ k. drop k slices) e ∙ sym (drop-drop 1 tokens slices) ∙ ap (drop 1) (sym stands) ∙ ap (drop 1) h.1);
+      at_least = omega arith;
+      at_most = omega arith;
+    }
 
 -- the counts stay below what their types hold
 

@@ -1,11 +1,11 @@
 -- The steps of the parser: what they answer, and what they count.
-use Rattle.std.proofs.Common.{◌≡◌, ◌≢◌, ℕ, ◌+◌, ◌*◌, ◌<◌, ◌≤◌, Bool, true, List, [], ◌∷◌, length, refl, sym, ap, subst, ◌∙◌, arith}
+use Rattle.std.proofs.Common.{◌≡◌, ◌≢◌, ℕ, ◌+◌, ◌≤◌, true, List, ◌∷◌, length, refl, sym, ap, subst, ◌∙◌, arith}
 use Rattle.std.proofs.lemmas.List.Sums.{sum_by-cons}
 use Rattle.std.specs.Prelude.{IfOk, IfSome, Result, Ok, Err}
 use Rattle.std.specs.declared.alloc.AllocError.{AllocError}
 use Rattle.latex2mathml_formulas.specs.Frames.{takes_script}
 use Rattle.latex2mathml_formulas.specs.Grammar.{node, Reads, Refused}
-use Rattle.latex2mathml_formulas.specs.Openers.{OpensFor, openers, opens}
+use Rattle.latex2mathml_formulas.specs.Openers.{openers, opens}
 use Rattle.latex2mathml_formulas.specs.Marks.{rest_of}
 use Rattle.latex2mathml_formulas.specs.Steps.{Counted, Follows, Holds, state_weight}
 use Rattle.latex2mathml_formulas.specs.Unread.{GoesOn}
@@ -18,7 +18,7 @@ use Rattle.latex2mathml_formulas.specs.declared.parse.State.TheVariants as state
 use Rattle.latex2mathml_formulas.specs.declared.parse.frames.Due.{Due}
 use Rattle.latex2mathml_formulas.specs.declared.parse.frames.Due.TheVariants as due
 use Rattle.latex2mathml_formulas.specs.declared.parse.frames.GroupEnd.{GroupEnd}
-use Rattle.latex2mathml_formulas.proofs.Progress.{OpensFor-rest, opens-≤}
+use Rattle.latex2mathml_formulas.proofs.Progress.{GoesOn-refl, GoesOn-trans, OpensFor-rest, opens-≤}
 
 -- the formula is refused, and the refusal lies in the parser
 pub refused : (input : List Tok) (p q : Parser) (s : State) (error : LatexError) → s ≡ state.Refused → q ≡ record p { refusal = error } → IfSome (refusal_of error) (λ r. Reads node input (Refused r)) → Holds input q s
@@ -33,13 +33,13 @@ follows_within (Err e) p m n h f = f
 -- what is counted from step to step
 pub counted_on : (m n : ℕ) (p q r : Parser) → Counted m p q → Counted n q r → Counted (m + n) p r
 counted_on m n p q r h i = record {
-  counts = record { tokens = omega arith; at_least = omega arith; at_most = omega arith };
+  counts = GoesOn-trans _ _ _ h.counts i.counts;
   frames = record { taken = omega arith; openers = omega arith };
 }
 
 pub counted_none : (p : Parser) → Counted 0 p p
 counted_none p = record {
-  counts = record { tokens = omega arith; at_least = omega arith; at_most = omega arith };
+  counts = GoesOn-refl p.reader;
   frames = record { taken = omega arith; openers = omega arith };
 }
 
@@ -56,7 +56,7 @@ counted_taken t p q r stood counts same h =
     let fewer : openers p.reader.list ≡ opens t + openers q.reader.list = ap openers stood ∙ sum_by-cons opens t q.reader.list in
     let one = opens-≤ t in
     record {
-      counts = record { tokens = omega arith; at_least = omega arith; at_most = omega arith };
+      counts = GoesOn-trans _ _ _ counts h.counts;
       frames = record { taken = omega arith; openers = omega arith };
     }
 
@@ -65,7 +65,7 @@ pub counted_skipped : (p q r : Parser) (n : ℕ) → q.reader.list ≡ rest_of p
 counted_skipped p q r n passed counts same h =
     let over = OpensFor-rest p.reader q.reader passed counts in
     record {
-      counts = record { tokens = omega arith; at_least = omega arith; at_most = omega arith };
+      counts = GoesOn-trans _ _ _ counts h.counts;
       frames = record { taken = omega arith; openers = omega arith };
     }
 

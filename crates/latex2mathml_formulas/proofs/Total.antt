@@ -1,7 +1,7 @@
 -- Each list of tokens has an outcome.
 use Rattle.std.proofs.Common.{ℕ, zero, suc, ◌-◌, ◌≤◌, ◌≡◌, ◌≢◌, ◌⊎◌, inl, inr, List, [], ◌∷◌, length, Option, Some, None, refl, sym, ap, subst, arith}
 use Rattle.latex2mathml_tokens.specs.Discreteness.{tok-discrete}
-use Rattle.latex2mathml_formulas.specs.Grammar.{Sort, core, single, node, Rule, gives, refuses, reads_part, reads_members, reads_sign, takes_token, sees_token, takes_letters, rule, primed, scripted, Outcome, Read, Refused, first_or_end, letter_of, AreLetters, Reads, core_at_end, core_begun, single_read, node_read, ReadsRule, rule_gives, rule_refuses, part_read, part_refused, members_read, members_refused, sign_stands, sign_missing, token_taken, token_at_end, token_seen, letters_taken, ReadsAll, formula_ends, group_ends, never_closed, member_read, later_refused, member_refused, Reading, Refuses}
+use Rattle.latex2mathml_formulas.specs.Grammar.{Sort, core, single, node, Rule, gives, refuses, reads_part, reads_members, reads_sign, takes_token, sees_token, takes_letters, rule, rule_after_core, rule_after_single, Outcome, Read, Refused, first_or_end, letter_of, AreLetters, Reads, core_at_end, core_begun, single_read, node_read, ReadsRule, rule_gives, rule_refuses, part_read, part_refused, members_read, members_refused, sign_stands, sign_missing, token_taken, token_at_end, token_seen, letters_taken, ReadsAll, formula_ends, group_ends, never_closed, member_read, later_refused, member_refused, Reading, Refuses}
 use Rattle.latex2mathml_tokens.specs.Refusal.{Refusal}
 use Rattle.latex2mathml_tokens.specs.Tok.{Tok, EOF}
 use Rattle.latex2mathml_nodes.specs.Tree.{Tree}
@@ -132,14 +132,14 @@ core_total k has (t ∷ l) h = let d = rule_total k has (rule t) l (omega arith)
 single_total : (k : ℕ) → HasOutcomes k → (l : List Tok) → length l ≤ suc k → (o : Outcome Tree) × Reads single l o
 single_total k has l h =
     let c = core_total k has l h in
-    let d = part_total (omega arith) (λ x m fits. rule_total k has (primed x) m fits) c.0 c.1 in
+    let d = part_total (omega arith) (λ x m fits. rule_total k has (rule_after_core x) m fits) c.0 c.1 in
     (d.0, single_read d.1)
 
 -- so a node has one
 node_total : (k : ℕ) → HasOutcomes k → (l : List Tok) → length l ≤ suc k → (o : Outcome Tree) × Reads node l o
 node_total k has l h =
     let c = single_total k has l h in
-    let d = part_total (omega arith) (λ x m fits. rule_total k has (scripted x) m fits) c.0 c.1 in
+    let d = part_total (omega arith) (λ x m fits. rule_total k has (rule_after_single x) m fits) c.0 c.1 in
     (d.0, node_read d.1)
 
 -- so each of the three has one

@@ -1,7 +1,11 @@
 -- What is counted of a text, over its slices.
-use Rattle.std.specs.Prelude.{◌≡◌, ℕ, ◌*◌, ◌≤◌, Bool, true, false, List, [], ◌∷◌, length, count_by, if◌then◌else◌}
+use Rattle.std.specs.Prelude.{◌≡◌, ℕ, ◌+◌, ◌*◌, ◌<◌, ◌≤◌, Bool, true, false, List, [], ◌∷◌, length, take, count_by, None, if◌then◌else◌}
 use Rattle.latex2mathml_formulas.specs.Characters.{◌∈◌}
-use Rattle.latex2mathml_formulas.specs.Spelling.{Slice, HasSlices}
+use Rattle.latex2mathml_formulas.specs.Grammar.{node, Read, Reads, Refused}
+use Rattle.latex2mathml_formulas.specs.Spelling.{Slice, HasSlices, HasTokens}
+use Rattle.latex2mathml_nodes.specs.Tree.{Tree}
+use Rattle.latex2mathml_tokens.specs.Refusal.{Refusal}
+use Rattle.latex2mathml_tokens.specs.Tok.{Tok}
 
 -- the text begins with a backslash
 abbrev pub begins_with_backslash : List ℕ → Bool
@@ -21,8 +25,25 @@ abbrev pub IsTokenCount : List ℕ → Bool → ℕ → Type 0
 IsTokenCount text done n =
     (slices : List Slice) × HasSlices false text slices × (n ≤ length slices) × (done ≡ true → n ≡ length slices)
 
--- at most 9 comparisons for each slice of the text that begins with a backslash, and where `done` holds at least 1 for
--- each
-abbrev pub IsComparisonCount : List ℕ → Bool → ℕ → Type 0
-IsComparisonCount text done n =
-    (slices : List Slice) × HasSlices false text slices × (n ≤ 9 * backslashes slices) × (done ≡ true → backslashes slices ≤ n)
+-- 1 to 9 comparisons for each slice that begins with a backslash, among those of the tokens that were taken, which are the
+-- first of the text
+abbrev pub IsComparisonCount : List ℕ → ℕ → ℕ → Type 0
+IsComparisonCount text taken n =
+    (slices : List Slice) × HasSlices false text slices × (backslashes (take taken slices) ≤ n) × (n ≤ 9 * backslashes (take taken slices))
+
+-- nodes side by side are read, down to the tokens that are left
+pub data AreNodes (ts : List Tok) : List Tok → Type 0 where
+  no_node : AreNodes ts ts
+  one_more : {t : Tok} {l m : List Tok} {x : Tree}
+      → AreNodes ts (t ∷ l)
+      → Reads node (t ∷ l) (Read x m)
+      → AreNodes ts m
+
+-- a node is refused that stands behind others, and of its tokens some were taken: these are left
+abbrev pub IsRefusedWithin : List Tok → List Tok → Refusal → Type 0
+IsRefusedWithin ts left r = (place : List Tok) × AreNodes ts place × Reads node place (Refused r) × (length left < length place)
+
+-- n tokens of the text were taken where it is refused: all that stand before the node that is refused, and more
+abbrev pub IsRefusalCount : List ℕ → ℕ → Refusal → Type 0
+IsRefusalCount text n r =
+    (ts : List Tok) × HasTokens None text ts × ((place : List Tok) × AreNodes ts place × Reads node place (Refused r) × (length ts < n + length place))

@@ -2,10 +2,10 @@
 -- what was read of its rule are the first of the trees that stand beside it, the last that was read first. These words serve
 -- the contracts of the parser's functions.
 use Rattle.std.specs.Prelude.{ℕ, ◌+◌, ◌-◌, Bool, true, false, List, [], ◌∷◌, drop, reverse, take}
-use Rattle.latex2mathml_formulas.specs.Grammar.{Sort, core, single, node, operand, Rule, gives, reads_part, reads_sign, of_one, of_degree, with_second, under_slash, closing, stretching, ending, Reads}
-use Rattle.latex2mathml_formulas.specs.Levels.{Standing, awaits_part, awaits_members, Level, part, entered}
+use Rattle.latex2mathml_formulas.specs.Grammar.{Sort, core, single, node, operand, Rule, gives, reads_part, reads_sign, of_one, of_degree, with_second, under_slash, after_fence_members, stretched_or_refused, after_environment_members, Reads}
+use Rattle.latex2mathml_formulas.specs.Levels.{Standing, awaits_part, awaits_members, Level, part, level_of_rule}
 use Rattle.latex2mathml_formulas.specs.Marks.{sign_token}
-use Rattle.latex2mathml_nodes.specs.Productions.{grouped, stretched_of}
+use Rattle.latex2mathml_nodes.specs.Productions.{group_tree, stretched_operator}
 use Rattle.latex2mathml_nodes.specs.Style.{styled}
 use Rattle.latex2mathml_nodes.specs.Tree.{Tree, operator, subscript, superscript}
 use Rattle.latex2mathml_parts.specs.Parts.{arity, fence_text, put, top, words_of}
@@ -40,10 +40,10 @@ end_of group.Environment = group_end.End
 
 -- what follows the members of a group, where these trees were read before them
 abbrev pub after_members : Group → List Tree → List Tree → Rule
-after_members group.Brace ts xs = gives (grouped xs)
+after_members group.Brace ts xs = gives (group_tree xs)
 after_members group.Degree ts xs = of_degree xs
-after_members (group.Fence opening) ts xs = closing (fence_text opening) xs
-after_members group.Environment ts xs = ending (words_of (top ts)) xs
+after_members (group.Fence opening) ts xs = after_fence_members (fence_text opening) xs
+after_members group.Environment ts xs = after_environment_members (words_of (top ts)) xs
 
 -- the sign that a second single stands behind
 abbrev pub pair_sign : Pair → Sign
@@ -83,21 +83,21 @@ with_limits c below above ts =
     (reads_sign Circumflex (reads_part single (after_first above ts)) (gives (operator c)))
 
 -- the rule that was begun, at the part that is to be read next
-abbrev pub stands : Frame → List Tree → Standing
-stands (frame.Members g n) ts = awaits_members (end_of g) (reverse (take n ts)) (after_members g (drop n ts))
-stands (frame.Operand k) ts = awaits_part operand (λ x. gives (top (put k (x ∷ ts))))
-stands (frame.First k) ts = awaits_part operand (λ x. of_one (λ y. top (put k (y ∷ x ∷ ts))))
-stands (frame.Style v) ts = awaits_part operand (λ x. gives (styled v x))
-stands (frame.Single p) ts = awaits_part single (after_first p ts)
-stands (frame.Last k) ts = awaits_part single (λ x. gives (top (put k (x ∷ ts))))
-stands frame.Slashed ts = awaits_part node under_slash
-stands (frame.Stretch got) ts = awaits_part single (λ x. stretching (lexeme_tok got) (stretched_of x))
-stands (frame.Script sign) ts = awaits_part node (λ y. gives (script sign (top ts) y))
+abbrev pub standing_of : Frame → List Tree → Standing
+standing_of (frame.Members g n) ts = awaits_members (end_of g) (reverse (take n ts)) (after_members g (drop n ts))
+standing_of (frame.Operand k) ts = awaits_part operand (λ x. gives (top (put k (x ∷ ts))))
+standing_of (frame.First k) ts = awaits_part operand (λ x. of_one (λ y. top (put k (y ∷ x ∷ ts))))
+standing_of (frame.Style v) ts = awaits_part operand (λ x. gives (styled v x))
+standing_of (frame.Single p) ts = awaits_part single (after_first p ts)
+standing_of (frame.Last k) ts = awaits_part single (λ x. gives (top (put k (x ∷ ts))))
+standing_of frame.Slashed ts = awaits_part node under_slash
+standing_of (frame.Stretch got) ts = awaits_part single (λ x. stretched_or_refused (lexeme_tok got) (stretched_operator x))
+standing_of (frame.Script sign) ts = awaits_part node (λ y. gives (script sign (top ts) y))
 
 -- what the frame is a rule of
-abbrev pub made : Frame → Sort
-made (frame.Script sign) = node
-made f = core
+abbrev pub sort_made : Frame → Sort
+sort_made (frame.Script sign) = node
+sort_made f = core
 
 -- what the frame waits for
 abbrev pub awaits : Frame → Due
@@ -119,13 +119,13 @@ takes_script due.Single = false
 takes_script due.Core = false
 
 -- how many of the trees beside it belong to the frame. The name of an environment stands below its members.
-abbrev pub held : Frame → ℕ
-held (frame.Members group.Environment n) = n + 1
-held (frame.Members g n) = n
-held (frame.Operand k) = arity k - 1
-held (frame.Last k) = arity k - 1
-held (frame.Script sign) = 1
-held f = 0
+abbrev pub tree_count : Frame → ℕ
+tree_count (frame.Members group.Environment n) = n + 1
+tree_count (frame.Members g n) = n
+tree_count (frame.Operand k) = arity k - 1
+tree_count (frame.Last k) = arity k - 1
+tree_count (frame.Script sign) = 1
+tree_count f = 0
 
 -- 0 where the part that the frame makes has as many operands as the frame waits for, with those that were read
 abbrev pub unfit : Frame → ℕ
@@ -135,7 +135,7 @@ unfit (frame.First k) = (2 - arity k) + (arity k - 2)
 unfit f = 0
 
 abbrev pub enter : Frame → List Tree → Level → Level
-enter f ts l = entered (stands f ts) (made f) l
+enter f ts l = level_of_rule (standing_of f ts) (sort_made f) l
 
 -- the level of one node of the formula, where these tokens were left before it
 abbrev pub whole : List Tok → Level
@@ -144,7 +144,7 @@ whole input = part node (Reads node input)
 -- the level inside all frames, the innermost first
 abbrev pub inside_all : Level → List Frame → List Tree → Level
 inside_all l [] ts = l
-inside_all l (f ∷ fs) ts = enter f ts (inside_all l fs (drop (held f) ts))
+inside_all l (f ∷ fs) ts = enter f ts (inside_all l fs (drop (tree_count f) ts))
 
 -- .. and the innermost last, as on the stack
 abbrev pub inside : List Tok → List Frame → List Tree → Level
@@ -152,7 +152,7 @@ inside input fs ts = inside_all (whole input) (reverse fs) ts
 
 -- .. and one more frame inside them
 abbrev pub within : List Tok → List Frame → Frame → List Tree → Level
-within input fs f ts = enter f ts (inside input fs (drop (held f) ts))
+within input fs f ts = enter f ts (inside input fs (drop (tree_count f) ts))
 
 abbrev pub first_due : List Frame → Due
 first_due [] = due.Node

@@ -2,7 +2,7 @@
 -- a core; three small relations say how rules are read, and they are the same for every rule.
 use Rattle.std.specs.Prelude.{◌≡◌, ◌≢◌, ℕ, Bool, true, false, List, [], ◌∷◌, Option, Some, None, codes}
 use Rattle.std.specs.Str.{byte, encode_utf8_all}
-use Rattle.latex2mathml_nodes.specs.Productions.{binomial_tree, environment_tree, fence_of, overbraced, overbraced_with, stretched_of, underbraced, underbraced_with, grouped, prime_mark}
+use Rattle.latex2mathml_nodes.specs.Productions.{binomial_tree, environment_tree, fence_of, overbrace_tree, labelled_overbrace_tree, stretched_operator, underbrace_tree, labelled_underbrace_tree, group_tree, prime_mark}
 use Rattle.latex2mathml_tokens.specs.Refusal.{Refusal, UnexpectedToken, MissingParensethis, UnknownEnvironment}
 use Rattle.latex2mathml_nodes.specs.Style.{styled}
 use Rattle.latex2mathml_tokens.specs.Tok.{Tok, Illegal, EOF, Begin, End, Ampersand, Paren, LBrace, RBrace, NewLine, Left, Right, Middle, Frac, Underscore, Circumflex, Binom, Overset, Underset, Overbrace, Underbrace, Sqrt, Integral, Lim, Letter, Number, Operator, BigOp, Space, Style, Big, Over, Under, Function, OperatorName, Slashed, Text, Command}
@@ -50,7 +50,7 @@ of_two whole = reads_part operand (λ x. of_one (whole x))
 
 -- what follows the degree of a root
 abbrev pub of_degree : List Tree → Rule
-of_degree xs = of_one (root (grouped xs))
+of_degree xs = of_one (root (group_tree xs))
 
 -- a root, whose degree stands in square brackets
 abbrev pub a_root : Rule
@@ -94,13 +94,13 @@ abbrev pub a_fence : Tok → (List ℕ → Rule) → Rule
 a_fence location then = takes_token (λ t. with_fence location t (fence_of t) then)
 
 -- what follows the members between two fences
-abbrev pub closing : List ℕ → List Tree → Rule
-closing opening xs = a_fence Right (λ close. gives (fenced opening close (grouped xs)))
+abbrev pub after_fence_members : List ℕ → List Tree → Rule
+after_fence_members opening xs = a_fence Right (λ close. gives (fenced opening close (group_tree xs)))
 
 -- the stretched operator, or else the refusal of the token that was seen
-abbrev pub stretching : Tok → Option Tree → Rule
-stretching t (Some x) = gives x
-stretching t None = refuses (MissingParensethis Middle t)
+abbrev pub stretched_or_refused : Tok → Option Tree → Rule
+stretched_or_refused t (Some x) = gives x
+stretched_or_refused t None = refuses (MissingParensethis Middle t)
 
 -- the environment of this name, where there is one
 abbrev pub environment : List ℕ → Option Tree → Rule
@@ -108,12 +108,12 @@ environment name (Some x) = gives x
 environment name None = refuses (UnknownEnvironment name)
 
 -- what follows the members of an environment: a name, which need not be the same
-abbrev pub ending : List ℕ → List Tree → Rule
-ending name xs = a_name (λ again. environment name (environment_tree name (grouped xs)))
+abbrev pub after_environment_members : List ℕ → List Tree → Rule
+after_environment_members name xs = a_name (λ again. environment name (environment_tree name (group_tree xs)))
 
 -- a token that has no meaning where a core is due: its text, marked as an error
-abbrev pub marked : Tok → Rule
-marked t = gives (undefined (token_text t))
+abbrev pub error_rule : Tok → Rule
+error_rule t = gives (undefined (token_text t))
 
 -- the rule of a token that stands where a core begins
 abbrev pub rule : Tok → Rule
@@ -125,7 +125,7 @@ rule Ampersand = gives ampersand
 rule (Space width) = gives (space width)
 rule (Function name) = gives (function name)
 rule NewLine = gives new_line
-rule LBrace = reads_members RBrace (λ xs. gives (grouped xs))
+rule LBrace = reads_members RBrace (λ xs. gives (group_tree xs))
 rule Sqrt = a_root
 rule Frac = of_two (λ x y. frac x y Medium)
 rule (Binom display) = of_two (binomial_tree display)
@@ -133,8 +133,8 @@ rule (Over c accent) = of_one (over_op c accent)
 rule (Under c accent) = of_one (under_op c accent)
 rule Overset = of_two overset
 rule Underset = of_two underset
-rule (Overbrace c) = reads_part single (with_second Circumflex (overbraced c) (λ x y. overbraced_with c y x))
-rule (Underbrace c) = reads_part single (with_second Underscore (underbraced c) (λ x y. underbraced_with c y x))
+rule (Overbrace c) = reads_part single (with_second Circumflex (overbrace_tree c) (λ x y. labelled_overbrace_tree c y x))
+rule (Underbrace c) = reads_part single (with_second Underscore (underbrace_tree c) (λ x y. labelled_underbrace_tree c y x))
 rule (BigOp c) = limits (operator c) (under (operator c)) (λ y. overset y (operator c)) (under_over (operator c))
 rule (Integral c) = limits (operator c) (subscript (operator c)) (superscript (operator c)) (sub_sup (operator c))
 rule (Lim name) = reads_sign Underscore (with_limit name) (gives (function name))
@@ -143,18 +143,18 @@ rule (Big size) = takes_token (sized size)
 rule Text = a_name (λ name. gives (words name))
 rule OperatorName = a_name (λ name. gives (function name))
 rule Slashed = takes_token (λ before. reads_part node under_slash)
-rule Left = a_fence Left (λ opening. reads_members Right (closing opening))
-rule Middle = sees_token (λ t. reads_part single (λ x. stretching t (stretched_of x)))
-rule Begin = a_name (λ name. reads_members End (ending name))
+rule Left = a_fence Left (λ opening. reads_members Right (after_fence_members opening))
+rule Middle = sees_token (λ t. reads_part single (λ x. stretched_or_refused t (stretched_operator x)))
+rule Begin = a_name (λ name. reads_members End (after_environment_members name))
 -- a token that begins no rule is marked as an error
-rule (Illegal c) = marked (Illegal c)
-rule EOF = marked EOF
-rule RBrace = marked RBrace
-rule Right = marked Right
-rule End = marked End
-rule Underscore = marked Underscore
-rule Circumflex = marked Circumflex
-rule (Command name) = marked (Command name)
+rule (Illegal c) = error_rule (Illegal c)
+rule EOF = error_rule EOF
+rule RBrace = error_rule RBrace
+rule Right = error_rule Right
+rule End = error_rule End
+rule Underscore = error_rule Underscore
+rule Circumflex = error_rule Circumflex
+rule (Command name) = error_rule (Command name)
 
 -- a rule without parts: it gives its tree at once
 abbrev pub is_plain : Rule → Bool
@@ -166,12 +166,12 @@ abbrev pub prime : Tok
 prime = Operator (byte "'")
 
 -- what follows the core of a single: one prime, if it stands next
-abbrev pub primed : Tree → Rule
-primed x = reads_sign prime (gives (superscript x prime_mark)) (gives x)
+abbrev pub rule_after_core : Tree → Rule
+rule_after_core x = reads_sign prime (gives (superscript x prime_mark)) (gives x)
 
 -- what follows the single of a node: a sign and a node, if a sign stands next. So scripts bind to the right.
-abbrev pub scripted : Tree → Rule
-scripted x =
+abbrev pub rule_after_single : Tree → Rule
+rule_after_single x =
     reads_sign Underscore (reads_part node (λ sub. gives (subscript x sub)))
     (reads_sign Circumflex (reads_part node (λ sup. gives (superscript x sup))) (gives x))
 
@@ -216,11 +216,11 @@ mutual
         → Reads core (t ∷ l) o
     -- a single is a core, and what may follow it
     single_read : {l : List Tok} {o : Outcome Tree}
-        → ReadsRule (reads_part core primed) l o
+        → ReadsRule (reads_part core rule_after_core) l o
         → Reads single l o
     -- a node is a single, and what may follow it
     node_read : {l : List Tok} {o : Outcome Tree}
-        → ReadsRule (reads_part single scripted) l o
+        → ReadsRule (reads_part single rule_after_single) l o
         → Reads node l o
 
   -- what the parts of a rule come to

@@ -1,7 +1,7 @@
 -- What is due while a rule is read, and where its outcome leads. These words serve the contracts of the parser's
 -- functions; they know no frame. A continuation K says of each outcome what it leads to.
 use Rattle.std.specs.Prelude.{◌≢◌, List, [], ◌∷◌, ◌++◌, Some, codes}
-use Rattle.latex2mathml_formulas.specs.Grammar.{Sort, core, single, node, Rule, primed, scripted, Outcome, Read, Refused, Reads, ReadsRule, ReadsAll}
+use Rattle.latex2mathml_formulas.specs.Grammar.{Sort, core, single, node, Rule, rule_after_core, rule_after_single, Outcome, Read, Refused, Reads, ReadsRule, ReadsAll}
 use Rattle.latex2mathml_tokens.specs.Tok.{Tok, End, Paren, RBrace, Right}
 use Rattle.latex2mathml_nodes.specs.Tree.{Tree}
 use Rattle.latex2mathml_formulas.specs.declared.parse.frames.Due.{Due}
@@ -52,9 +52,9 @@ Then then K (Refused r) = K (Refused r)
 
 -- where the outcome of the first sort leads, if the second is due
 abbrev pub As : Sort → Sort → (Outcome Tree → Type 0) → Outcome Tree → Type 0
-As core single K = Then primed K
-As core node K = Then primed (Then scripted K)
-As single node K = Then scripted K
+As core single K = Then rule_after_core K
+As core node K = Then rule_after_core (Then rule_after_single K)
+As single node K = Then rule_after_single K
 As s t K = K
 
 -- the outcome of members of which these were read first
@@ -91,6 +91,6 @@ abbrev pub Made : Sort → Level → Outcome Tree → Type 0
 Made s l = As s (sort_of l) (Takes l)
 
 -- the level within a rule of this sort that was begun at a level
-abbrev pub entered : Standing → Sort → Level → Level
-entered (awaits_part s then) made l = part s (Then then (Made made l))
-entered (awaits_members end xs then) made l = members end (λ o. Then then (Made made l) (behind xs o))
+abbrev pub level_of_rule : Standing → Sort → Level → Level
+level_of_rule (awaits_part s then) made l = part s (Then then (Made made l))
+level_of_rule (awaits_members end xs then) made l = members end (λ o. Then then (Made made l) (behind xs o))

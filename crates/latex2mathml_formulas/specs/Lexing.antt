@@ -1,11 +1,11 @@
 -- What the reader's functions return, in the words of the spelling.
-use Rattle.std.specs.Prelude.{◌≡◌, ℕ, ◌*◌, ◌≤◌, ◌&&◌, Bool, List, ◌++◌}
+use Rattle.std.specs.Prelude.{◌≡◌, ℕ, ◌&&◌, Bool, List, ◌∷◌, ◌++◌}
 use Rattle.std.specs.Char.{is_ascii_digit, is_ascii_alphabetic}
 use Rattle.std.specs.List.{AllPass}
 use Rattle.latex2mathml_formulas.specs.Characters.{Stops, head, is_empty, is_space}
-use Rattle.latex2mathml_formulas.specs.Counts.{backslash_count}
-use Rattle.latex2mathml_formulas.specs.Cutting.{slice}
-use Rattle.latex2mathml_formulas.specs.Spelling.{SpellsAt, IsStep}
+use Rattle.std.specs.Str.{byte, encode_utf8_all}
+use Rattle.latex2mathml_formulas.specs.Spelling.{SpellsAt, IsNumber}
+use Rattle.latex2mathml_tokens.specs.Commands.{command_token}
 use Rattle.latex2mathml_tokens.specs.Tok.{Tok}
 use Rattle.latex2mathml_formulas.specs.declared.reader.characters.Class.{Class}
 use Rattle.latex2mathml_formulas.specs.declared.reader.characters.Class.TheVariants.{Space, Digit, Letter}
@@ -30,9 +30,11 @@ IsStart takes text start alone =
 abbrev pub BeginsWith : Bool → List ℕ → Tok → List ℕ → Type 0
 BeginsWith alone text t rest = (w : List ℕ) × (text ≡ w ++ rest) × SpellsAt alone w (head rest) t
 
--- the text is white space, a slice that spells t and for which n names were compared, and then the rest
-pub record IsRead (takes : Bool) (text : List ℕ) (t : Tok) (n : ℕ) (rest : List ℕ) : Type 0 where
-  pub text_of : List ℕ
-  pub step : IsStep takes text (slice text_of t) rest
-  pub at_least : backslash_count text_of ≤ n
-  pub at_most : n ≤ 9 * backslash_count text_of
+-- the text is a number, and then the rest
+abbrev pub BeginsWithNumber : List ℕ → List ℕ → Type 0
+BeginsWithNumber text rest = (w : List ℕ) × (text ≡ w ++ rest) × IsNumber w (head rest)
+
+-- the text is what stands behind the backslash of a command, and then the rest
+abbrev pub BeginsWithName : List ℕ → List ℕ → Type 0
+BeginsWithName text rest =
+    (w : List ℕ) × (text ≡ w ++ rest) × ((alone : Bool) → SpellsAt alone (byte "\\" ∷ w) (head rest) (command_token (encode_utf8_all w)))

@@ -16,5 +16,6 @@ pub mod SliceRefusals
 pub mod Slices
 pub mod Spelling
 pub mod Steps
+pub mod TextLaws
 pub mod TokenLists
 pub mod Unread

@@ -1,8 +1,7 @@
 -- For which tokens the parser may open a frame.
-use Rattle.std.specs.Prelude.{ℕ, ◌+◌, ◌≤◌, List, None, sum_by}
+use Rattle.std.specs.Prelude.{ℕ, ◌≤◌, List, None, sum_by}
 use Rattle.latex2mathml_formulas.specs.Spelling.{HasTokens}
 use Rattle.latex2mathml_tokens.specs.Tok.{Tok, Number, Letter, Operator, Paren}
-use Rattle.latex2mathml_formulas.specs.Unread.{Left}
 
 -- 1 where a frame may be opened for the token: it is no number, letter, operator or parenthesis
 abbrev pub opens : Tok → ℕ
@@ -15,12 +14,6 @@ opens t = 1
 -- for how many of the tokens a frame may be opened
 abbrev pub openers : List Tok → ℕ
 openers ts = sum_by opens ts
-
--- Reading went on from what was left to what is left now, and the greatest number of frames, which was `before`, is
--- `after`: each frame was opened for a token that was taken, and each such token opened one at most.
-pub record OpensFor (old new : Left) (before after : ℕ) : Type 0 where
-  pub taken : after + old.tokens ≤ before + new.tokens
-  pub openers : after + openers new.list ≤ before + openers old.list
 
 -- Reading the text, of which this many tokens were taken, had at most n frames at once: no more than tokens that were
 -- taken, and no more than tokens of the text that may open one.

@@ -1,10 +1,10 @@
 -- The steps of the parser: what holds between two of them, what is counted, and how much is left to do.
-use Rattle.std.specs.Prelude.{◌≡◌, ℕ, ◌+◌, ◌*◌, ◌<◌, ◌≤◌, List, [], ◌++◌, drop, length, sum_by, IfSome}
-use Rattle.latex2mathml_formulas.specs.Frames.{held, innermost, inside}
+use Rattle.std.specs.Prelude.{◌≡◌, Bool, true, false, ℕ, ◌+◌, ◌*◌, ◌<◌, ◌≤◌, List, [], ◌++◌, drop, length, sum_by, IfSome}
+use Rattle.latex2mathml_formulas.specs.Frames.{tree_count, innermost, inside}
 use Rattle.latex2mathml_formulas.specs.Grammar.{core, node, Outcome, Read, Reads, Refused, Rule}
 use Rattle.latex2mathml_formulas.specs.Levels.{Leads, Level, Made, RuleLeads, Takes}
-use Rattle.latex2mathml_formulas.specs.Openers.{OpensFor, opens}
-use Rattle.latex2mathml_formulas.specs.Unread.{GoesOn}
+use Rattle.latex2mathml_formulas.specs.Openers.{opens}
+use Rattle.latex2mathml_formulas.specs.Unread.{GoesOn, OpensFor}
 use Rattle.latex2mathml_nodes.specs.Print.{print}
 use Rattle.latex2mathml_nodes.specs.Tree.{Tree}
 use Rattle.latex2mathml_parts.specs.Parts.{top, trees}
@@ -26,8 +26,8 @@ abbrev pub level : ℕ → List Tok → Parser → Level
 level n input p = inside input p.frames.stack.items (drop n (trees p.parts))
 
 -- the last tree is read, down to the tokens that are left
-abbrev pub last_read : Parser → Outcome Tree
-last_read p = Read (top (trees p.parts)) p.reader.list
+abbrev pub last_tree_read : Parser → Outcome Tree
+last_tree_read p = Read (top (trees p.parts)) p.reader.list
 
 -- whatever the rest of a core's rule comes to, it leads on; without the last n trees
 abbrev pub GoesOnBy : Rule → ℕ → List Tok → Parser → Type 0
@@ -35,27 +35,32 @@ GoesOnBy r n input p = RuleLeads r (Made core (level n input p)) p.reader.list
 
 -- the node of the formula is read: it is the last tree
 abbrev pub Ends : List Tok → Parser → Type 0
-Ends input p = (p.frames.stack.items ≡ []) × Reads node input (last_read p)
+Ends input p = (p.frames.stack.items ≡ []) × Reads node input (last_tree_read p)
 
 -- what holds between two steps, where these tokens were left before the node of the formula
 abbrev pub Holds : List Tok → Parser → State → Type 0
 Holds input p state.Next = Leads (level 0 input p) p.reader.list
-Holds input p state.Core = Made core (level 1 input p) (last_read p)
-Holds input p state.Part = Takes (level 1 input p) (last_read p)
+Holds input p state.Core = Made core (level 1 input p) (last_tree_read p)
+Holds input p state.Part = Takes (level 1 input p) (last_tree_read p)
 Holds input p state.End = Ends input p
 Holds input p state.Refused = IfSome (refusal_of p.refusal) (λ r. Reads node input (Refused r))
 
+-- the last state: the node is read, or the formula is refused
+abbrev pub end_of : Bool → State
+end_of true = state.End
+end_of false = state.Refused
+
 -- there are trees for all frames, and n more
 abbrev pub HasTrees : ℕ → Parser → Type 0
-HasTrees n p = sum_by held p.frames.stack.items + n ≤ length (trees p.parts)
+HasTrees n p = sum_by tree_count p.frames.stack.items + n ≤ length (trees p.parts)
 
 -- how many trees a state speaks of
-abbrev pub spoken_of : State → ℕ
-spoken_of state.Next = 0
-spoken_of state.Core = 1
-spoken_of state.Part = 1
-spoken_of state.End = 1
-spoken_of state.Refused = 0
+abbrev pub trees_of_state : State → ℕ
+trees_of_state state.Next = 0
+trees_of_state state.Core = 1
+trees_of_state state.Part = 1
+trees_of_state state.End = 1
+trees_of_state state.Refused = 0
 
 -- how much a frame still brings, apart from the part that it waits for
 abbrev pub weight : Frame → ℕ
@@ -86,7 +91,7 @@ pub record Counted (n : ℕ) (old new : Parser) : Type 0 where
 
 -- The state comes next: there are trees for it, and less than the bound is left to do.
 pub record Follows (bound : ℕ) (p : Parser) (s : State) : Type 0 where
-  pub trees : HasTrees (spoken_of s) p
+  pub trees : HasTrees (trees_of_state s) p
   pub falls : work p s < bound
 
 -- The frame of a stretched operator was opened, and this lexeme was taken behind `\middle`. A frame may be opened for it, if
@@ -98,7 +103,8 @@ pub record IsStretched (old new : Parser) (got : Lexeme) : Type 0 where
   pub falls : to_do new ≤ to_do old + 2
 
 -- No rule is begun any more: a node of these tokens was read, down to those that are left, and its print stands behind what
--- was there.
-abbrev pub IsAppended : List Tok → Parser → List ℕ → List ℕ → Type 0
-IsAppended input p old new =
+-- was there. Or the formula is refused.
+abbrev pub IsAppended : List Tok → Parser → List ℕ → List ℕ → Bool → Type 0
+IsAppended input p old new true =
     (p.frames.stack.items ≡ []) × ((x : Tree) × Reads node input (Read x p.reader.list) × (new ≡ old ++ print x))
+IsAppended input p old new false = Holds input p state.Refused

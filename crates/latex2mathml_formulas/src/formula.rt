@@ -1,9 +1,10 @@
 //! From a formula to its markup.
 ghost use Rattle.std.specs.Prelude.{◌≡◌, ℕ, ◌∷◌, ◌++◌, [], IfOk, List, OnOk, codes, string_bytes};
-ghost use Rattle.latex2mathml_formulas.specs.Grammar.{Reading, Reads, Refused, Refuses, node as a_node};
+ghost use Rattle.latex2mathml_formulas.specs.Counts.{IsRefusedWithin};
+ghost use Rattle.latex2mathml_formulas.specs.Grammar.{Reading, Refuses};
 ghost use Rattle.latex2mathml_formulas.specs.Openers.{opens};
 ghost use Rattle.latex2mathml_formulas.specs.Rendering.{IsFormulaRefusal, IsRendering, math_print};
-ghost use Rattle.latex2mathml_formulas.specs.Steps.{Counted, HasTrees, Holds, IsAppended, spoken_of};
+ghost use Rattle.latex2mathml_formulas.specs.Steps.{Counted, HasTrees, Holds, IsAppended, trees_of_state};
 ghost use Rattle.latex2mathml_tokens.specs.Attributes.{display_text};
 ghost use Rattle.latex2mathml_tokens.specs.Lexemes.{lexeme_tok};
 ghost use Rattle.latex2mathml_tokens.specs.Refusal.{IfRefused};
@@ -17,6 +18,9 @@ use latex2mathml_tokens::lexeme::Lexeme;
 use latex2mathml_tokens::{DisplayStyle, LatexError};
 use std::alloc::{AllocError, Global};
 
+/// Room for the markup of most formulas, in bytes. It is asked for at once, and grows for longer ones.
+const ROOM: usize = 512;
+
 /// Appends the `math` element of the tokens that are left. Each node is written and dropped before the next is read, so
 /// memory for one node is enough.
 pub(crate) fn append_math(
@@ -28,6 +32,7 @@ pub(crate) fn append_math(
     ensures rendering { OnOk result ((xs : List Tree) × Reading parser.old.reader.list xs
         × (string_bytes markup.new ≡ string_bytes markup.old ++ math_print display xs)) }
     ensures refused { IfRefused result (Refuses parser.old.reader.list) }
+    ensures within { IfRefused result (IsRefusedWithin parser.old.reader.list parser.new.reader.list) }
     ensures all { OnOk result (parser.new.reader.list ≡ []) }
     ensures counted { Counted 0 parser.old parser.new }
 {
@@ -37,7 +42,10 @@ pub(crate) fn append_math(
         if let Lexeme::EOF = lexeme {
             break 'nodes;
         }
-        append_node(parser, lexeme, markup)?;
+        let is_read = append_node(parser, lexeme, markup)?;
+        if !is_read {
+            return Err(parser.refusal());
+        }
     }
     markup.push_str("</math>")?;
     Ok(())
@@ -49,10 +57,11 @@ pub(crate) fn math(parser: &mut Parser, display: DisplayStyle) -> Result<String,
     ensures rendering { IfOk result (λ markup. (xs : List Tree) × Reading parser.old.reader.list xs
         × (string_bytes markup ≡ math_print display xs)) }
     ensures refused { IfRefused result (Refuses parser.old.reader.list) }
+    ensures within { IfRefused result (IsRefusedWithin parser.old.reader.list parser.new.reader.list) }
     ensures all { OnOk result (parser.new.reader.list ≡ []) }
     ensures counted { Counted 0 parser.old parser.new }
 {
-    let mut markup = String::new(parser.alloc);
+    let mut markup = String::with_capacity(parser.alloc, ROOM)?;
     append_math(parser, display, &mut markup)?;
     Ok(markup)
 }
@@ -69,18 +78,17 @@ fn opening_tag(display: DisplayStyle) -> &'static str
     }
 }
 
-/// Appends the node of the formula that begins with this lexeme, which was taken.
+/// Appends the node of the formula that begins with this lexeme, which was taken. Returns whether it could be read: where
+/// it could not, the parser holds why the formula is refused.
 #[inline(always)]
 fn append_node<'a>(
     parser: &mut Parser<'a>,
     lexeme: Lexeme<'a>,
     markup: &mut String,
-) -> Result<(), LatexError>
+) -> Result<bool, AllocError>
     requires { parser.old.frames.stack.items ≡ [] }
     ensures node { (input : List Tok) → input ≡ lexeme_tok lexeme.entry ∷ parser.old.reader.list
-        → OnOk result (IsAppended input parser.new (string_bytes markup.old) (string_bytes markup.new)) }
-    ensures refused { (input : List Tok) → input ≡ lexeme_tok lexeme.entry ∷ parser.old.reader.list
-        → IfRefused result (λ r. Reads a_node input (Refused r)) }
+        → IfOk result (IsAppended input parser.new (string_bytes markup.old) (string_bytes markup.new)) }
     ensures counted { Counted (opens (lexeme_tok lexeme.entry)) parser.old parser.new }
 {
     let Some(leaf) = symbol(lexeme) else {
@@ -89,7 +97,10 @@ fn append_node<'a>(
     };
     match parser.reader.mark() {
         // Most nodes are one such lexeme that no mark follows. These need no part.
-        None => Ok(write_leaf(parser.alloc, leaf, markup)?),
+        None => {
+            write_leaf(parser.alloc, leaf, markup)?;
+            Ok(true)
+        }
         Some(_) => {
             let state = parser.leaf(leaf)?;
             append_rest(parser, state, markup)
@@ -97,32 +108,48 @@ fn append_node<'a>(
     }
 }
 
-/// Goes on until the node is read, and appends it.
-fn append_rest(parser: &mut Parser, begun: State, markup: &mut String) -> Result<(), LatexError>
-    requires { HasTrees (spoken_of begun) parser.old }
+/// Goes on until the node is read, and appends it. Returns as [`append_node`] does.
+fn append_rest(parser: &mut Parser, begun: State, markup: &mut String) -> Result<bool, AllocError>
+    requires { HasTrees (trees_of_state begun) parser.old }
     ensures node { (input : List Tok) → Holds input parser.old begun
-        → OnOk result (IsAppended input parser.new (string_bytes markup.old) (string_bytes markup.new)) }
-    ensures refused { (input : List Tok) → Holds input parser.old begun
-        → IfRefused result (λ r. Reads a_node input (Refused r)) }
+        → IfOk result (IsAppended input parser.new (string_bytes markup.old) (string_bytes markup.new)) }
     ensures counted { Counted 0 parser.old parser.new }
 {
-    parser.finish(begun)?;
+    let is_read = parser.finish(begun)?;
+    if !is_read {
+        return Ok(false);
+    }
     parser.parts.write(parser.alloc, markup)?;
     parser.parts.clear();
-    Ok(())
+    Ok(true)
 }
 
-/// Appends the markup of a formula to the text.
-pub fn append_formula(
-    alloc: Global,
-    text: &mut String,
-    latex: &str,
-    display: DisplayStyle,
-) -> Result<(), LatexError>
-    ensures rendering { OnOk result ((markup : List ℕ) × IsRendering latex.now display markup
-        × (string_bytes text.new ≡ string_bytes text.old ++ markup)) }
-    ensures refusal { IfRefused result (IsFormulaRefusal latex.now) }
-{
-    let mut parser = Parser::new(alloc, latex);
-    append_math(&mut parser, display, text)
+/// Converts the formulas of a text, one after another. It keeps the room that it works in from each to the next.
+#[derive(Drop)]
+pub struct Converter<'a> {
+    parser: Parser<'a>,
+}
+
+impl<'a> Converter<'a> {
+    /// A converter that has no room yet.
+    pub fn new(alloc: Global) -> Converter<'a> {
+        Converter {
+            parser: Parser::new(alloc, ""),
+        }
+    }
+
+    /// Appends the markup of a formula to the text, whatever was converted before it.
+    pub fn append(
+        &mut self,
+        text: &mut String,
+        latex: &'a str,
+        display: DisplayStyle,
+    ) -> Result<(), LatexError>
+        ensures rendering { OnOk result ((markup : List ℕ) × IsRendering latex.now display markup
+            × (string_bytes text.new ≡ string_bytes text.old ++ markup)) }
+        ensures refusal { IfRefused result (IsFormulaRefusal latex.now) }
+    {
+        self.parser.restart(latex);
+        append_math(&mut self.parser, display, text)
+    }
 }

@@ -4,11 +4,18 @@ ghost use Rattle.std.specs.Str.{chars};
 ghost use Rattle.latex2mathml_formulas.specs.Laws.{HasOneReading, IsReadBySlices, IsRefusedBySlices, IsSliced};
 ghost use Rattle.latex2mathml_formulas.specs.Places.{HasPlaces, SpaceChangesNothing};
 ghost use Rattle.latex2mathml_formulas.specs.RenderingLaws.{HasOneRendering, RendersDollarFree, RendersElements, RenderingsHold};
+ghost use Rattle.latex2mathml_formulas.specs.TextLaws.{TextsHold};
 ghost use Rattle.latex2mathml_tokens.specs.Tok.{tok};
 ghost use Rattle.latex2mathml_formulas.specs.TokenLists.{HasOneTokenList, TextHasOneReading};
 
 use latex2mathml_tokens::DisplayStyle;
 use latex2mathml_tokens::token::Token;
+
+/// Each text has exactly one token list, and each list of tokens exactly one reading or exactly one refusal. White space
+/// between two tokens changes neither.
+pub fn texts()
+    ensures { TextsHold }
+{}
 
 /// A text has exactly one token list.
 pub fn one_token_list(text: &str)

@@ -5,7 +5,7 @@
 
 ghost use Rattle.std.specs.Prelude.{◌≢◌, ◌≤◌, IfOk, is_ok, length, string_bytes};
 ghost use Rattle.std.specs.Str.{chars};
-ghost use Rattle.latex2mathml_formulas.specs.Counts.{IsComparisonCount, IsTokenCount};
+ghost use Rattle.latex2mathml_formulas.specs.Counts.{IsComparisonCount, IsRefusalCount, IsTokenCount};
 ghost use Rattle.latex2mathml_nodes.specs.MathSchema.{IsMathElement};
 ghost use Rattle.latex2mathml_formulas.specs.Openers.{IsFrameCount};
 ghost use Rattle.latex2mathml_tokens.specs.Refusal.{IfRefused, InvalidNumberOfDollarSigns};
@@ -16,7 +16,7 @@ pub mod laws;
 mod parse;
 mod reader;
 
-pub use formula::append_formula;
+pub use formula::Converter;
 use latex2mathml_tokens::{DisplayStyle, LatexError};
 use parse::Parser;
 use std::alloc::Global;
@@ -75,9 +75,9 @@ pub fn latex_to_mathml_counted(
     ensures refusal { IfRefused result.0 (IsFormulaRefusal latex.now) }
     ensures dollars { IfRefused result.0 (λ refusal. refusal ≢ InvalidNumberOfDollarSigns) }
     ensures tokens { IsTokenCount (chars latex.now) (is_ok result.0) result.1.tokens }
+    ensures refused_within { IfRefused result.0 (IsRefusalCount (chars latex.now) result.1.tokens) }
     ensures length { result.1.tokens ≤ length latex.now }
-    ensures comparisons { IsComparisonCount (chars latex.now) (is_ok result.0)
-        result.1.comparisons }
+    ensures comparisons { IsComparisonCount (chars latex.now) result.1.tokens result.1.comparisons }
     ensures frames { IsFrameCount (chars latex.now) result.1.tokens result.1.frames }
 {
     let mut parser = Parser::new(alloc, latex);

@@ -4,10 +4,10 @@ ghost use Rattle.std.specs.Prelude.{◌≡◌, ◌≢◌, ◌+◌, ◌<◌, [], 
 ghost use Rattle.std.specs.Str.{chars};
 ghost use Rattle.latex2mathml_formulas.specs.Counts.{backslashes};
 ghost use Rattle.latex2mathml_formulas.specs.Cutting.{slices_of};
-ghost use Rattle.latex2mathml_formulas.specs.Frames.{awaits, held, unfit, within};
+ghost use Rattle.latex2mathml_formulas.specs.Frames.{awaits, tree_count, unfit, within};
 ghost use Rattle.latex2mathml_formulas.specs.Grammar.{Read, Reads, Refused, core as a_core, node as a_node};
 ghost use Rattle.latex2mathml_formulas.specs.Levels.{Leads, Made};
-ghost use Rattle.latex2mathml_formulas.specs.Steps.{Counted, Ends, Follows, HasTrees, Holds, level, spoken_of, state_weight, to_do, weight, work};
+ghost use Rattle.latex2mathml_formulas.specs.Steps.{Counted, Follows, HasTrees, Holds, end_of, level, trees_of_state, state_weight, to_do, weight, work};
 ghost use Rattle.latex2mathml_formulas.specs.Unread.{token_list};
 ghost use Rattle.latex2mathml_parts.specs.Parts.{trees};
 ghost use Rattle.latex2mathml_tokens.specs.Lexemes.{lexeme_tok};
@@ -58,6 +58,7 @@ pub(crate) struct Parser<'a> {
 impl<'a> Parser<'a> {
     /// A parser that has read nothing.
     pub(crate) fn new(alloc: Global, text: &'a str) -> Parser<'a>
+        ensures slices { result.reader.slices ≡ slices_of false (chars text.now) }
         ensures list { result.reader.list ≡ token_list (slices_of false (chars text.now)) }
         ensures tokens { result.reader.tokens ≡ 0 }
         ensures backslashes { result.reader.backslashes ≡ backslashes (slices_of false (chars text.now)) }
@@ -74,32 +75,48 @@ impl<'a> Parser<'a> {
         }
     }
 
-    /// Goes on until the node of the formula is read. It is the last tree then.
+    /// Begins anew with a text. The lists keep their room.
+    pub(crate) fn restart(&mut self, text: &'a str)
+        ensures list { self.new.reader.list ≡ token_list (slices_of false (chars text.now)) }
+        ensures closed { self.new.frames.stack.items ≡ [] }
+    {
+        self.reader = Reader::new(text);
+        self.frames.clear();
+        self.parts.clear();
+    }
+
+    /// Goes on until the node of the formula is read, or the formula is refused. Returns whether the node is read: it is
+    /// the last tree then.
     #[inline(never)]
-    pub(crate) fn finish(&mut self, begun: State) -> Result<(), LatexError>
-        requires { HasTrees (spoken_of begun) self.old }
-        ensures node { (input : List Tok) → Holds input self.old begun → OnOk result (Ends input self.new) }
-        ensures tree { OnOk result (HasTrees 1 self.new) }
-        ensures refused { (input : List Tok) → Holds input self.old begun
-            → IfRefused result (λ r. Reads a_node input (Refused r)) }
+    pub(crate) fn finish(&mut self, begun: State) -> Result<bool, AllocError>
+        requires { HasTrees (trees_of_state begun) self.old }
+        ensures node { (input : List Tok) → Holds input self.old begun → IfOk result (λ read. Holds input self.new (end_of read)) }
+        ensures tree { IfOk result (λ read. HasTrees (trees_of_state (end_of read)) self.new) }
         ensures counted { Counted 0 self.old self.new }
     {
         let mut state = begun;
         'steps: loop {
             match state {
-                State::End => return Ok(()),
-                State::Refused => {
-                    return Err(mem::replace(&mut self.refusal, LatexError::OutOfMemory));
-                }
+                State::End => return Ok(true),
+                State::Refused => return Ok(false),
                 going_on => state = self.step(going_on)?,
             }
         }
     }
 
+    /// Takes out why the formula is refused.
+    #[cold]
+    pub(crate) fn refusal(&mut self) -> LatexError
+        ensures refusal { result ≡ self.old.refusal }
+        ensures counted { Counted 0 self.old self.new }
+    {
+        mem::replace(&mut self.refusal, LatexError::OutOfMemory)
+    }
+
     #[inline(always)]
     fn step(&mut self, state: State) -> Result<State, AllocError>
         requires going_on { (state ≢ State.End) × (state ≢ State.Refused) }
-        requires trees { HasTrees (spoken_of state) self.old }
+        requires trees { HasTrees (trees_of_state state) self.old }
         ensures holds { (input : List Tok) → Holds input self.old state → IfOk result (Holds input self.new) }
         ensures counted { Counted 0 self.old self.new }
         ensures follows { IfOk result (Follows (work self.old state) self.new) }
@@ -173,7 +190,7 @@ impl<'a> Parser<'a> {
     /// Opens a frame. Its next part is due then.
     fn open(&mut self, frame: Frame<'a>) -> Result<State, AllocError>
         requires fit { unfit frame ≡ 0 }
-        requires trees { HasTrees (held frame) self.old }
+        requires trees { HasTrees (tree_count frame) self.old }
         ensures holds { (input : List Tok)
             → Leads (within input self.old.frames.stack.items frame.entry (trees self.old.parts)) self.old.reader.list
             → IfOk result (Holds input self.new) }
@@ -187,7 +204,7 @@ impl<'a> Parser<'a> {
     /// Puts a frame back that was taken off. Its next part is due then. This is no opening: the frame was counted before.
     fn put_back(&mut self, frame: Frame<'a>) -> Result<State, AllocError>
         requires fit { unfit frame ≡ 0 }
-        requires trees { HasTrees (held frame) self.old }
+        requires trees { HasTrees (tree_count frame) self.old }
         requires room { vec_len self.old.frames.stack < self.old.frames.greatest }
         ensures holds { (input : List Tok)
             → Leads (within input self.old.frames.stack.items frame.entry (trees self.old.parts)) self.old.reader.list

@@ -6,8 +6,7 @@ ghost use Rattle.latex2mathml_formulas.specs.Counts.{backslashes};
 ghost use Rattle.latex2mathml_formulas.specs.Cutting.{slices_of};
 ghost use Rattle.latex2mathml_formulas.specs.Grammar.{first, first_or_end};
 ghost use Rattle.latex2mathml_formulas.specs.Marks.{IsSeen, MarkStands, NameStands, rest_of, sign_token};
-ghost use Rattle.latex2mathml_formulas.specs.Openers.{OpensFor};
-ghost use Rattle.latex2mathml_formulas.specs.Unread.{GoesOn, token_list};
+ghost use Rattle.latex2mathml_formulas.specs.Unread.{GoesOn, OpensFor, token_list};
 ghost use Rattle.latex2mathml_tokens.specs.Lexemes.{lexeme_tok};
 ghost use Rattle.latex2mathml_tokens.specs.Tok.{EOF, Paren};
 
@@ -15,8 +14,9 @@ pub(crate) mod characters;
 pub(crate) mod mark;
 mod slices;
 
+use crate::reader::characters::first_ascii;
 use crate::reader::mark::{Mark, Sign};
-use crate::reader::slices::{command, find_start, slice_at, takes_digit};
+use crate::reader::slices::{character, command, find_start, slice_at, stands_alone, takes_digit};
 use latex2mathml_tokens::lexeme::Lexeme;
 use std::alloc::{AllocError, Global};
 use std::marker::Model;
@@ -35,11 +35,11 @@ impl<'a> Model for Reader<'a> {
     ghost use Rattle.std.specs.Prelude.{◌+◌, ◌*◌, ◌<◌, ◌^◌, length};
     ghost use Rattle.std.specs.Str.{chars, IsUtf8};
     ghost use Rattle.latex2mathml_formulas.specs.Cutting.{slices_of};
-    ghost use Rattle.latex2mathml_formulas.specs.Unread.{Left, left_in};
+    ghost use Rattle.latex2mathml_formulas.specs.Unread.{Unread, unread_in};
 
-    ghost Value = { Left };
+    ghost Value = { Unread };
 
-    ghost view = { λ r. left_in (slices_of r.takes_digit (chars r.rest.now)) r.tokens r.comparisons };
+    ghost view = { λ r. unread_in (slices_of r.takes_digit (chars r.rest.now)) r.tokens r.comparisons };
 
     ghost invariant = { λ r. IsUtf8 r.rest.now
         × (r.tokens + length (chars r.rest.now) < 2 ^ 64)
@@ -49,6 +49,7 @@ impl<'a> Model for Reader<'a> {
 impl<'a> Reader<'a> {
     /// All of a text.
     pub(crate) fn new(text: &'a str) -> Reader<'a>
+        ensures slices { result.slices ≡ slices_of false (chars text.now) }
         ensures list { result.list ≡ token_list (slices_of false (chars text.now)) }
         ensures tokens { result.tokens ≡ 0 }
         ensures backslashes { result.backslashes ≡ backslashes (slices_of false (chars text.now)) }
@@ -62,8 +63,30 @@ impl<'a> Reader<'a> {
         }
     }
 
-    /// Takes the next lexeme and counts it, or returns `EOF` if none is left. No other function takes or counts one.
+    /// Takes the next lexeme and counts it, or returns `EOF` if none is left. All that takes a lexeme calls this, or
+    /// `take_any`.
+    #[inline(always)]
     pub(crate) fn take(&mut self) -> Lexeme<'a>
+        ensures token { lexeme_tok result ≡ first_or_end self.old.list }
+        ensures list { self.new.list ≡ rest_of self.old.list }
+        ensures ended { lexeme_tok result ≡ EOF → self.old.list ≡ [] }
+        ensures counts { GoesOn self.old self.new }
+    {
+        // Most lexemes are one ASCII character that stands for itself.
+        if let Some((c, after)) = first_ascii(self.rest) {
+            if stands_alone(c) {
+                self.rest = after;
+                self.takes_digit = false;
+                self.tokens += 1;
+                return character(c);
+            }
+        }
+        self.take_any()
+    }
+
+    /// Takes the next lexeme and counts it, whatever it is.
+    #[inline(never)]
+    fn take_any(&mut self) -> Lexeme<'a>
         ensures token { lexeme_tok result ≡ first_or_end self.old.list }
         ensures list { self.new.list ≡ rest_of self.old.list }
         ensures ended { lexeme_tok result ≡ EOF → self.old.list ≡ [] }
@@ -185,9 +208,8 @@ impl<'a> Reader<'a> {
 
     /// Returns the number of names that were compared.
     pub(crate) fn comparisons(&self) -> u128
-        ensures fewer { self.now.backslashes ≤ length self.now.list }
         ensures same { result ≡ self.now.comparisons }
-        ensures at_end { self.now.list ≡ [] → self.now.backslashes ≡ 0 }
+        ensures left { self.now.backslashes ≡ backslashes self.now.slices }
     {
         self.comparisons
     }

@@ -5,7 +5,6 @@ pub mod Markup
 pub mod MathSchema
 pub mod Pages
 pub mod Print
-pub mod PrintWeight
 pub mod Productions
 pub mod Style
 pub mod Tree

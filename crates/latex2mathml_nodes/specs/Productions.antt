@@ -11,10 +11,10 @@ use Rattle.latex2mathml_tokens.specs.declared.attribute.ColumnAlign.{ColumnAlign
 use Rattle.latex2mathml_tokens.specs.declared.attribute.ColumnAlign.TheVariants.{Center, Left}
 
 -- the members of a group as one tree: one member is itself, none or several are a row
-abbrev pub grouped : List Tree → Tree
-grouped [] = row no_trees
-grouped (x ∷ []) = x
-grouped (x ∷ y ∷ ys) = row (trees_of (x ∷ y ∷ ys))
+abbrev pub group_tree : List Tree → Tree
+group_tree [] = row no_trees
+group_tree (x ∷ []) = x
+group_tree (x ∷ y ∷ ys) = row (trees_of (x ∷ y ∷ ys))
 
 -- the mark that a prime prints
 abbrev pub prime_mark : Tree
@@ -30,18 +30,18 @@ binomial_tree None upper lower = coefficient upper lower
 binomial_tree (Some display) upper lower = style (Some display) (row (more_trees (coefficient upper lower) no_trees))
 
 -- a tree under a brace, which is a character; and under a brace with a label over it
-abbrev pub overbraced : ℕ → Tree → Tree
-overbraced c x = overset (operator c) x
+abbrev pub overbrace_tree : ℕ → Tree → Tree
+overbrace_tree c x = overset (operator c) x
 
-abbrev pub overbraced_with : ℕ → Tree → Tree → Tree
-overbraced_with c label x = overset (overset label (operator c)) x
+abbrev pub labelled_overbrace_tree : ℕ → Tree → Tree → Tree
+labelled_overbrace_tree c label x = overset (overset label (operator c)) x
 
 -- a tree over a brace; and over a brace with a label under it
-abbrev pub underbraced : ℕ → Tree → Tree
-underbraced c x = underset (operator c) x
+abbrev pub underbrace_tree : ℕ → Tree → Tree
+underbrace_tree c x = underset (operator c) x
 
-abbrev pub underbraced_with : ℕ → Tree → Tree → Tree
-underbraced_with c label x = underset (underset label (operator c)) x
+abbrev pub labelled_underbrace_tree : ℕ → Tree → Tree → Tree
+labelled_underbrace_tree c label x = underset (underset label (operator c)) x
 
 -- what a token prints as a fence: a parenthesis its text, and a period nothing
 abbrev pub fence_of : Tok → Option (List ℕ)
@@ -50,18 +50,18 @@ fence_of (Operator c) = if c == byte "." then Some [] else None
 fence_of t = None
 
 -- the operator that grows with what stands around it, if the tree is an operator
-abbrev pub stretched_of : Tree → Option Tree
-stretched_of (operator c) = Some (stretched true (encode_utf8 c))
-stretched_of (other_operator text) = Some (stretched true text)
-stretched_of x = None
+abbrev pub stretched_operator : Tree → Option Tree
+stretched_operator (operator c) = Some (stretched true (encode_utf8 c))
+stretched_operator (other_operator text) = Some (stretched true text)
+stretched_operator x = None
 
 -- what a group gives to a matrix: the members if it is a row, otherwise itself as the one member
-abbrev pub spread : Tree → Trees
-spread (row members) = members
-spread x = more_trees x no_trees
+abbrev pub matrix_members : Tree → Trees
+matrix_members (row members) = members
+matrix_members x = more_trees x no_trees
 
 abbrev pub matrix_of : ColumnAlign → Tree → Tree
-matrix_of align group = matrix (spread group) align
+matrix_of align group = matrix (matrix_members group) align
 
 -- a matrix between fences
 abbrev pub fenced_matrix : List ℕ → List ℕ → Tree → Tree

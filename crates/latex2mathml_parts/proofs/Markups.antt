@@ -4,7 +4,7 @@ use Rattle.std.specs.Char.{encode_utf8}
 use Rattle.std.specs.Fmt.{digits}
 use Rattle.std.specs.Prelude.{OnOk, Ok, Err, Result}
 use Rattle.latex2mathml_nodes.specs.Print.{print}
-use Rattle.latex2mathml_nodes.specs.Productions.{binomial_tree, coefficient, overbraced_with, prime_mark, underbraced_with}
+use Rattle.latex2mathml_nodes.specs.Productions.{binomial_tree, coefficient, labelled_overbrace_tree, prime_mark, labelled_underbrace_tree}
 use Rattle.latex2mathml_nodes.specs.Tree.{Tree, operator, superscript}
 use Rattle.latex2mathml_parts.specs.Forms.{in_style}
 use Rattle.latex2mathml_tokens.specs.declared.attribute.Variant.{Variant}
@@ -66,8 +66,8 @@ pub binomial_plain : (style : Option Variant) (display : Option DisplayStyle) (x
 binomial_plain style None x y = refl
 binomial_plain style (Some display) x y = refl
 
-pub overbraced_print : (c : ℕ) (label x : Tree) → codes "<mover>" ++ (print x ++ (codes "<mover>" ++ (print (operator c) ++ (print label ++ codes "</mover></mover>")))) ≡ print (overbraced_with c label x)
+pub overbraced_print : (c : ℕ) (label x : Tree) → codes "<mover>" ++ (print x ++ (codes "<mover>" ++ (print (operator c) ++ (print label ++ codes "</mover></mover>")))) ≡ print (labelled_overbrace_tree c label x)
 overbraced_print c label x = ap (λ l. codes "<mover>" ++ (print x ++ (codes "<mover>" ++ l))) (sym (three (print (operator c)) (print label) (codes "</mover>") (codes "</mover>")))
 
-pub underbraced_print : (c : ℕ) (label x : Tree) → codes "<munder>" ++ (print x ++ (codes "<munder>" ++ (print (operator c) ++ (print label ++ codes "</munder></munder>")))) ≡ print (underbraced_with c label x)
+pub underbraced_print : (c : ℕ) (label x : Tree) → codes "<munder>" ++ (print x ++ (codes "<munder>" ++ (print (operator c) ++ (print label ++ codes "</munder></munder>")))) ≡ print (labelled_underbrace_tree c label x)
 underbraced_print c label x = ap (λ l. codes "<munder>" ++ (print x ++ (codes "<munder>" ++ l))) (sym (three (print (operator c)) (print label) (codes "</munder>") (codes "</munder>")))

@@ -1,19 +1,19 @@
 -- The list of what is still to be written.
-use Rattle.std.proofs.Common.{◌≡◌, ℕ, ◌+◌, ◌<◌, ◌≤◌, List, [], ◌∷◌, ◌++◌, length, take, drop, suc, refl, sym, ap, ◌∙◌, arith, append_assoc, append-nil, codes, Option, None, Some, subst, reverse, sum_by, zero}
+use Rattle.std.proofs.Common.{◌≡◌, ℕ, ◌+◌, ◌*◌, ◌<◌, ◌≤◌, List, [], ◌∷◌, ◌++◌, length, take, drop, suc, refl, sym, ap, ◌∙◌, arith, append_assoc, append-nil, codes, Option, None, Some, subst, reverse, sum_by, zero}
 use Rattle.std.proofs.lemmas.List.{reverse-append}
 use Rattle.std.proofs.lemmas.Grind.{flat_map-append}
 use Rattle.std.proofs.lemmas.List.Sums.{sum_by-append}
 use Rattle.std.specs.List.{flat_map}
 use Rattle.latex2mathml_nodes.specs.Print.{member_print, members_print, print, prints}
-use Rattle.latex2mathml_nodes.specs.PrintWeight.{print_weight, print_weights}
 use Rattle.latex2mathml_nodes.specs.Tree.{Tree, Trees, trees_of}
+use Rattle.latex2mathml_nodes.specs.Weight.{weights}
 use Rattle.latex2mathml_tokens.specs.declared.attribute.Variant.{Variant}
 use Rattle.latex2mathml_parts.specs.Forms.{all_in, in_style}
 use Rattle.latex2mathml_parts.specs.Parts.{top}
-use Rattle.latex2mathml_parts.specs.Works.{AreIn, IsIn, cells_in, due, prints_in, work_print, work_weight}
+use Rattle.latex2mathml_parts.specs.Works.{AreIn, IsIn, cells_in, due, print_weight, prints_in, work_print, work_weight}
 use Rattle.latex2mathml_parts.specs.declared.form.Part.{Part}
 use Rattle.latex2mathml_parts.specs.declared.work.Work.{Work}
-use Rattle.latex2mathml_parts.proofs.Styles.{weight-in, weights-in}
+use Rattle.latex2mathml_parts.proofs.Styles.{weights-in}
 
 pub sized_opened : (a v b c rest : List ℕ) → (a ++ (v ++ (b ++ (v ++ c)))) ++ rest ≡ a ++ (v ++ (b ++ (v ++ (c ++ rest))))
 sized_opened a v b c rest =
@@ -35,9 +35,6 @@ popped_in ps ws vs w e h = are_in-pop ps vs w (subst (AreIn ps) e h)
 
 pub due-push : (texts : List (List ℕ)) (ps : List Part) (ws : List Work) (w : Work) → due texts ps (ws ++ w ∷ []) ≡ work_print texts ps w ++ due texts ps ws
 due-push texts ps ws w = ap (flat_map (work_print texts ps)) (reverse-append ws (w ∷ []))
-
-pub weight-push : (texts : List (List ℕ)) (ps : List Part) (ws : List Work) (w : Work) → sum_by (work_weight texts ps) (ws ++ w ∷ []) ≡ sum_by (work_weight texts ps) ws + work_weight texts ps w
-weight-push texts ps ws w = omega (arith, sum_by-append (work_weight texts ps) ws (w ∷ []))
 
 -- a work is done, and the rest is due
 pub done : (texts : List (List ℕ)) (ps : List Part) (ws vs us : List Work) (w : Work) (out new whole : List ℕ) → ws ≡ vs ++ w ∷ [] → new ++ due texts ps us ≡ out ++ (work_print texts ps w ++ due texts ps vs) → out ++ due texts ps ws ≡ whole → new ++ due texts ps us ≡ whole
@@ -103,10 +100,10 @@ pub cells-in : (s : Option Variant) (xs : List Tree) → members_print (all_in s
 cells-in s [] = refl
 cells-in s (x ∷ xs) = ap (λ l. member_print (in_style s x) (print (in_style s x)) ++ l) (cells-in s xs)
 
-weights_of : (xs : List Tree) → sum_by print_weight xs < print_weights (trees_of xs)
-weights_of [] = omega arith
+weights_of : (xs : List Tree) → sum_by print_weight xs ≡ weights (trees_of xs) * 8
+weights_of [] = refl
 weights_of (x ∷ xs) = omega (arith, weights_of xs, sum_of x xs)
 
--- what is put of members is less than there is to write of them
-pub members_weight : (s : Option Variant) (xs : List Tree) → sum_by print_weight xs < print_weights (all_in s (trees_of (reverse xs)))
+-- what is put of members is what there is to write of them
+pub members_weight : (s : Option Variant) (xs : List Tree) → sum_by print_weight xs ≡ weights (all_in s (trees_of (reverse xs))) * 8
 members_weight s xs = omega (arith, weights-in s (trees_of (reverse xs)), weights_of (reverse xs), sum_reversed xs)

@@ -1,6 +1,6 @@
 -- What a part makes of the trees before it. The last tree stands first in a list of trees.
 use Rattle.std.specs.Prelude.{ℕ, List, [], ◌∷◌, Option, Some, None, drop}
-use Rattle.latex2mathml_nodes.specs.Productions.{binomial_tree, overbraced, overbraced_with, prime_mark, underbraced, underbraced_with}
+use Rattle.latex2mathml_nodes.specs.Productions.{binomial_tree, overbrace_tree, labelled_overbrace_tree, prime_mark, underbrace_tree, labelled_underbrace_tree}
 use Rattle.latex2mathml_nodes.specs.Tree.{Tree, ampersand, fenced, frac, function, letter, new_line, number, operator, other_operator, over_op, overset, root, sized_paren, space, sqrt, sub_sup, subscript, superscript, under, under_op, under_over, underset, words}
 use Rattle.latex2mathml_tokens.specs.Names.{function_text, limit_text, paren_text, size_text}
 use Rattle.latex2mathml_tokens.specs.declared.attribute.LineThickness.TheVariants.{Medium}
@@ -64,8 +64,8 @@ put kind.Primed ts = superscript (top ts) prime_mark ∷ drop 1 ts
 put (kind.Over c accent) ts = over_op c accent (top ts) ∷ drop 1 ts
 put (kind.Under c accent) ts = under_op c accent (top ts) ∷ drop 1 ts
 put kind.Sqrt ts = sqrt (top ts) ∷ drop 1 ts
-put (kind.Overbrace c) ts = overbraced c (top ts) ∷ drop 1 ts
-put (kind.Underbrace c) ts = underbraced c (top ts) ∷ drop 1 ts
+put (kind.Overbrace c) ts = overbrace_tree c (top ts) ∷ drop 1 ts
+put (kind.Underbrace c) ts = underbrace_tree c (top ts) ∷ drop 1 ts
 put (kind.LimitBelow c) ts = under (operator c) (top ts) ∷ drop 1 ts
 put (kind.LimitAbove c) ts = overset (top ts) (operator c) ∷ drop 1 ts
 put (kind.LimitSub c) ts = subscript (operator c) (top ts) ∷ drop 1 ts
@@ -79,8 +79,8 @@ put (kind.Binom display) ts = binomial_tree display (top (drop 1 ts)) (top ts) �
 put kind.Overset ts = overset (top (drop 1 ts)) (top ts) ∷ drop 2 ts
 put kind.Underset ts = underset (top (drop 1 ts)) (top ts) ∷ drop 2 ts
 put kind.Root ts = root (top (drop 1 ts)) (top ts) ∷ drop 2 ts
-put (kind.OverbraceWith c) ts = overbraced_with c (top ts) (top (drop 1 ts)) ∷ drop 2 ts
-put (kind.UnderbraceWith c) ts = underbraced_with c (top ts) (top (drop 1 ts)) ∷ drop 2 ts
+put (kind.OverbraceWith c) ts = labelled_overbrace_tree c (top ts) (top (drop 1 ts)) ∷ drop 2 ts
+put (kind.UnderbraceWith c) ts = labelled_underbrace_tree c (top ts) (top (drop 1 ts)) ∷ drop 2 ts
 put (kind.LimitsBelowAbove c) ts = under_over (operator c) (top (drop 1 ts)) (top ts) ∷ drop 2 ts
 put (kind.LimitsAboveBelow c) ts = under_over (operator c) (top ts) (top (drop 1 ts)) ∷ drop 2 ts
 put (kind.LimitsSubSup c) ts = sub_sup (operator c) (top (drop 1 ts)) (top ts) ∷ drop 2 ts

@@ -150,9 +150,6 @@ pub text_back : (l : List ℕ) → text_of (text_code l) ≡ l
 text_back [] = refl
 text_back (n ∷ ns) = ap (λ l. n ∷ l) (text_back ns)
 
-pub char_back : (n : ℕ) → num (gnum n) ≡ n
-char_back n = refl
-
 abbrev mutual
   pub tree_code : Tree → Gv
   tree_code (number x) = gcons (gnum 0) (gcons (text_code x) (gcons gnil gnil))

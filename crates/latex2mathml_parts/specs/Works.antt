@@ -1,9 +1,9 @@
 -- What is still to be written of a list of parts, as markup. The work that was put last is done first.
-use Rattle.std.specs.Prelude.{ℕ, ◌+◌, ◌<◌, ◌≤◌, List, [], ◌∷◌, ◌++◌, Option, Some, None, codes, length, reverse, take}
+use Rattle.std.specs.Prelude.{◌≡◌, ℕ, ◌+◌, ◌*◌, ◌<◌, ◌≤◌, List, [], ◌∷◌, ◌++◌, Option, Some, None, codes, drop, length, reverse, sum_by, take}
 use Rattle.std.specs.List.{flat_map}
 use Rattle.latex2mathml_nodes.specs.Print.{member_print, print}
-use Rattle.latex2mathml_nodes.specs.PrintWeight.{print_weight}
 use Rattle.latex2mathml_nodes.specs.Tree.{Tree, operator}
+use Rattle.latex2mathml_nodes.specs.Weight.{weight}
 use Rattle.latex2mathml_tokens.specs.Attributes.{accent_text}
 use Rattle.latex2mathml_tokens.specs.Escape.{content_char}
 use Rattle.latex2mathml_tokens.specs.declared.DisplayStyle.{DisplayStyle}
@@ -19,6 +19,10 @@ use Rattle.latex2mathml_parts.specs.declared.work.Work.TheVariants as work
 -- the last tree of so many parts
 abbrev pub tree_at : List (List ℕ) → List Part → ℕ → Tree
 tree_at texts ps end = top (forest texts (take end ps))
+
+-- the tree before it
+abbrev pub earlier : List (List ℕ) → List Part → ℕ → Tree
+earlier texts ps end = top (drop 1 (forest texts (take end ps)))
 
 -- the sign over or under a tree, and what stands behind it
 abbrev pub sign_print : ℕ → Accent → List ℕ → List ℕ
@@ -43,10 +47,18 @@ abbrev pub AreIn : List Part → List Work → Type 0
 AreIn ps [] = Unit {0}
 AreIn ps (w ∷ ws) = IsIn ps w × AreIn ps ws
 
+-- how much there is to write of a tree: of it, and of each node and list in it, no more than eight works
+abbrev pub print_weight : Tree → ℕ
+print_weight x = weight x * 8 + 8
+
 -- how much there is to write of a work
 abbrev pub work_weight : List (List ℕ) → List Part → Work → ℕ
 work_weight texts ps (work.Tree end style) = print_weight (tree_at texts ps end)
 work_weight texts ps w = 1
+
+-- how much there is to write of all works
+abbrev pub load : List (List ℕ) → List Part → List Work → ℕ
+load texts ps = sum_by (work_weight texts ps)
 
 -- the prints of trees in a style, and of trees that are the members of a matrix
 abbrev pub prints_in : Option Variant → List Tree → List ℕ
@@ -67,6 +79,11 @@ next_weight texts ps (Some end) = print_weight (tree_at texts ps end)
 abbrev pub IsNext : List Part → Option ℕ → Type 0
 IsNext ps None = Unit {0}
 IsNext ps (Some end) = (0 < end) × (end ≤ length ps)
+
+-- A text and what was due become a text, a tree that is next, if one is, and what is due then: they come to the same with
+-- this markup between the text and what was due.
+abbrev pub Writes : List (List ℕ) → List Part → List ℕ → List Work → List ℕ → List ℕ → List Work → Option ℕ → Type 0
+Writes texts ps old ws markup new vs next = new ++ (next_print texts ps next ++ due texts ps vs) ≡ old ++ (markup ++ due texts ps ws)
 
 -- what stands before the two numbers of a binomial coefficient, and behind them
 abbrev pub binomial_open : Option DisplayStyle → List ℕ

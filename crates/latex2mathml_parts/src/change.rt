@@ -1,6 +1,6 @@
 //! What is done to the last trees of the list.
 ghost use Rattle.std.specs.Prelude.{◌≡◌, ◌-◌, ◌<◌, ◌≤◌, ◌∷◌, Some, None, suc, IfOk, MatchBool, OnOk, drop, length, reverse, take};
-ghost use Rattle.latex2mathml_nodes.specs.Productions.{environment_tree, grouped, matrix_of, stretched_of};
+ghost use Rattle.latex2mathml_nodes.specs.Productions.{environment_tree, group_tree, matrix_of, stretched_operator};
 ghost use Rattle.latex2mathml_nodes.specs.Style.{styled};
 ghost use Rattle.latex2mathml_nodes.specs.Tree.{Tree};
 ghost use Rattle.latex2mathml_parts.specs.Forms.{AreWhole, aside, forest, put_form};
@@ -38,9 +38,9 @@ pub(crate) fn stretch(texts: &[String], list: &mut [Part]) -> bool
     requires some { 0 < length (forest (aside texts.now) list.old) }
     ensures whole { AreWhole (aside texts.now) list.new }
     ensures trees { MatchBool result
-        ((x : Tree) × (stretched_of (top (forest (aside texts.now) list.old)) ≡ Some x)
+        ((x : Tree) × (stretched_operator (top (forest (aside texts.now) list.old)) ≡ Some x)
         × (forest (aside texts.now) list.new ≡ x ∷ drop 1 (forest (aside texts.now) list.old)))
-        ((stretched_of (top (forest (aside texts.now) list.old)) ≡ None)
+        ((stretched_operator (top (forest (aside texts.now) list.old)) ≡ None)
         × (forest (aside texts.now) list.new ≡ forest (aside texts.now) list.old)) }
 {
     let last = part_at(list.len(), texts, list);
@@ -64,7 +64,7 @@ pub(crate) fn group(count: usize, texts: &[String], list: &mut Vec<Part>) -> Res
     requires all { count ≤ length (forest (aside texts.now) list.old.items) }
     ensures whole { AreWhole (aside texts.now) list.new.items }
     ensures trees { OnOk result (forest (aside texts.now) list.new.items
-        ≡ grouped (reverse (take count (forest (aside texts.now) list.old.items)))
+        ≡ group_tree (reverse (take count (forest (aside texts.now) list.old.items)))
         ∷ drop count (forest (aside texts.now) list.old.items)) }
 {
     if count == 1 {
@@ -85,7 +85,7 @@ pub(crate) fn matrix(
     requires all { count < length (forest (aside texts.now) list.old.items) }
     ensures whole { AreWhole (aside texts.now) list.new.items }
     ensures trees { OnOk result (forest (aside texts.now) list.new.items
-        ≡ matrix_of align (grouped (reverse (take count (forest (aside texts.now) list.old.items))))
+        ≡ matrix_of align (group_tree (reverse (take count (forest (aside texts.now) list.old.items))))
         ∷ drop (suc count) (forest (aside texts.now) list.old.items)) }
 {
     if count == 1 {
@@ -160,10 +160,10 @@ pub(crate) fn environment(
     ensures whole { AreWhole (aside texts.now) list.new.items }
     ensures trees { IfOk result (λ made. MatchBool made
         ((x : Tree) × (environment_tree (words_of (top (drop count (forest (aside texts.now) list.old.items))))
-        (grouped (reverse (take count (forest (aside texts.now) list.old.items)))) ≡ Some x)
+        (group_tree (reverse (take count (forest (aside texts.now) list.old.items)))) ≡ Some x)
         × (forest (aside texts.now) list.new.items ≡ x ∷ drop (suc count) (forest (aside texts.now) list.old.items)))
         ((environment_tree (words_of (top (drop count (forest (aside texts.now) list.old.items))))
-        (grouped (reverse (take count (forest (aside texts.now) list.old.items)))) ≡ None)
+        (group_tree (reverse (take count (forest (aside texts.now) list.old.items)))) ≡ None)
         × (forest (aside texts.now) list.new.items ≡ forest (aside texts.now) list.old.items))) }
 {
     match Environment::of(name_below(count, texts, list)) {

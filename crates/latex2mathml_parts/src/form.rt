@@ -1,6 +1,6 @@
 //! What the list of parts holds.
 ghost use Rattle.std.specs.Prelude.{◌≡◌, ◌∷◌, ℕ, List, Some, None, MatchOption, drop};
-ghost use Rattle.latex2mathml_nodes.specs.Productions.{spread, stretched_of};
+ghost use Rattle.latex2mathml_nodes.specs.Productions.{matrix_members, stretched_operator};
 ghost use Rattle.latex2mathml_nodes.specs.Style.{styled};
 ghost use Rattle.latex2mathml_nodes.specs.Tree.{Tree, more_trees, no_trees};
 ghost use Rattle.latex2mathml_parts.specs.Forms.{HasText, arity_of, put_form};
@@ -62,11 +62,11 @@ impl<'a> Form<'a> {
     #[inline(always)]
     pub(crate) fn stretched(self) -> Option<Form<'a>>
         ensures { MatchOption result
-            ((texts : List (List ℕ)) (ts : List Tree) → stretched_of (top (put_form texts self.entry ts)) ≡ None)
+            ((texts : List (List ℕ)) (ts : List Tree) → stretched_operator (top (put_form texts self.entry ts)) ≡ None)
             (λ form. (arity_of self.entry ≡ 0) × (arity_of form ≡ 0)
             × ((texts : List (List ℕ)) → HasText texts form)
             × ((texts : List (List ℕ)) (ts : List Tree) →
-            (stretched_of (top (put_form texts self.entry ts)) ≡ Some (top (put_form texts form ts)))
+            (stretched_operator (top (put_form texts self.entry ts)) ≡ Some (top (put_form texts form ts)))
             × (put_form texts form ts ≡ top (put_form texts form ts) ∷ ts))) }
     {
         match self {
@@ -80,7 +80,7 @@ impl<'a> Form<'a> {
     #[inline(always)]
     pub(crate) fn members(self) -> Option<(usize, Option<Variant>)>
         ensures { MatchOption result
-            ((texts : List (List ℕ)) (ts : List Tree) → spread (top (put_form texts self.entry ts))
+            ((texts : List (List ℕ)) (ts : List Tree) → matrix_members (top (put_form texts self.entry ts))
             ≡ more_trees (top (put_form texts self.entry ts)) no_trees)
             (λ row. self.entry ≡ Form.Row row.0 row.1) }
     {

@@ -1,6 +1,6 @@
 //! The list of the parts, and what is done to its last trees.
 ghost use Rattle.std.specs.Prelude.{◌≡◌, ◌<◌, ◌≤◌, ◌∷◌, [], Some, None, suc, IfOk, MatchBool, OnOk, drop, length, reverse, string_bytes, take};
-ghost use Rattle.latex2mathml_nodes.specs.Productions.{environment_tree, grouped, stretched_of};
+ghost use Rattle.latex2mathml_nodes.specs.Productions.{environment_tree, group_tree, stretched_operator};
 ghost use Rattle.latex2mathml_nodes.specs.Style.{styled};
 ghost use Rattle.latex2mathml_nodes.specs.Tree.{Tree, function, slashed, undefined, words};
 ghost use Rattle.latex2mathml_tokens.specs.Lexemes.{lexeme_tok};
@@ -115,7 +115,7 @@ impl<'a> Parts<'a> {
     #[inline(always)]
     pub fn group(&mut self, count: usize) -> Result<(), AllocError>
         requires { count ≤ length self.old }
-        ensures { OnOk result (self.new ≡ grouped (reverse (take count self.old)) ∷ drop count self.old) }
+        ensures { OnOk result (self.new ≡ group_tree (reverse (take count self.old)) ∷ drop count self.old) }
     {
         change::group(count, &self.texts, &mut self.list)
     }
@@ -141,8 +141,8 @@ impl<'a> Parts<'a> {
     pub fn stretch(&mut self) -> bool
         requires { 0 < length self.old }
         ensures { MatchBool result
-            ((x : Tree) × (stretched_of (top self.old) ≡ Some x) × (self.new ≡ x ∷ drop 1 self.old))
-            ((stretched_of (top self.old) ≡ None) × (self.new ≡ self.old)) }
+            ((x : Tree) × (stretched_operator (top self.old) ≡ Some x) × (self.new ≡ x ∷ drop 1 self.old))
+            ((stretched_operator (top self.old) ≡ None) × (self.new ≡ self.old)) }
     {
         change::stretch(&self.texts, &mut self.list)
     }
@@ -152,9 +152,9 @@ impl<'a> Parts<'a> {
     pub fn environment(&mut self, count: usize) -> Result<bool, AllocError>
         requires { count < length self.old }
         ensures { IfOk result (λ made. MatchBool made
-            ((x : Tree) × (environment_tree (words_of (top (drop count self.old))) (grouped (reverse (take count self.old))) ≡ Some x)
+            ((x : Tree) × (environment_tree (words_of (top (drop count self.old))) (group_tree (reverse (take count self.old))) ≡ Some x)
             × (self.new ≡ x ∷ drop (suc count) self.old))
-            ((environment_tree (words_of (top (drop count self.old))) (grouped (reverse (take count self.old))) ≡ None)
+            ((environment_tree (words_of (top (drop count self.old))) (group_tree (reverse (take count self.old))) ≡ None)
             × (self.new ≡ self.old))) }
     {
         change::environment(count, &self.texts, &mut self.list)

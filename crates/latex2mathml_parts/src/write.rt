@@ -1,14 +1,13 @@
 //! From parts to markup.
-ghost use Rattle.std.specs.Prelude.{◌≡◌, ◌+◌, ◌<◌, ◌≤◌, ◌++◌, [], IfOk, OnOk, codes, length, reverse, string_bytes, sum_by, take};
+ghost use Rattle.std.specs.Prelude.{◌≡◌, ◌+◌, ◌<◌, ◌≤◌, ◌++◌, [], IfOk, OnOk, length, string_bytes, take, None};
 ghost use Rattle.latex2mathml_nodes.specs.Print.{print};
-ghost use Rattle.latex2mathml_nodes.specs.PrintWeight.{print_weight};
-ghost use Rattle.latex2mathml_nodes.specs.Tree.{matrix, row, slashed, trees_of};
-ghost use Rattle.latex2mathml_parts.specs.Forms.{AreWhole, HasText, all_in, arity_of, aside, forest, in_style, outer, put_form};
+ghost use Rattle.latex2mathml_nodes.specs.Tree.{slashed};
+ghost use Rattle.latex2mathml_parts.specs.Forms.{AreWhole, HasText, arity_of, aside, forest, in_style, put_form};
 ghost use Rattle.latex2mathml_parts.specs.Parts.{arity, put, top};
-ghost use Rattle.latex2mathml_tokens.specs.Attributes.{align_text};
-ghost use Rattle.latex2mathml_parts.specs.Works.{AreIn, IsIn, IsNext, due, next_print, next_weight, prints_in, tree_at, work_print, work_weight};
+ghost use Rattle.latex2mathml_parts.specs.Works.{AreIn, IsIn, IsNext, next_weight, print_weight, tree_at, work_print, work_weight, Writes, load};
 
 mod fences;
+mod groups;
 mod leaves;
 mod names;
 mod shapes;
@@ -21,6 +20,7 @@ use crate::list::part_at;
 use crate::parts::Parts;
 use crate::work::Work;
 use crate::write::fences::{closing_markup, opening_markup, stretched_markup};
+use crate::write::groups::{outer, write_matrix, write_row};
 use crate::write::leaves::{
     given, write_char, write_letter, write_operator, write_sign, write_slashed, write_text,
 };
@@ -30,9 +30,9 @@ use crate::write::shapes::{
     write_swapped_limits, write_two,
 };
 use crate::write::tables::{binomial_close, binomial_open};
-use crate::write::works::{push, push_cells, push_members};
+use crate::write::works::push;
 use latex2mathml_nodes::ast::print::append::append_undefined;
-use latex2mathml_tokens::attribute::{ColumnAlign, Variant};
+use latex2mathml_tokens::attribute::Variant;
 pub use leaves::write_leaf;
 use std::alloc::{AllocError, Global};
 
@@ -83,9 +83,9 @@ fn write_work(
     requires one { IsIn list.now work }
     requires inside { AreIn list.now works.old.items }
     ensures inside { OnOk result (AreIn list.now works.new.items) }
-    ensures print { OnOk result (string_bytes out.new ++ due (aside texts.now) list.now works.new.items
-        ≡ string_bytes out.old ++ (work_print (aside texts.now) list.now work ++ due (aside texts.now) list.now works.old.items)) }
-    ensures weight { OnOk result (sum_by (work_weight (aside texts.now) list.now) works.new.items < sum_by (work_weight (aside texts.now) list.now) works.old.items + work_weight (aside texts.now) list.now work) }
+    ensures print { OnOk result (Writes (aside texts.now) list.now (string_bytes out.old) works.old.items
+        (work_print (aside texts.now) list.now work) (string_bytes out.new) works.new.items None) }
+    ensures weight { OnOk result (load (aside texts.now) list.now works.new.items < load (aside texts.now) list.now works.old.items + work_weight (aside texts.now) list.now work) }
 {
     match work {
         Work::Tree(end, style) => write_down(alloc, end, style, texts, list, works, out),
@@ -111,9 +111,9 @@ fn write_down(
     requires within { end ≤ length list.now }
     requires inside { AreIn list.now works.old.items }
     ensures inside { OnOk result (AreIn list.now works.new.items) }
-    ensures print { OnOk result (string_bytes out.new ++ due (aside texts.now) list.now works.new.items
-        ≡ string_bytes out.old ++ (print (in_style style (tree_at (aside texts.now) list.now end)) ++ due (aside texts.now) list.now works.old.items)) }
-    ensures weight { OnOk result (sum_by (work_weight (aside texts.now) list.now) works.new.items < sum_by (work_weight (aside texts.now) list.now) works.old.items + print_weight (tree_at (aside texts.now) list.now end)) }
+    ensures print { OnOk result (Writes (aside texts.now) list.now (string_bytes out.old) works.old.items
+        (print (in_style style (tree_at (aside texts.now) list.now end))) (string_bytes out.new) works.new.items None) }
+    ensures weight { OnOk result (load (aside texts.now) list.now works.new.items < load (aside texts.now) list.now works.old.items + print_weight (tree_at (aside texts.now) list.now end)) }
 {
     let mut next = write_at(alloc, end, style, texts, list, works, out)?;
     'down: while let Some(place) = next {
@@ -139,10 +139,10 @@ fn write_at(
     requires inside { AreIn list.now works.old.items }
     ensures inside { OnOk result (AreIn list.now works.new.items) }
     ensures next { IfOk result (λ next. IsNext list.now next) }
-    ensures print { IfOk result (λ next. string_bytes out.new ++ (next_print (aside texts.now) list.now next ++ due (aside texts.now) list.now works.new.items)
-        ≡ string_bytes out.old ++ (print (in_style style (tree_at (aside texts.now) list.now end)) ++ due (aside texts.now) list.now works.old.items)) }
-    ensures weight { IfOk result (λ next. sum_by (work_weight (aside texts.now) list.now) works.new.items + next_weight (aside texts.now) list.now next
-        < sum_by (work_weight (aside texts.now) list.now) works.old.items + print_weight (tree_at (aside texts.now) list.now end)) }
+    ensures print { IfOk result (Writes (aside texts.now) list.now (string_bytes out.old) works.old.items
+        (print (in_style style (tree_at (aside texts.now) list.now end))) (string_bytes out.new) works.new.items) }
+    ensures weight { IfOk result (λ next. load (aside texts.now) list.now works.new.items + next_weight (aside texts.now) list.now next
+        < load (aside texts.now) list.now works.old.items + print_weight (tree_at (aside texts.now) list.now end)) }
 {
     let part = part_at(end, texts, list);
     write_form(alloc, part.form, style, end - 1, texts, list, works, out)
@@ -167,10 +167,10 @@ fn write_form(
     requires inside { AreIn list.now works.old.items }
     ensures inside { OnOk result (AreIn list.now works.new.items) }
     ensures next { IfOk result (λ next. IsNext list.now next) }
-    ensures print { IfOk result (λ next. string_bytes out.new ++ (next_print (aside texts.now) list.now next ++ due (aside texts.now) list.now works.new.items)
-        ≡ string_bytes out.old ++ (print (in_style style (top (put_form (aside texts.now) form.entry (forest (aside texts.now) (take end list.now))))) ++ due (aside texts.now) list.now works.old.items)) }
-    ensures weight { IfOk result (λ next. sum_by (work_weight (aside texts.now) list.now) works.new.items + next_weight (aside texts.now) list.now next
-        < sum_by (work_weight (aside texts.now) list.now) works.old.items + print_weight (top (put_form (aside texts.now) form.entry (forest (aside texts.now) (take end list.now))))) }
+    ensures print { IfOk result (Writes (aside texts.now) list.now (string_bytes out.old) works.old.items
+        (print (in_style style (top (put_form (aside texts.now) form.entry (forest (aside texts.now) (take end list.now)))))) (string_bytes out.new) works.new.items) }
+    ensures weight { IfOk result (λ next. load (aside texts.now) list.now works.new.items + next_weight (aside texts.now) list.now next
+        < load (aside texts.now) list.now works.old.items + print_weight (top (put_form (aside texts.now) form.entry (forest (aside texts.now) (take end list.now))))) }
 {
     match form {
         Form::Of(kind) => write_kind(alloc, kind, style, end, texts, list, works, out),
@@ -206,78 +206,6 @@ fn write_form(
     }
 }
 
-/// The style of letters in a row that has a style of its own: the outer one stays.
-fn outer(style: Option<Variant>, own: Option<Variant>) -> Option<Variant>
-    ensures { result ≡ outer style own }
-{
-    match style {
-        None => own,
-        Some(variant) => Some(variant),
-    }
-}
-
-/// Writes a row of so many trees.
-fn write_row(
-    count: usize,
-    style: Option<Variant>,
-    end: usize,
-    texts: &[String],
-    list: &[Part],
-    works: &mut Vec<Work>,
-    out: &mut String,
-) -> Result<(), AllocError>
-    requires whole { AreWhole (aside texts.now) list.now }
-    requires all { count ≤ length (forest (aside texts.now) (take end list.now)) }
-    requires within { end ≤ length list.now }
-    requires inside { AreIn list.now works.old.items }
-    ensures inside { OnOk result (AreIn list.now works.new.items) }
-    ensures print { OnOk result (string_bytes out.new ++ due (aside texts.now) list.now works.new.items
-        ≡ string_bytes out.old ++ (print (row (all_in style (trees_of (reverse (take count (forest (aside texts.now) (take end list.now))))))) ++ due (aside texts.now) list.now works.old.items)) }
-    ensures weight { OnOk result (sum_by (work_weight (aside texts.now) list.now) works.new.items < sum_by (work_weight (aside texts.now) list.now) works.old.items + print_weight (row (all_in style (trees_of (reverse (take count (forest (aside texts.now) (take end list.now)))))))) }
-{
-    out.push_str("<mrow>")?;
-    push(Work::Markup("</mrow>"), texts, list, works)?;
-    push_members(count, style, end, texts, list, works)?;
-    Ok(())
-}
-
-/// Writes a matrix of so many members.
-fn write_matrix(
-    count: usize,
-    style: Option<Variant>,
-    align: ColumnAlign,
-    end: usize,
-    texts: &[String],
-    list: &[Part],
-    works: &mut Vec<Work>,
-    out: &mut String,
-) -> Result<(), AllocError>
-    requires whole { AreWhole (aside texts.now) list.now }
-    requires all { count ≤ length (forest (aside texts.now) (take end list.now)) }
-    requires within { end ≤ length list.now }
-    requires inside { AreIn list.now works.old.items }
-    ensures inside { OnOk result (AreIn list.now works.new.items) }
-    ensures print { OnOk result (string_bytes out.new ++ due (aside texts.now) list.now works.new.items
-        ≡ string_bytes out.old ++ (print (matrix (all_in style (trees_of (reverse (take count (forest (aside texts.now) (take end list.now)))))) align) ++ due (aside texts.now) list.now works.old.items)) }
-    ensures weight { OnOk result (sum_by (work_weight (aside texts.now) list.now) works.new.items < sum_by (work_weight (aside texts.now) list.now) works.old.items + print_weight (matrix (all_in style (trees_of (reverse (take count (forest (aside texts.now) (take end list.now)))))) align)) }
-{
-    out.push_str(table_open(align))?;
-    push(Work::Markup("</mtd></mtr></mtable>"), texts, list, works)?;
-    push_cells(count, style, end, texts, list, works)?;
-    Ok(())
-}
-
-/// What stands before the members of a matrix.
-fn table_open(align: ColumnAlign) -> &'static str
-    ensures { result.now ≡ codes "<mtable" ++ (align_text align ++ codes "><mtr><mtd>") }
-{
-    match align {
-        ColumnAlign::Center => "<mtable><mtr><mtd>",
-        ColumnAlign::Left => "<mtable columnalign=\"left\"><mtr><mtd>",
-        ColumnAlign::Right => "<mtable columnalign=\"right\"><mtr><mtd>",
-    }
-}
-
 /// Writes what a slash stands through: a letter and an operator show it, no other tree does.
 fn write_under_slash(
     end: usize,
@@ -292,10 +220,10 @@ fn write_under_slash(
     requires inside { AreIn list.now works.old.items }
     ensures inside { OnOk result (AreIn list.now works.new.items) }
     ensures next { IfOk result (λ next. IsNext list.now next) }
-    ensures print { IfOk result (λ next. string_bytes out.new ++ (next_print (aside texts.now) list.now next ++ due (aside texts.now) list.now works.new.items)
-        ≡ string_bytes out.old ++ (print (slashed (tree_at (aside texts.now) list.now end)) ++ due (aside texts.now) list.now works.old.items)) }
-    ensures weight { IfOk result (λ next. sum_by (work_weight (aside texts.now) list.now) works.new.items + next_weight (aside texts.now) list.now next
-        < sum_by (work_weight (aside texts.now) list.now) works.old.items + print_weight (slashed (tree_at (aside texts.now) list.now end))) }
+    ensures print { IfOk result (Writes (aside texts.now) list.now (string_bytes out.old) works.old.items
+        (print (slashed (tree_at (aside texts.now) list.now end))) (string_bytes out.new) works.new.items) }
+    ensures weight { IfOk result (λ next. load (aside texts.now) list.now works.new.items + next_weight (aside texts.now) list.now next
+        < load (aside texts.now) list.now works.old.items + print_weight (slashed (tree_at (aside texts.now) list.now end))) }
 {
     if write_slashed(part_at(end, texts, list).form, out)? {
         return Ok(None);
@@ -321,10 +249,10 @@ fn write_kind(
     requires inside { AreIn list.now works.old.items }
     ensures inside { OnOk result (AreIn list.now works.new.items) }
     ensures next { IfOk result (λ next. IsNext list.now next) }
-    ensures print { IfOk result (λ next. string_bytes out.new ++ (next_print (aside texts.now) list.now next ++ due (aside texts.now) list.now works.new.items)
-        ≡ string_bytes out.old ++ (print (in_style style (top (put kind.entry (forest (aside texts.now) (take end list.now))))) ++ due (aside texts.now) list.now works.old.items)) }
-    ensures weight { IfOk result (λ next. sum_by (work_weight (aside texts.now) list.now) works.new.items + next_weight (aside texts.now) list.now next
-        < sum_by (work_weight (aside texts.now) list.now) works.old.items + print_weight (top (put kind.entry (forest (aside texts.now) (take end list.now))))) }
+    ensures print { IfOk result (Writes (aside texts.now) list.now (string_bytes out.old) works.old.items
+        (print (in_style style (top (put kind.entry (forest (aside texts.now) (take end list.now)))))) (string_bytes out.new) works.new.items) }
+    ensures weight { IfOk result (λ next. load (aside texts.now) list.now works.new.items + next_weight (aside texts.now) list.now next
+        < load (aside texts.now) list.now works.old.items + print_weight (top (put kind.entry (forest (aside texts.now) (take end list.now))))) }
 {
     match kind {
         Kind::Letter(c, own) => {

@@ -41,7 +41,7 @@ fn content(c: char, room: &mut [u8; 4]) -> &str {
     }
 }
 
-/// The character as it stands in quotation marks, and as contents.
+/// The character in quotation marks, as contents.
 fn quoted_content(c: char, room: &mut [u8; 4]) -> &str {
     match c {
         '"' => "\\\"",
@@ -50,7 +50,7 @@ fn quoted_content(c: char, room: &mut [u8; 4]) -> &str {
     }
 }
 
-/// The character as it stands in quotation marks.
+/// The character in quotation marks.
 fn quoted(c: char, room: &mut [u8; 4]) -> &str {
     match c {
         '"' => "\\\"",
@@ -59,7 +59,7 @@ fn quoted(c: char, room: &mut [u8; 4]) -> &str {
     }
 }
 
-/// The character as it stands in apostrophes.
+/// The character in apostrophes.
 fn in_apostrophes(c: char, room: &mut [u8; 4]) -> &str {
     match c {
         '\'' => "\\'",
@@ -80,7 +80,7 @@ fn prints(
     Ok(is_around(printed.as_str(), before, contents, after))
 }
 
-/// Whether the character by itself prints as it has to.
+/// Whether the character alone prints as expected.
 fn stands_for_itself(alloc: Global, c: char) -> Result<bool, AllocError> {
     let mut room = [0; 4];
     let contents = content(c, &mut room);
@@ -102,7 +102,7 @@ fn stands_for_itself(alloc: Global, c: char) -> Result<bool, AllocError> {
     )
 }
 
-/// Whether a text with the character in it prints as it has to.
+/// Whether a text that contains the character prints as expected.
 fn stands_in_texts(alloc: Global, c: char) -> Result<bool, AllocError> {
     let mut room = [0; 4];
     let contents = content(c, &mut room);
@@ -115,7 +115,7 @@ fn stands_in_texts(alloc: Global, c: char) -> Result<bool, AllocError> {
     )
 }
 
-/// Whether a marked error tells the character.
+/// Whether a marked error shows the character.
 fn stands_in_errors(alloc: Global, c: char) -> Result<bool, AllocError> {
     let mut room = [0; 4];
     let text = format!(in alloc; "{c}z")?;
@@ -129,14 +129,14 @@ fn stands_in_errors(alloc: Global, c: char) -> Result<bool, AllocError> {
     )
 }
 
-/// Whether an unknown command that holds the character is itself.
+/// Whether an unknown command that contains the character is itself.
 fn command_is_itself(alloc: Global, c: char) -> Result<bool, AllocError> {
     let name = format!(in alloc; "zz{c}")?;
     let token = Token::from_command(alloc, name.as_str())?;
     Ok(token == Token::Command(name))
 }
 
-/// Whether a refusal tells the character by itself.
+/// Whether a refusal shows the character alone.
 fn refusal_tells_character(alloc: Global, c: char) -> Result<bool, AllocError> {
     let mut room = [0; 4];
     let refusal = LatexError::UnexpectedToken {
@@ -153,7 +153,7 @@ fn refusal_tells_character(alloc: Global, c: char) -> Result<bool, AllocError> {
     ))
 }
 
-/// Whether a refusal tells the character in a text.
+/// Whether a refusal shows the character in a text.
 fn refusal_tells_text(alloc: Global, c: char) -> Result<bool, AllocError> {
     let mut room = [0; 4];
     let name = format!(in alloc; "{c}")?;

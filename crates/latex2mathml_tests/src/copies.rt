@@ -7,7 +7,7 @@ use latex2mathml::attribute::{Accent, ColumnAlign, LineThickness, Variant};
 use std::alloc::{AllocError, Global};
 use std::test::Fail;
 
-/// Each kind that holds no node, and beside each one that differs in its contents alone.
+/// Each kind that holds no node, and for each a second one that differs only in its contents.
 static LEAVES: [Sample; 29] = [
     Sample::Words(Words::Number, "1"),
     Sample::Words(Words::Number, "2"),

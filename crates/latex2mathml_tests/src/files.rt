@@ -1,4 +1,4 @@
-//! The documents under a path: the list that a walk answers, and paths that no word of the program is.
+//! The documents under a path: the list that a walk returns, and paths that cannot be an argument of the program.
 
 use latex2mathml::{FileFault, LatexError, convert_html};
 use std::test::Fail;

@@ -1,5 +1,5 @@
-//! What callers make large: nodes that are nested deep or have many members, and each call that allocates, reads or writes,
-//! at small and at large sizes. None gives up where there is memory.
+//! Large values of callers: deeply nested nodes, nodes with many members, and each call that allocates, reads or writes, at small
+//! and at large sizes. Each call succeeds if there is memory.
 
 use crate::samples::{Frame, Pair, Triple, Words, applied, leaf};
 use crate::streams::stream;
@@ -12,7 +12,7 @@ use std::io;
 use std::io::{Read, Write};
 use std::test::Fail;
 
-/// So many copies of the character.
+/// This many copies of the character.
 fn repeated(alloc: Global, c: char, count: usize) -> Result<String, AllocError> {
     let mut text = String::new(alloc);
     for _ in 0..count {
@@ -61,7 +61,7 @@ fn framed(alloc: Global, x: Node) -> Result<Node, AllocError> {
     Ok(x)
 }
 
-/// What may stand before a node in a list, and behind it: nodes that hold none, and nodes that hold one.
+/// What may be before and after a node in a list: nodes that hold none, and nodes that hold one.
 fn beside(alloc: Global, is_compound: bool) -> Result<Node, AllocError> {
     if is_compound {
         Frame::Slash.around(alloc, leaf('a'))
@@ -107,7 +107,7 @@ fn listed(alloc: Global, x: Node) -> Result<Node, AllocError> {
 
 const LEVELS: usize = 100_000;
 
-/// Trees that no stack of 8 MiB could drop by recursion, also where only one kind in one place of it recursed.
+/// Trees that could not be dropped by recursion with a stack of 8 MiB, even if only one kind in one place recursed.
 #[test]
 fn deep_scripts_are_dropped(rt: HostRuntime) -> Result<(), Fail> {
     let mut x = leaf('x');
@@ -138,7 +138,7 @@ fn deep_lists_are_dropped(rt: HostRuntime) -> Result<(), Fail> {
     Ok(())
 }
 
-/// A row of so many letters, and `last` behind them.
+/// A row of this many letters, followed by `last`.
 fn wide_row(alloc: Global, count: usize, last: Node) -> Result<Node, AllocError> {
     let mut members = Vec::new(alloc);
     for _ in 0..count {
@@ -212,7 +212,7 @@ fn tokens(rt: HostRuntime) -> Result<(), Fail> {
     Ok(())
 }
 
-/// Whether such a node of so long a text is copied, and prints.
+/// Whether such a node with a text of this length is copied, and prints.
 fn node_is_whole(
     alloc: Global,
     kind: Words,
@@ -248,7 +248,7 @@ fn nodes(rt: HostRuntime) -> Result<(), Fail> {
     Ok(())
 }
 
-/// A refusal that holds so long a text.
+/// A refusal with a text of this length.
 fn refusal(alloc: Global, size: usize) -> Result<LatexError, AllocError> {
     Ok(LatexError::UnexpectedToken {
         expected: Token::EOF,
@@ -261,7 +261,7 @@ fn refusal_is_copied(alloc: Global, size: usize) -> Result<bool, AllocError> {
     Ok(refusal.clone(alloc)? == refusal)
 }
 
-/// Whether it is told, as a fault too.
+/// Whether it prints, as a fault too.
 fn refusal_is_told(alloc: Global, size: usize) -> Result<bool, AllocError> {
     let fault = FileFault::Refused(refusal(alloc, size)?);
     let said = fault.to_string(alloc)?;
@@ -278,7 +278,7 @@ fn refusals(rt: HostRuntime) -> Result<(), Fail> {
     Ok(())
 }
 
-/// Gives as many bytes as there is room for, takes all bytes, and counts those that it took.
+/// Gives as many bytes as there is room for. Takes all bytes, and counts them.
 #[derive(Drop)]
 struct Pipe {
     taken: u64,

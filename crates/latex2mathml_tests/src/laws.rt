@@ -1,4 +1,4 @@
-//! Each law, called: a law has no answer, and what it says is proved, so a call has only to return.
+//! Each law, called. A law returns nothing, and its statement is proved, so the call only has to return.
 
 use crate::samples::{Words, applied};
 use latex2mathml::ast::Node;

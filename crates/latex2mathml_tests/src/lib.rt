@@ -1,4 +1,4 @@
-//! Tests of what neither the program nor the library for C can show: values made by hand, counts, and streams that give up.
+//! Tests of what neither the program nor the library for C can show: values made by hand, counts, and streams that fail.
 #![tactic(auto)]
 
 #[cfg(test)]

@@ -12,7 +12,7 @@ fn prints(alloc: Global, node: &Node, markup: &str) -> Result<bool, AllocError> 
     Ok(printed.as_str() == markup)
 }
 
-/// The first of these nodes that does not print as it has to.
+/// The first of these nodes that does not print as expected.
 fn wrong(
     alloc: Global,
     rows: &[(Sample, &'static str)],
@@ -308,7 +308,7 @@ fn function_in_a_fraction(alloc: Global) -> Result<Node, AllocError> {
     Pair::Fraction(LineThickness::Medium).of(alloc, sine, two)
 }
 
-/// A matrix whose only cell holds ends of cells and of rows, which are none of its direct members.
+/// A matrix whose only cell contains ends of cells and of rows, which are not its direct members.
 fn ends_below(alloc: Global) -> Result<Node, AllocError> {
     let mut members = Vec::new(alloc);
     members.push(Node::Row(leaves_of(alloc, "&\n")?))?;

@@ -1,4 +1,4 @@
-//! Documents from readers that give a few bytes a call, or give up.
+//! Documents from readers that give a few bytes per call, or fail.
 
 use crate::streams::{Reader, stream};
 use latex2mathml::{FileFault, LatexError, Reading, read_document};
@@ -7,7 +7,7 @@ use std::test::Fail;
 
 const ENOUGH: usize = 100_000;
 
-/// Whether the document, read so many bytes a call, is read to its end, and comes to this answer, or stays where there is
+/// Whether the document, read this many bytes per call, is read to its end and converted to this answer, or unchanged if there is
 /// none.
 fn is_read(alloc: Global, document: &str, step: usize, answer: Option<&str>) -> Result<bool, Fail> {
     let mut from = stream(Reader {
@@ -22,7 +22,7 @@ fn is_read(alloc: Global, document: &str, step: usize, answer: Option<&str>) -> 
     Ok(is_due && from.ended && !from.failed && from.inner.bytes.is_empty())
 }
 
-/// Documents, and their answers where they change. A dollar sign that is no formula's changes the document too.
+/// Documents, and their answers if they change. A dollar sign outside formulas changes the document too.
 const DOCUMENTS: [(&str, Option<&str>); 7] = [
     ("", None),
     ("no sign", None),
@@ -48,7 +48,7 @@ fn documents(rt: HostRuntime) -> Result<(), Fail> {
     Ok(())
 }
 
-/// Whether these bytes, read one at a time in so many calls, come to the fault.
+/// Whether reading these bytes, one at a time in this many calls, results in the fault.
 fn comes_to(alloc: Global, bytes: &[u8], calls: usize, fault: &FileFault) -> bool {
     let mut from = stream(Reader {
         bytes,
@@ -63,7 +63,7 @@ fn comes_to(alloc: Global, bytes: &[u8], calls: usize, fault: &FileFault) -> boo
     is_due && from.failed == has_failed && from.ended != has_failed
 }
 
-/// A reader that fails at each call in turn, also at the one that would say that the end is reached.
+/// A reader that fails at each call in turn, also at the one that would report the end.
 #[test]
 fn failing_reader(rt: HostRuntime) {
     for calls in 0..4 {

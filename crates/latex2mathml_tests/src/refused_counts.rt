@@ -34,7 +34,7 @@ fn open_groups(rt: HostRuntime) -> Result<(), Fail> {
     Ok(())
 }
 
-/// What stands behind the token that is refused is not taken.
+/// What follows the refused token is not taken.
 #[test]
 fn other_refusals(rt: HostRuntime) -> Result<(), Fail> {
     for (formula, tokens, frames, commands) in [

@@ -1,4 +1,4 @@
-//! Readers and writers that give up.
+//! Readers and writers that fail.
 ghost use Rattle.std.specs.Prelude.{◌≤◌, IfOk, IsFalse};
 
 use latex2mathml::{FileFault, Sink, Source, Stream, WriteCause, write_document};
@@ -7,7 +7,7 @@ use std::io;
 use std::io::{Read, Write};
 use std::test::Fail;
 
-/// Takes so many bytes a call, and after so many calls none, or fails.
+/// Takes this many bytes per call. After this many calls it takes none, or fails.
 #[derive(Drop)]
 struct Writer {
     held: Vec<u8>,
@@ -36,7 +36,7 @@ impl Write for Writer {
     }
 }
 
-/// Gives so many bytes a call, and fails after so many calls.
+/// Gives this many bytes per call, and fails after this many calls.
 #[derive(Drop)]
 pub struct Reader<'a> {
     pub bytes: &'a [u8],
@@ -68,7 +68,7 @@ pub fn stream<T>(inner: T) -> Stream<T>
     }
 }
 
-/// What is put to a writer, and what it does: it takes `step` bytes a call, and after `calls` calls none, or fails.
+/// What is written to a writer, and how the writer behaves: it takes `step` bytes per call, and after `calls` calls none, or fails.
 #[derive(Clone, Copy)]
 struct Writing {
     text: &'static str,
@@ -78,8 +78,8 @@ struct Writing {
 }
 
 impl Writing {
-    /// Whether this is put so, that the writer holds exactly the bytes that are told, and tells how it ended: with no
-    /// cause where all were taken.
+    /// Whether the writer then has exactly the bytes that the result reports, and the result has the cause, or none if all bytes
+    /// were taken.
     fn ends(self, alloc: Global, cause: Option<WriteCause>, written: usize) -> bool {
         let mut sink = stream(Writer {
             held: Vec::new(alloc),
@@ -123,7 +123,7 @@ fn writes_all(rt: HostRuntime) {
     }
 }
 
-/// A writer that takes one byte a call and fails at each call in turn.
+/// A writer that takes one byte per call and fails at each call in turn.
 #[test]
 fn writer_fails(rt: HostRuntime) {
     for calls in 0..3 {
@@ -156,7 +156,7 @@ fn writer_takes_nothing(rt: HostRuntime) {
     }
 }
 
-/// A reader that gives one byte a call, and ends.
+/// A reader that gives one byte per call, and ends.
 #[test]
 fn reader_gives(rt: HostRuntime) {
     let mut room = [0u8; 4];
@@ -187,7 +187,7 @@ fn reader_fails(rt: HostRuntime) {
     assert!(rt; source.failed && !source.ended);
 }
 
-/// What a sink answers, asked with and without bytes.
+/// What a sink returns, called with and without bytes.
 #[test]
 fn sink_answers(rt: HostRuntime) {
     let mut sink = stream(Writer {
@@ -212,7 +212,7 @@ struct Flawed {
 }
 
 impl Flawed {
-    /// How many of so many bytes this call moves.
+    /// How many of these bytes this call moves.
     fn moved(&mut self, due: usize) -> io::Result<usize>
         ensures { IfOk result (λ n. n ≤ due) }
     {
@@ -247,12 +247,12 @@ fn failing_once(kind: io::ErrorKind) -> Stream<Flawed>
     stream(Flawed { kind, calls: 0 })
 }
 
-/// Whether the stream has failed, has not ended, and asked once.
+/// Whether the stream has failed, has not ended, and made one call.
 fn failed_once(stream: &Stream<Flawed>) -> bool {
     stream.failed && !stream.ended && stream.inner.calls == 1
 }
 
-/// No error is an end, and no error is a reason to ask again.
+/// No error is an end, and no error causes a second call.
 const KINDS: [io::ErrorKind; 6] = [
     io::ErrorKind::Interrupted,
     io::ErrorKind::WouldBlock,
@@ -298,7 +298,7 @@ fn a_writing_stops_at_each_error(rt: HostRuntime) -> Result<(), Fail> {
     Ok(())
 }
 
-/// A writer that takes nothing is not asked for a text that holds nothing.
+/// A writer that takes nothing is not called for an empty text.
 #[test]
 fn nothing_is_asked_for_nothing(rt: HostRuntime) -> Result<(), Fail> {
     let mut sink = failing_once(io::ErrorKind::Other);

@@ -66,7 +66,7 @@ fn of_characters(alloc: Global) -> Result<Samples, AllocError> {
     ]?)
 }
 
-/// Each kind that holds a text, with two of them, but for those that own it.
+/// Each kind that borrows a text, with two of them.
 fn of_texts(alloc: Global) -> Result<Samples, AllocError> {
     Ok(vec![in alloc;
         (Token::Paren("("), "Paren(\"(\")"),
@@ -94,7 +94,7 @@ fn of_own_texts(alloc: Global) -> Result<Samples, AllocError> {
     Ok(samples)
 }
 
-/// Each other kind, with contents that differ in one part alone.
+/// Each other kind, with contents that differ in only one part.
 fn of_parts(alloc: Global) -> Result<Samples, AllocError> {
     Ok(vec![in alloc;
         (Token::Binom(None), "Binom(None)"),
@@ -152,7 +152,7 @@ fn of_variants(alloc: Global) -> Result<Samples, AllocError> {
     ]?)
 }
 
-/// Puts more samples behind these.
+/// Appends more samples.
 fn add(samples: &mut Samples, more: Samples) -> Result<(), AllocError> {
     for sample in more {
         samples.push(sample)?;

@@ -1,2 +1,4 @@
 mod CachedRenderings
+mod CheckedFormulas
 mod SecondRuns
+mod Surrounded

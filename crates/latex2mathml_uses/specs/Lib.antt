@@ -1,8 +1,10 @@
 pub mod Builds
 pub mod Cached
 pub mod Caches
+pub mod Checked
 pub mod Limited
 pub mod Mistakes
 pub mod Sections
 pub mod Shown
+pub mod Stored
 pub mod Symbols

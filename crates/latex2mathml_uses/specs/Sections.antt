@@ -4,5 +4,5 @@ use Rattle.latex2mathml.specs.Documents.{IsAnswer}
 use Rattle.latex2mathml_uses.specs.declared.wiki.Section.{Section}
 
 -- what is shown is the answer for the source
-abbrev pub IsConverted : Section → Type 0
-IsConverted section = IsAnswer (string_bytes section.source) (string_bytes section.shown)
+abbrev pub ShowsAnswer : Section → Type 0
+ShowsAnswer section = IsAnswer (string_bytes section.source) (string_bytes section.shown)

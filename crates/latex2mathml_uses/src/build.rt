@@ -1,4 +1,4 @@
-//! A build that may run again over what it wrote.
+//! A build that may run again over its own output.
 ghost use Rattle.std.specs.Prelude.{◌≡◌, ℕ, List, IfErr, IfOk, MatchOption, string_bytes};
 ghost use Rattle.latex2mathml.specs.Documents.{IsAnswer};
 ghost use Rattle.latex2mathml.specs.DocumentLaws.{IsOwnAnswer};
@@ -9,9 +9,9 @@ ghost use Rattle.latex2mathml_uses.specs.Builds.{IsFaultOf, page_text};
 use latex2mathml::{FileFault, Reading, Source, Stream, laws, read_document};
 use std::alloc::Global;
 
-/// What a run of the build writes in place of the page that it reads: its answer where the page holds a dollar sign, and
-/// otherwise nothing, since the page is its own answer. What it writes is its own answer too, so the next run writes
-/// nothing.
+/// Reads a page, and returns what a run of the build writes in its place: the answer of the page if the page contains a dollar
+/// sign, and otherwise nothing, because the page is its own answer. What it writes is also its own answer, so the next run
+/// writes nothing.
 pub fn rewritten<S: Source>(alloc: Global, source: &mut S) -> Result<Option<String>, FileFault>
     requires { CanGoOn (S.state source.old) }
     ensures { IfOk result (λ written. (page : List ℕ)
@@ -26,8 +26,16 @@ pub fn rewritten<S: Source>(alloc: Global, source: &mut S) -> Result<Option<Stri
     }
 }
 
-/// The page that two runs of a build leave of a document. The second leaves the page of the first as it is, and refuses
-/// nothing in it.
+/// Returns the page that a run leaves, for a template engine in which a dollar sign begins a name. The page contains none.
+pub fn template<S: Source>(alloc: Global, source: &mut S) -> Result<String, FileFault>
+    requires { CanGoOn (S.state source.old) }
+    ensures { IfOk result (λ page. IsDollarFree (string_bytes page)) }
+{
+    Ok(page_of(read_document(alloc, source)?))
+}
+
+/// Returns the page that two runs of a build make of a document. The second run does not change the page of the first, and
+/// refuses nothing in it.
 pub fn built_twice<S: Source>(alloc: Global, source: &mut S) -> Result<String, FileFault>
     requires { CanGoOn (S.state source.old) }
     ensures page { IfOk result (λ page. (document : List ℕ)
@@ -48,7 +56,7 @@ pub fn built_twice<S: Source>(alloc: Global, source: &mut S) -> Result<String, F
     }
 }
 
-/// The page that a run of the build leaves.
+/// Returns the page after a run of the build.
 fn page_of(reading: Reading) -> String
     ensures { string_bytes result ≡ page_text reading }
 {

@@ -1,4 +1,4 @@
-//! Renderings that are kept, so that a formula that comes again is not read again.
+//! Renderings that are kept, so that a repeated formula is not converted again.
 ghost use Rattle.std.specs.Prelude.{◌≡◌, Some, IfOk, IfSome, option_map, string_bytes};
 ghost use Rattle.latex2mathml.specs.Formulas.{IfRefused, IsFormulaRefusal};
 ghost use Rattle.latex2mathml_uses.specs.Cached.{HoldsRenderings, IsOnlyRendering, text_at};
@@ -8,7 +8,7 @@ use latex2mathml::{DisplayStyle, LatexError, latex_to_mathml, laws};
 use std::alloc::Global;
 use std::collections::HashMap;
 
-/// The markup of formulas that were asked for, by how they are set and by their text.
+/// The markup of formulas, by their display and their text.
 #[derive(Drop)]
 pub struct Cache {
     blocks: HashMap<String, String>,
@@ -16,7 +16,7 @@ pub struct Cache {
 }
 
 impl Cache {
-    /// An empty cache.
+    /// Returns an empty cache.
     pub fn new(alloc: Global) -> Cache
         ensures { IsSound result }
     {
@@ -26,7 +26,7 @@ impl Cache {
         }
     }
 
-    /// What the cache holds for the formula: its rendering, which is the markup that a call answers.
+    /// Returns the markup of the formula, if the cache has it. It is the markup that a call of the library returns.
     pub fn held(&self, formula: &str, display: DisplayStyle) -> Option<&String>
         requires { IsSound self.now }
         ensures held { option_map (λ markup. string_bytes markup.now) result
@@ -40,7 +40,8 @@ impl Cache {
         }
     }
 
-    /// The markup of the formula, which the cache holds from then on.
+    /// Returns the markup of the formula, and keeps it in the cache. On an error, which is the refusal of the formula or out of
+    /// memory, the cache still has only renderings.
     pub fn markup(
         &mut self,
         alloc: Global,
@@ -62,7 +63,8 @@ impl Cache {
     }
 }
 
-/// The markup of the formula, from the map where it has it, and else from a call, and into the map then.
+/// Returns the markup of the formula: from the map if it is there, and otherwise from a call, whose result is put into the
+/// map.
 fn kept(
     alloc: Global,
     map: &mut HashMap<String, String>,

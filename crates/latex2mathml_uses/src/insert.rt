@@ -1,14 +1,15 @@
-//! A page that is built from its front, and a document in a page.
+//! A page that grows at its end, and a document in a page.
 ghost use Rattle.std.specs.Prelude.{◌≡◌, ℕ, List, ◌++◌, IfOk, OnErr, OnOk, codes, string_bytes};
 ghost use Rattle.latex2mathml.specs.Documents.{IsAnswer, IsRefusal};
-ghost use Rattle.latex2mathml.specs.Surroundings.{HasPageProse};
+ghost use Rattle.latex2mathml.specs.DocumentLaws.{HasElements};
+ghost use Rattle.latex2mathml.specs.Surroundings.{HasBalancedProse, HasPageProse};
 ghost use Rattle.latex2mathml.specs.Elements.{IsBalanced, IsPage};
 ghost use Rattle.latex2mathml.specs.Formulas.{IfRefused, IsFormulaRefusal, IsRendering};
 
 use latex2mathml::{DisplayStyle, LatexError, latex_to_mathml, laws, replace};
 use std::alloc::Global;
 
-/// A page that holds nothing yet.
+/// Returns an empty page.
 pub fn blank(alloc: Global) -> String
     ensures { IsBalanced (string_bytes result) }
 {
@@ -16,8 +17,8 @@ pub fn blank(alloc: Global) -> String
     String::new(alloc)
 }
 
-/// Puts a user-supplied formula at the end of a page. Whatever it says, a page whose tags balance stays so, and if the
-/// formula is refused the page stays as it is.
+/// Appends a user-supplied formula to a page whose tags balance. They balance afterwards, whatever the formula is. On an error,
+/// which is the refusal of the formula or out of memory, the page is unchanged.
 pub fn insert(
     alloc: Global,
     page: &mut String,
@@ -37,7 +38,7 @@ pub fn insert(
     Ok(())
 }
 
-/// A document as an article of a page. Where the prose is that of a page, around whatever its formulas are, so is the
+/// Returns a converted document as an article of a page. If the prose around the formulas is that of a page, so is the
 /// article: its tags balance, and each `math` element in it obeys the child table.
 pub fn article(alloc: Global, document: &str) -> Result<String, LatexError>
     requires { HasPageProse document.now }
@@ -50,4 +51,19 @@ pub fn article(alloc: Global, document: &str) -> Result<String, LatexError>
     laws::joined_markup();
     let answer = replace(alloc, document)?;
     Ok(format!(in alloc; "<article>{answer}</article>")?)
+}
+
+/// Returns the answer of a document as a quotation. Each formula in it is one `math` element. The tags of the prose balance
+/// around the formulas, so those of the quotation balance too.
+pub fn quotation(alloc: Global, document: &str) -> Result<String, LatexError>
+    requires { HasBalancedProse document.now }
+    ensures elements { IfOk result (λ quotation. (answer : List ℕ) × HasElements document.now answer
+        × (string_bytes quotation ≡ codes "<blockquote>" ++ (answer ++ codes "</blockquote>"))) }
+    ensures balanced { IfOk result (λ quotation. IsBalanced (string_bytes quotation)) }
+    ensures refusal { IfRefused result (IsRefusal document.now) }
+{
+    laws::answers();
+    laws::joined_markup();
+    let answer = replace(alloc, document)?;
+    Ok(format!(in alloc; "<blockquote>{answer}</blockquote>")?)
 }

@@ -1,14 +1,16 @@
-//! Callers of the library, each proved from the library's public contracts alone. They are the README's examples, and
-//! `docs/CALLING.md` says which contract each stands on.
+//! Example callers of the library, each proved from the library's public contracts alone. `docs/CALLING.md` says which
+//! contracts each one uses.
 #![tactic(auto)]
 
 pub mod build;
 pub mod cache;
+pub mod check;
 pub mod insert;
 pub mod limit;
 pub mod page;
 pub mod put;
 pub mod refusal;
+pub mod store;
 pub mod symbol;
 #[cfg(test)]
 mod tests;

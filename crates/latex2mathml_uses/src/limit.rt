@@ -6,7 +6,8 @@ ghost use Rattle.latex2mathml_uses.specs.Limited.{HasTokenCount};
 use latex2mathml::{DisplayStyle, LatexError, latex_to_mathml_counted};
 use std::alloc::Global;
 
-/// The markup of a formula of at most so many tokens, or nothing where it has more.
+/// Returns the markup of a formula of at most `most` tokens, or `None` if the formula has more. An error is the refusal of the
+/// formula, or out of memory.
 pub fn limited(
     alloc: Global,
     formula: &str,
@@ -16,7 +17,7 @@ pub fn limited(
     ensures rendering { IfOk result (λ taken. IfSome taken (λ markup.
         IsRendering formula.now display (string_bytes markup))) }
 
-    // It is taken where the formula has no more tokens than the limit says, and not where it has more.
+    // There is markup exactly if the formula has at most so many tokens.
     ensures limit { IfOk result (λ taken. (count : ℕ) × HasTokenCount formula.now count
         × MatchOption taken (most < count) (λ _. count ≤ most)) }
     ensures refusal { IfRefused result (IsFormulaRefusal formula.now) }

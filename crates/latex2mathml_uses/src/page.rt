@@ -7,7 +7,7 @@ use latex2mathml::ast::Node;
 use latex2mathml::{DisplayStyle, LatexError, latex_to_mathml};
 use std::alloc::{AllocError, Global};
 
-/// A paragraph that holds the formula, set in a block of its own.
+/// Returns a paragraph with the formula in a block of its own. An error is the refusal of the formula, or out of memory.
 pub fn paragraph(alloc: Global, formula: &str) -> Result<String, LatexError>
     ensures paragraph { IfOk result (λ page. (markup : List ℕ)
         × IsRendering formula.now Block markup
@@ -18,8 +18,8 @@ pub fn paragraph(alloc: Global, formula: &str) -> Result<String, LatexError>
     Ok(format!(in alloc; "<p>{markup}</p>")?)
 }
 
-/// What stands in a page for a user-supplied formula: its markup in a line of text, or, if it is refused, the reason,
-/// escaped as a node's text is.
+/// Returns what a page shows for a user-supplied formula: its markup for a line of text or, if it is refused, the escaped
+/// reason. The only error is out of memory.
 pub fn shown(alloc: Global, formula: &str) -> Result<String, LatexError>
     ensures { IfOk result (λ shown. IsShown formula.now (string_bytes shown)) }
 {
@@ -30,7 +30,7 @@ pub fn shown(alloc: Global, formula: &str) -> Result<String, LatexError>
     }
 }
 
-/// The text of a refusal as markup.
+/// Returns the text of a refusal as markup.
 fn reason(alloc: Global, refusal: &LatexError) -> Result<String, AllocError>
     ensures { IfOk result (λ shown.
         string_bytes shown ≡ reason_print (error_text (refusal_of refusal.now))) }

@@ -1,11 +1,12 @@
-//! A text put out to a writer.
+//! A text written to a writer.
 ghost use Rattle.std.specs.Prelude.{OnOk};
 ghost use Rattle.std.specs.Io.KnownBytes.{Appends};
 
 use latex2mathml::{FileFault, Stream, write_text};
 use std::io::Write;
 
-/// Puts out the whole text to a writer. What the writer had taken before stays before it.
+/// Writes the whole text to a writer, after what the writer took before. Returns the writer and the result. On an error the writer
+/// took the first bytes of the text, as many as the error says.
 pub fn put<W: Write>(writer: W, text: &str) -> (W, Result<(), FileFault>)
     ensures { OnOk result.1 (Appends (W.contents writer) (W.contents result.0) text.now) }
 {

@@ -1,4 +1,4 @@
-//! Refusals, and what an author is to mend.
+//! Refusals, and what an author has to correct.
 ghost use Rattle.std.specs.Prelude.{◌≡◌, ◌≢◌, ◌↔◌, Some, ℕ, List, IfOk, MatchOption};
 ghost use Rattle.latex2mathml.specs.Documents.{HasNoCut, IsAnswer, IsRefusal};
 ghost use Rattle.latex2mathml.specs.Formulas.{Refusal, IsFormulaRefusal, IsRendering, Inline};
@@ -8,20 +8,21 @@ ghost use Rattle.latex2mathml_uses.specs.declared.refusal.Mistake.TheVariants.{D
 use latex2mathml::{DisplayStyle, LatexError, latex_to_mathml, laws, replace};
 use std::alloc::{AllocError, Global};
 
-/// What an author is to mend.
+/// What an author has to correct.
 #[derive(Debug, Clone, Copy, PartialEq, Eq)]
 pub enum Mistake {
     /// A group that is not closed, or a size without a parenthesis.
     Unfinished,
-    /// A fence, or what is stretched between two, that is none.
+    /// A missing fence, or a missing operator to stretch.
     Fence,
-    /// An environment that there is not.
+    /// An unknown environment.
     Environment,
-    /// Dollar signs that do not mark off formulas.
+    /// Dollar signs that do not pair.
     Dollars,
 }
 
-/// What is to be mended in a formula, or nothing where it has markup. It is never a dollar sign: those are a document's.
+/// Returns the mistake in a formula, or `None` if the formula has markup. It is never [`Mistake::Dollars`]. The only error is
+/// out of memory.
 pub fn in_formula(alloc: Global, formula: &str) -> Result<Option<Mistake>, AllocError>
     ensures told { IfOk result (λ found. MatchOption found
         ((markup : List ℕ) × IsRendering formula.now Inline markup)
@@ -38,8 +39,8 @@ pub fn in_formula(alloc: Global, formula: &str) -> Result<Option<Mistake>, Alloc
     }
 }
 
-/// What is to be mended in a document, or nothing where it has an answer. It is a dollar sign exactly where the document
-/// cannot be cut into prose and formulas.
+/// Returns the first mistake in a document, or `None` if the document has an answer. It is [`Mistake::Dollars`] exactly if the
+/// document cannot be cut into prose and formulas. The only error is out of memory.
 pub fn in_document(alloc: Global, document: &str) -> Result<Option<Mistake>, AllocError>
     ensures told { IfOk result (λ found. MatchOption found
         ((answer : List ℕ) × IsAnswer document.now answer)

@@ -6,7 +6,8 @@ ghost use Rattle.latex2mathml_uses.specs.Symbols.{symbol_of};
 use latex2mathml::token::Token;
 use std::alloc::{AllocError, Global};
 
-/// The character that a command such as `alpha` or `to` stands for, where it stands for a letter or an operator.
+/// Returns the character of a command such as `alpha` or `to`, or `None` if the command is neither a letter nor an operator.
+/// The only error is out of memory.
 pub fn symbol(alloc: Global, command: &str) -> Result<Option<char>, AllocError>
     ensures { IfOk result (λ found. found ≡ symbol_of (command_token command.now)) }
 {

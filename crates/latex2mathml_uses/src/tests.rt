@@ -1,7 +1,8 @@
 //! Each caller once, with memory to spare.
-use crate::build::{built_twice, rewritten};
+use crate::build::{built_twice, rewritten, template};
 use crate::cache::Cache;
-use crate::insert::{blank, insert};
+use crate::check;
+use crate::insert::{article, blank, insert, quotation};
 use crate::limit::limited;
 use crate::page::{paragraph, shown};
 use crate::put::put;
@@ -75,6 +76,21 @@ fn what_is_inserted(rt: HostRuntime) -> Result<(), Fail> {
 }
 
 #[test]
+fn a_document_between_tags(rt: HostRuntime) -> Result<(), Fail> {
+    let page = article(rt.alloc(), "<p>$x$</p>")?;
+    assert!(rt;
+        page.as_str()
+            == "<article><p><math xmlns=\"http://www.w3.org/1998/Math/MathML\" display=\"inline\"><mi>x</mi></math></p></article>"
+    );
+    let page = quotation(rt.alloc(), "$$x$$")?;
+    assert!(rt;
+        page.as_str()
+            == "<blockquote><math xmlns=\"http://www.w3.org/1998/Math/MathML\" display=\"block\"><mi>x</mi></math></blockquote>"
+    );
+    Ok(())
+}
+
+#[test]
 fn sections_that_are_joined(rt: HostRuntime) -> Result<(), Fail> {
     let first = converted(rt.alloc(), "One is $x$, ")?;
     let second = converted(rt.alloc(), "and \\$2.")?;
@@ -102,6 +118,22 @@ fn a_build_that_runs_twice(rt: HostRuntime) -> Result<(), Fail> {
     assert!(rt; first == Some(page));
     let second = rewritten(rt.alloc(), &mut Stream::new(b"<math></math>".as_slice()))?;
     assert!(rt; second == None);
+    Ok(())
+}
+
+#[test]
+fn what_a_template_is_made_of(rt: HostRuntime) -> Result<(), Fail> {
+    let page = template(rt.alloc(), &mut Stream::new(b"\\$x".as_slice()))?;
+    assert!(rt; page.as_str() == "&#x24;x");
+    let page = template(rt.alloc(), &mut Stream::new(b"x".as_slice()))?;
+    assert!(rt; page.as_str() == "x");
+    Ok(())
+}
+
+#[test]
+fn what_is_checked(rt: HostRuntime) -> Result<(), Fail> {
+    assert!(rt; check::has_markup(rt.alloc(), "x", DisplayStyle::Inline)?);
+    assert!(rt; !check::has_markup(rt.alloc(), "{x", DisplayStyle::Inline)?);
     Ok(())
 }
 

@@ -5,22 +5,22 @@ ghost use Rattle.latex2mathml.specs.Documents.{IsAnswer, IsRefusal};
 ghost use Rattle.latex2mathml.specs.DocumentLaws.{EndsInOddBackslashes};
 ghost use Rattle.latex2mathml.specs.Dollars.{backslash};
 ghost use Rattle.latex2mathml.specs.Formulas.{IfRefused};
-ghost use Rattle.latex2mathml_uses.specs.Sections.{IsConverted};
+ghost use Rattle.latex2mathml_uses.specs.Sections.{ShowsAnswer};
 
 use latex2mathml::{LatexError, laws, replace};
 use std::alloc::{AllocError, Global};
 
-/// A section as its author wrote it, and as it is shown.
+/// A section: the text of its author, and the converted text.
 #[derive(Drop)]
 pub struct Section {
     pub source: String,
     pub shown: String,
 }
 
-/// The section of a source.
+/// Converts a source to a section. An error is the refusal of the source, or out of memory.
 pub fn converted(alloc: Global, source: &str) -> Result<Section, LatexError>
     ensures source { IfOk result (λ section. string_bytes section.source ≡ source.now) }
-    ensures shown { IfOk result IsConverted }
+    ensures shown { IfOk result ShowsAnswer }
     ensures refusal { IfRefused result (IsRefusal source.now) }
 {
     let shown = replace(alloc, source)?;
@@ -28,15 +28,15 @@ pub fn converted(alloc: Global, source: &str) -> Result<Section, LatexError>
     Ok(Section { source, shown })
 }
 
-/// Two sections as one, without converting either again: what is shown is the answer for both sources, one behind the
-/// other. No memory but that for the texts is wanted, and nothing is refused.
+/// Joins two sections without converting either again: the text shown is the answer for the joined sources. The first source
+/// must not end in an odd number of backslashes ([`ends_open`]). The only error is out of memory.
 pub fn joined(alloc: Global, first: &Section, second: &Section) -> Result<Section, AllocError>
-    requires first { IsConverted first.now }
-    requires second { IsConverted second.now }
+    requires first { ShowsAnswer first.now }
+    requires second { ShowsAnswer second.now }
     requires whole { ¬ EndsInOddBackslashes (string_bytes first.now.source) }
     ensures source { IfOk result (λ section.
         string_bytes section.source ≡ string_bytes first.now.source ++ string_bytes second.now.source) }
-    ensures shown { IfOk result IsConverted }
+    ensures shown { IfOk result ShowsAnswer }
 {
     laws::joined(first.source.as_str(), second.source.as_str());
     let source = format!(in alloc; "{}{}", first.source, second.source)?;
@@ -44,14 +44,14 @@ pub fn joined(alloc: Global, first: &Section, second: &Section) -> Result<Sectio
     Ok(Section { source, shown })
 }
 
-/// Whether a backslash at the end of the text would take the first character of what follows.
+/// Returns whether a backslash at the end of the text would take the first character of a text after it.
 pub fn ends_open(text: &str) -> bool
     ensures { IsTrue result ↔ EndsInOddBackslashes text.now }
 {
     trailing_backslashes(text) % 2 == 1
 }
 
-/// How many backslashes stand at the end of the text.
+/// Returns the number of backslashes at the end of the text.
 fn trailing_backslashes(text: &str) -> usize
     ensures { result ≡ suffix_len (λ b. b == backslash) text.now }
 {

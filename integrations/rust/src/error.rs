@@ -5,9 +5,9 @@ use std::fmt;
 #[derive(Debug, Clone, PartialEq, Eq)]
 #[non_exhaustive]
 pub enum LatexError {
-    /// The text is refused. The reason may quote it, so escape it before it goes into HTML.
+    /// The text is refused. The reason may quote it, so escape it in HTML.
     Refused(String),
-    /// Memory was not found. The same call may succeed later.
+    /// Memory ran out. The same call may succeed later.
     OutOfMemory,
 }
 

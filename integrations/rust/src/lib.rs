@@ -1,4 +1,4 @@
-//! LaTeX formulas to MathML: the calls of the crate `latex2mathml` 0.2.3, answered by the proved library.
+//! LaTeX formulas to MathML: the calls of the crate `latex2mathml` 0.2.3, over the proved library.
 //!
 //! ```
 //! use latex2mathml::{latex_to_mathml, DisplayStyle};
@@ -11,8 +11,8 @@
 //! # Ok::<(), latex2mathml::LatexError>(())
 //! ```
 //!
-//! Any text may be handed in, whoever wrote it. However deep it is nested, a call returns and takes no more than
-//! 128 KiB of the stack, and any number of threads may call at once.
+//! Any text may be passed, also from untrusted authors. However deeply it is nested, a call returns and needs at most
+//! 128 KiB of the stack. Any number of threads may call at once.
 
 use std::fmt;
 
@@ -21,7 +21,7 @@ mod error;
 
 pub use error::LatexError;
 
-/// Where a formula stands.
+/// Where a formula is shown.
 #[derive(Debug, Clone, Copy, PartialEq, Eq)]
 pub enum DisplayStyle {
     /// In a block of its own.
@@ -39,13 +39,13 @@ impl fmt::Display for DisplayStyle {
     }
 }
 
-/// Returns the `math` element of one formula, which has no dollar signs around it.
+/// Returns the `math` element of one formula, which has no dollar signs around it. An unknown command is not an error:
+/// it is marked in the markup, as `[PARSE ERROR: ..]`.
 ///
 /// # Errors
 ///
-/// [`LatexError::Refused`] where the formula has no reading, as where a brace is never closed. A command that is not known
-/// is no such error: it is marked in the markup, as `[PARSE ERROR: ..]`. [`LatexError::OutOfMemory`] where memory was not
-/// found.
+/// [`LatexError::Refused`] if the formula cannot be read, for example because a brace is not closed.
+/// [`LatexError::OutOfMemory`] if memory runs out.
 ///
 /// # Examples
 ///
@@ -62,15 +62,15 @@ pub fn latex_to_mathml(latex: &str, display: DisplayStyle) -> Result<String, Lat
     call::formula(latex, display == DisplayStyle::Block)
 }
 
-/// Returns the document with the `math` element of each formula in the formula's place, and its prose byte for byte, but
-/// for `\$`, which becomes `&#x24;`.
+/// Returns the document with each formula replaced by its `math` element. Its prose is unchanged, except that `\$` becomes
+/// `&#x24;`.
 ///
-/// A formula stands between single dollar signs, for a line of text, or between double ones, in a block of its own.
+/// A formula is between single dollar signs, for a line of text, or between double ones, for a block of its own.
 ///
 /// # Errors
 ///
-/// [`LatexError::Refused`] where the dollar signs do not pair, and else where a formula is refused, with the reason of the
-/// first one. [`LatexError::OutOfMemory`] where memory was not found.
+/// [`LatexError::Refused`] if the dollar signs do not pair, and otherwise for the first formula that is refused.
+/// [`LatexError::OutOfMemory`] if memory runs out.
 ///
 /// # Examples
 ///

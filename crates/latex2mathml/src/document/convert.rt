@@ -4,8 +4,9 @@ ghost use Rattle.latex2mathml.specs.Pieces.{piece_of};
 ghost use Rattle.latex2mathml.specs.Documents.{HasCut, HasNoCut, IsAnswer, IsPiece, IsPlain, IsRefusal, PieceAnswer, PieceRefuses, prose_answer};
 ghost use Rattle.latex2mathml_tokens.specs.Refusal.{IfRefused, InvalidNumberOfDollarSigns, refusal_of};
 
+use crate::document::plain::Plain;
 use crate::document::{NoCut, Piece, Pieces, check_cut};
-use latex2mathml_formulas::append_formula;
+use latex2mathml_formulas::Converter;
 use latex2mathml_tokens::{DisplayStyle, LatexError};
 use std::alloc::{AllocError, Global};
 
@@ -25,9 +26,10 @@ pub(crate) fn converted(alloc: Global, document: &str) -> Result<String, LatexEr
     ensures refusal { IfRefused result (IsRefusal document.now) }
 {
     let mut answer = String::new(alloc);
+    let mut formulas = Converter::new(alloc);
     for piece in Pieces::new(document) {
         let piece = piece?;
-        if let Err(error) = append_piece(alloc, &mut answer, piece) {
+        if let Err(error) = append_piece(&mut formulas, &mut answer, piece) {
             return Err(refusal(document, error));
         }
     }
@@ -47,7 +49,11 @@ fn refusal(document: &str, error: LatexError) -> LatexError
 }
 
 /// Puts what becomes of a piece behind the text.
-fn append_piece(alloc: Global, text: &mut String, piece: Piece<'_>) -> Result<(), LatexError>
+fn append_piece<'a>(
+    formulas: &mut Converter<'a>,
+    text: &mut String,
+    piece: Piece<'a>,
+) -> Result<(), LatexError>
     requires { IsPiece (piece_of piece) }
     ensures answer { OnOk result ((answer : List ℕ) × PieceAnswer (piece_of piece.entry) answer
         × (string_bytes text.new ≡ string_bytes text.old ++ answer)) }
@@ -55,14 +61,25 @@ fn append_piece(alloc: Global, text: &mut String, piece: Piece<'_>) -> Result<()
 {
     match piece {
         Piece::Prose(prose) => append_prose(text, prose)?,
-        Piece::Inline(body) => append_formula(alloc, text, body, DisplayStyle::Inline)?,
-        Piece::Display(body) => append_formula(alloc, text, body, DisplayStyle::Block)?,
+        Piece::Inline(body) => formulas.append(text, body, DisplayStyle::Inline)?,
+        Piece::Display(body) => formulas.append(text, body, DisplayStyle::Block)?,
     }
     Ok(())
 }
 
 /// Puts prose behind the text, with a reference for each dollar sign that a backslash takes.
-fn append_prose(text: &mut String, prose: &str) -> Result<(), AllocError>
+fn append_prose(text: &mut String, prose: Plain<'_>) -> Result<(), AllocError>
+    requires { IsPlain prose.text.now }
+    ensures { OnOk result (string_bytes text.new ≡ string_bytes text.old ++ prose_answer prose.entry.text.now) }
+{
+    if prose.may_hold_dollar {
+        return append_escaped(text, prose.text);
+    }
+    text.push_str(prose.text)
+}
+
+/// The same of any prose.
+fn append_escaped(text: &mut String, prose: &str) -> Result<(), AllocError>
     requires { IsPlain prose.now }
     ensures { OnOk result (string_bytes text.new ≡ string_bytes text.old ++ prose_answer prose.now) }
 {

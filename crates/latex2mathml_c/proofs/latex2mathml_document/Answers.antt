@@ -1,4 +1,4 @@
-use Rattle.latex2mathml_c.specs.declared.Conversion.TheVariants.{Document}
+use Rattle.latex2mathml_c.specs.declared.Job.TheVariants.{Document}
 use Rattle.latex2mathml_c.proofs.Texts.{needed_length}
 use Rattle.latex2mathml_c.proofs.latex2mathml_document.Goals as goal
 

@@ -1,4 +1,4 @@
-use Rattle.latex2mathml_formulas.proofs.Accounts.{comparison_count, frame_count, refused, refused_otherwise, rendered, token_count, tokens_within_text}
+use Rattle.latex2mathml_formulas.proofs.Accounts.{comparison_count, frame_count, refusal_count, refused, refused_otherwise, rendered, token_count, tokens_within_text}
 use Rattle.latex2mathml_formulas.proofs.MathElements.{answered_is_math}
 use Rattle.latex2mathml_formulas.proofs.latex_to_mathml_counted.Goals as goal
 
@@ -21,7 +21,10 @@ pub returns-clause-length : goal.returns-clause-length
 returns-clause-length c = tokens_within_text c.args.latex.now _ _ c.utf8.latex (token_count _ c.math-result.result _ _ _ c.new-parser.ensures.list c.new-parser.ensures.tokens c.math-result.ensures.counted.counts c.math-result.ensures.all c.tokens.ensures)
 
 pub returns-clause-comparisons : goal.returns-clause-comparisons
-returns-clause-comparisons c = comparison_count _ c.math-result.result _ _ _ c.new-parser.ensures.backslashes c.new-parser.ensures.comparisons c.math-result.ensures.counted.counts c.math-result.ensures.all c.comparisons.ensures.at_end c.comparisons.ensures.same
+returns-clause-comparisons c = comparison_count _ _ _ _ _ c.new-parser.ensures.slices c.new-parser.ensures.tokens c.new-parser.ensures.backslashes c.new-parser.ensures.comparisons c.math-result.ensures.counted.counts c.comparisons.ensures.left c.tokens.ensures c.comparisons.ensures.same
 
 pub returns-clause-frames : goal.returns-clause-frames
 returns-clause-frames c = frame_count _ _ _ _ _ _ c.new-parser.ensures.list c.new-parser.ensures.tokens c.new-parser.ensures.greatest c.math-result.ensures.counted.frames c.tokens.ensures
+
+pub returns-clause-refused_within : goal.returns-clause-refused_within
+returns-clause-refused_within c = refusal_count _ c.math-result.result _ _ _ c.new-parser.ensures.list c.new-parser.ensures.tokens c.math-result.ensures.counted.counts c.math-result.ensures.within c.tokens.ensures

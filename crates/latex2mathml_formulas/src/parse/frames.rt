@@ -221,6 +221,15 @@ impl<'a> Frames<'a> {
         }
     }
 
+    /// Drops all frames, and keeps their room. Counting begins anew.
+    pub(crate) fn clear(&mut self)
+        ensures empty { self.new.stack.items ≡ [] }
+        ensures greatest { self.new.greatest ≡ 0 }
+    {
+        self.stack.clear();
+        self.greatest = 0;
+    }
+
     /// Opens a frame.
     pub(crate) fn open(&mut self, frame: Frame<'a>) -> Result<(), AllocError>
         requires { unfit frame ≡ 0 }

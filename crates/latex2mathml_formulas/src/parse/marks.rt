@@ -4,7 +4,7 @@ ghost use Rattle.std.specs.Prelude.{◌≡◌, ◌+◌, IfOk, List, Some};
 ghost use Rattle.latex2mathml_formulas.specs.Grammar.{core as a_core, first, prime, single as a_single};
 ghost use Rattle.latex2mathml_formulas.specs.Levels.{Made};
 ghost use Rattle.latex2mathml_formulas.specs.Marks.{sign_token};
-ghost use Rattle.latex2mathml_formulas.specs.Steps.{Counted, Follows, HasTrees, Holds, last_read, level, to_do};
+ghost use Rattle.latex2mathml_formulas.specs.Steps.{Counted, Follows, HasTrees, Holds, last_tree_read, level, to_do};
 ghost use Rattle.latex2mathml_tokens.specs.Tok.{Tok};
 
 use crate::parse::frames::{Due, Frame};
@@ -17,7 +17,7 @@ impl<'a> Parser<'a> {
     /// Goes on after a core, with a prime or a script if one follows.
     pub(crate) fn after_core(&mut self) -> Result<State, AllocError>
         requires { HasTrees 1 self.old }
-        ensures holds { (input : List Tok) → Made a_core (level 1 input self.old) (last_read self.old) → IfOk result (Holds input self.new) }
+        ensures holds { (input : List Tok) → Made a_core (level 1 input self.old) (last_tree_read self.old) → IfOk result (Holds input self.new) }
         ensures counted { Counted 0 self.old self.new }
         ensures follows { IfOk result (Follows (to_do self.old + 4) self.new) }
     {
@@ -34,7 +34,7 @@ impl<'a> Parser<'a> {
     fn after_prime(&mut self) -> Result<State, AllocError>
         requires prime { first self.old.reader.list ≡ Some prime }
         requires trees { HasTrees 1 self.old }
-        ensures holds { (input : List Tok) → Made a_core (level 1 input self.old) (last_read self.old) → IfOk result (Holds input self.new) }
+        ensures holds { (input : List Tok) → Made a_core (level 1 input self.old) (last_tree_read self.old) → IfOk result (Holds input self.new) }
         ensures counted { Counted 0 self.old self.new }
         ensures follows { IfOk result (Follows (to_do self.old + 4) self.new) }
     {
@@ -49,7 +49,7 @@ impl<'a> Parser<'a> {
     /// Goes on after a single, with a script if one follows.
     fn after_single(&mut self) -> Result<State, AllocError>
         requires { HasTrees 1 self.old }
-        ensures holds { (input : List Tok) → Made a_single (level 1 input self.old) (last_read self.old) → IfOk result (Holds input self.new) }
+        ensures holds { (input : List Tok) → Made a_single (level 1 input self.old) (last_tree_read self.old) → IfOk result (Holds input self.new) }
         ensures counted { Counted 0 self.old self.new }
         ensures follows { IfOk result (Follows (to_do self.old + 4) self.new) }
     {
@@ -66,7 +66,7 @@ impl<'a> Parser<'a> {
     fn after_sign(&mut self, sign: Sign) -> Result<State, AllocError>
         requires sign { first self.old.reader.list ≡ Some (sign_token sign) }
         requires trees { HasTrees 1 self.old }
-        ensures holds { (input : List Tok) → Made a_single (level 1 input self.old) (last_read self.old) → IfOk result (Holds input self.new) }
+        ensures holds { (input : List Tok) → Made a_single (level 1 input self.old) (last_tree_read self.old) → IfOk result (Holds input self.new) }
         ensures counted { Counted 0 self.old self.new }
         ensures follows { IfOk result (Follows (to_do self.old + 4) self.new) }
     {

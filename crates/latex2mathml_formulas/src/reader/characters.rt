@@ -35,9 +35,39 @@ pub(crate) fn is_space(c: char) -> bool
     c == ' ' || c == '\t' || c == '\n' || c == '\r'
 }
 
+/// The first character, if it is ASCII, and what follows it.
+#[inline(always)]
+pub(crate) fn first_ascii(text: &str) -> Option<(char, &str)>
+    ensures first { IfSome result (λ found. chars text.now ≡ found.0 ∷ chars found.1.now) }
+    ensures utf8 { IfSome result (λ found. IsUtf8 found.1.now) }
+{
+    let Some(&byte) = text.as_bytes().first() else {
+        return None;
+    };
+    if byte >= 128 {
+        return None;
+    }
+    let (_, rest) = text.split_at(1);
+    Some((char::from(byte), rest))
+}
+
 /// The first character and what follows it.
-#[tactic(auto, using(std::proofs::lemmas::Str::chars_past_char))]
+#[inline(always)]
 pub(crate) fn first_char(text: &str) -> Option<(char, &str)>
+    ensures first { MatchOption result (chars text.now ≡ [])
+        (λ found. chars text.now ≡ found.0 ∷ chars found.1.now) }
+    ensures utf8 { IfSome result (λ found. IsUtf8 found.1.now) }
+{
+    match first_ascii(text) {
+        Some(found) => Some(found),
+        None => decode(text),
+    }
+}
+
+/// The first character and what follows it, however many bytes it has.
+#[inline(never)]
+#[tactic(auto, using(std::proofs::lemmas::Str::chars_past_char))]
+fn decode(text: &str) -> Option<(char, &str)>
     ensures first { MatchOption result (chars text.now ≡ [])
         (λ found. chars text.now ≡ found.0 ∷ chars found.1.now) }
     ensures utf8 { IfSome result (λ found. IsUtf8 found.1.now) }
@@ -57,27 +87,16 @@ pub(crate) fn after_char(text: &str, c: char) -> Option<&str>
     if first == c { Some(rest) } else { None }
 }
 
-/// The longest run of characters of a class at the start of the text, and what follows it.
-pub(crate) fn split_run(class: Class, text: &str) -> (&str, &str)
-    ensures run { IsLongestRun (in_class class)
-        (chars text.now) (chars result.0.now) (chars result.1.now) }
-    ensures utf8 { IsUtf8 result.0.now × IsUtf8 result.1.now }
-{
-    match text.find(|c: char| !class.contains(c)) {
-        Some(at) => text.split_at(at),
-        None => (text, ""),
-    }
-}
-
-/// What stands behind the white space at the start of the text.
-pub(crate) fn skip_space(text: &str) -> &str
-    ensures run { (space : List ℕ) ×
-        IsLongestRun Characters.is_space (chars text.now) space (chars result.now) }
+/// What stands behind the longest run of characters of a class at the start of the text.
+#[inline(always)]
+pub(crate) fn skip_run(class: Class, text: &str) -> &str
+    ensures run { (front : List ℕ) ×
+        IsLongestRun (in_class class) (chars text.now) front (chars result.now) }
     ensures utf8 { IsUtf8 result.now }
 {
     let mut rest = text;
     while let Some((c, after)) = first_char(rest) {
-        if !is_space(c) {
+        if !class.contains(c) {
             return rest;
         }
         rest = after;
@@ -85,7 +104,18 @@ pub(crate) fn skip_space(text: &str) -> &str
     rest
 }
 
+/// What stands behind the white space at the start of the text.
+#[inline(never)]
+pub(crate) fn skip_space(text: &str) -> &str
+    ensures run { (space : List ℕ) ×
+        IsLongestRun Characters.is_space (chars text.now) space (chars result.now) }
+    ensures utf8 { IsUtf8 result.now }
+{
+    skip_run(Class::Space, text)
+}
+
 /// What stands in the text before its end `rest`.
+#[inline(always)]
 pub(crate) fn before<'a>(text: &'a str, rest: &str) -> &'a str
     requires { (front : List ℕ) × (chars text.now ≡ front ++ chars rest.now) }
     ensures { (front : List ℕ) → chars text.now ≡ front ++ chars rest.now

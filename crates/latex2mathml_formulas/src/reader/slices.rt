@@ -1,17 +1,15 @@
 //! The slice at the start of a text, and the lexeme that it is.
-ghost use Rattle.std.specs.Prelude.{◌≡◌, ◌≢◌, ◌≤◌, ◌∷◌, [], Bool, false, Some, MatchOption, if◌then◌else◌};
-ghost use Rattle.std.specs.Char.{is_ascii_alphabetic, is_ascii_digit};
+ghost use Rattle.std.specs.Prelude.{◌≡◌, ◌≢◌, ◌≤◌, ◌∷◌, ◌||◌, [], Bool, false, not, Some, MatchOption};
+ghost use Rattle.std.specs.Char.{is_ascii_digit};
 ghost use Rattle.std.specs.Str.{byte, chars, IsUtf8};
 ghost use Rattle.latex2mathml_formulas.specs.Characters.{Begins, is_space};
-ghost use Rattle.latex2mathml_formulas.specs.Lexing.{BeginsWith, IsStart};
+ghost use Rattle.latex2mathml_formulas.specs.Lexing.{BeginsWith, BeginsWithName, BeginsWithNumber, IsStart};
 ghost use Rattle.latex2mathml_formulas.specs.Spelling;
 ghost use Rattle.latex2mathml_formulas.specs.Spelling.{begins_longer, character_token};
-ghost use Rattle.latex2mathml_tokens.specs.Commands.{command_token};
 ghost use Rattle.latex2mathml_tokens.specs.Lexemes.{lexeme_tok};
-ghost use Rattle.latex2mathml_tokens.specs.declared.attribute.Variant.TheVariants.{Italic, Normal};
 
 use crate::reader::characters::{
-    Class, after_char, before, first_char, is_space, skip_space, split_run,
+    Class, after_char, before, first_char, is_space, skip_run, skip_space,
 };
 use latex2mathml_tokens::attribute::Variant;
 use latex2mathml_tokens::lexeme::Lexeme;
@@ -30,6 +28,7 @@ pub(crate) struct Start<'a> {
 
 /// Finds where the next slice of the text begins, behind white space. `takes` says that a digit that follows directly is
 /// a number of its own.
+#[inline(always)]
 pub(crate) fn find_start<'a>(text: &'a str, takes: bool) -> Start<'a>
     ensures start { IsStart takes (chars text.now) (chars result.text.now) result.alone }
     ensures first { MatchOption result.first (chars result.text.now ≡ [])
@@ -104,12 +103,22 @@ fn colon<'a>(text: &'a str) -> (Lexeme<'a>, &'a str)
     }
 }
 
+/// Whether the character is a slice, whatever stands around it.
+pub(crate) fn stands_alone(c: char) -> bool
+    ensures { result ≡ not (begins_longer c || is_space c) }
+{
+    !(c.is_ascii_digit() || c == '\\' || c == ':' || is_space(c))
+}
+
 /// The lexeme of a character that stands for itself.
-fn character(c: char) -> Lexeme<'static>
+pub(crate) fn character(c: char) -> Lexeme<'static>
     requires { begins_longer c ≡ false }
     ensures lexeme { lexeme_tok result ≡ character_token c }
     ensures no_digit { Spelling.takes_digit (Some (lexeme_tok result)) ≡ false }
 {
+    if c.is_ascii_alphabetic() {
+        return Lexeme::Letter(c, Variant::Italic);
+    }
     match c {
         '=' | '<' | '>' | '+' | '-' | '*' | '/' => Lexeme::Operator(c),
         ';' | ',' | '.' | '!' | '\'' => Lexeme::Operator(c),
@@ -124,18 +133,7 @@ fn character(c: char) -> Lexeme<'static>
         '^' => Lexeme::Circumflex,
         '&' => Lexeme::Ampersand,
         '\u{0}' => Lexeme::Illegal('\u{0}'),
-        c => Lexeme::Letter(c, variant_of(c)),
-    }
-}
-
-/// The style in which a letter stands: ASCII letters are italic.
-fn variant_of(c: char) -> Variant
-    ensures { result ≡ (if is_ascii_alphabetic c then Italic else Normal) }
-{
-    if c.is_ascii_alphabetic() {
-        Variant::Italic
-    } else {
-        Variant::Normal
+        c => Lexeme::Letter(c, Variant::Normal),
     }
 }
 
@@ -146,13 +144,21 @@ fn number<'a>(text: &'a str) -> (Lexeme<'a>, &'a str)
     ensures no_digit { Spelling.takes_digit (Some (lexeme_tok result.0)) ≡ false }
     ensures utf8 { IsUtf8 result.1.now }
 {
-    let (whole, behind) = split_run(Class::Digit, text);
+    let rest = skip_number(text);
+    (Lexeme::Number(before(text, rest)), rest)
+}
+
+/// What stands behind the number at the start of the text.
+#[inline(never)]
+fn skip_number(text: &str) -> &str
+    requires { Begins is_ascii_digit (chars text.now) }
+    ensures number { BeginsWithNumber (chars text.now) (chars result.now) }
+    ensures utf8 { IsUtf8 result.now }
+{
+    let behind = skip_run(Class::Digit, text);
     match after_char(behind, '.') {
-        Some(after) => {
-            let (_, rest) = split_run(Class::Digit, after);
-            (Lexeme::Number(before(text, rest)), rest)
-        }
-        None => (Lexeme::Number(whole), behind),
+        Some(after) => skip_run(Class::Digit, after),
+        None => behind,
     }
 }
 
@@ -165,23 +171,21 @@ pub(crate) fn command<'a>(text: &'a str) -> (Lexeme<'a>, &'a str, u64)
     ensures at_most { result.2 ≤ 9 }
     ensures utf8 { IsUtf8 result.1.now }
 {
-    let (name, rest) = split_name(text);
-    let (lexeme, compared) = Lexeme::of_command(name);
+    let rest = skip_command_name(text);
+    let (lexeme, compared) = Lexeme::of_command(before(text, rest));
     (lexeme, rest, compared)
 }
 
-/// The name of the command and what follows it. The text begins behind the backslash.
-fn split_name<'a>(text: &'a str) -> (&'a str, &'a str)
-    ensures name { (alone : Bool) →
-        BeginsWith alone (byte "\\" ∷ chars text.now) (command_token result.0.now) (chars result.1.now) }
-    ensures utf8 { IsUtf8 result.1.now }
+/// What stands behind the name of the command. The text begins behind the backslash.
+fn skip_command_name(text: &str) -> &str
+    ensures name { BeginsWithName (chars text.now) (chars result.now) }
+    ensures utf8 { IsUtf8 result.now }
 {
-    let (letters, rest) = split_run(Class::Letter, text);
-    if !letters.is_empty() {
-        return (letters, rest);
+    let Some((c, after)) = first_char(text) else {
+        return text;
+    };
+    if !c.is_ascii_alphabetic() {
+        return after;
     }
-    match first_char(text) {
-        Some((_, after)) => (before(text, after), after),
-        None => ("", text),
-    }
+    skip_run(Class::Letter, after)
 }

@@ -429,7 +429,7 @@ fn write_quoted_char<W: fmt::Write>(c: char, f: &mut fmt::Formatter<W>) -> fmt::
 }
 
 /// Writes a text as contents. A text in which nothing is escaped is written whole.
-pub(crate) fn write_content<W: fmt::Write>(text: &str, f: &mut fmt::Formatter<W>) -> fmt::Result
+fn write_content<W: fmt::Write>(text: &str, f: &mut fmt::Formatter<W>) -> fmt::Result
     ensures { WritesOnOk W.write_str_gives f.old result (content text.now) f.new }
 {
     match text.find(|c: char| needs_escape(c)) {
@@ -438,14 +438,14 @@ pub(crate) fn write_content<W: fmt::Write>(text: &str, f: &mut fmt::Formatter<W>
     }
 }
 
-fn needs_escape(c: char) -> bool
+pub(crate) fn needs_escape(c: char) -> bool
     ensures { result ≡ is_escaped c }
 {
     c == '&' || c == '<' || c == '>' || c == '$'
 }
 
 /// Writes a text as contents, character by character.
-fn write_escaped<W: fmt::Write>(text: &str, f: &mut fmt::Formatter<W>) -> fmt::Result
+pub(crate) fn write_escaped<W: fmt::Write>(text: &str, f: &mut fmt::Formatter<W>) -> fmt::Result
     ensures { WritesOnOk W.write_str_gives f.old result (content text.now) f.new }
 {
     for c in text.chars() {

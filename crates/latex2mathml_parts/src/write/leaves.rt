@@ -93,7 +93,10 @@ pub(crate) fn write_operator(c: char, out: &mut String) -> Result<(), AllocError
 fn write_number(digits: &str, out: &mut String) -> Result<(), AllocError>
     ensures { OnOk result (string_bytes out.new ≡ string_bytes out.old ++ print (number digits.now)) }
 {
-    write_text("<mn>", digits, "</mn>", out)
+    match digit_markup(digits.as_bytes()) {
+        Some(markup) => out.push_str(markup),
+        None => write_text("<mn>", digits, "</mn>", out),
+    }
 }
 
 /// Writes a letter or an operator with a slash through it, and returns whether the form is one.

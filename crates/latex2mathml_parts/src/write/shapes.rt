@@ -1,11 +1,9 @@
 //! What stands first of a tree of one operand or two, by where the operands stand in it. The rest is put on the list.
-ghost use Rattle.std.specs.Prelude.{◌≡◌, ◌+◌, ◌<◌, ◌≤◌, ◌++◌, IfOk, OnOk, drop, length, string_bytes, sum_by, take};
+ghost use Rattle.std.specs.Prelude.{◌≡◌, ◌+◌, ◌<◌, ◌≤◌, ◌++◌, IfOk, OnOk, length, string_bytes, take, Some};
 ghost use Rattle.latex2mathml_nodes.specs.Print.{print};
-ghost use Rattle.latex2mathml_nodes.specs.PrintWeight.{print_weight};
 ghost use Rattle.latex2mathml_nodes.specs.Tree.{operator};
 ghost use Rattle.latex2mathml_parts.specs.Forms.{AreWhole, aside, forest};
-ghost use Rattle.latex2mathml_parts.specs.Parts.{top};
-ghost use Rattle.latex2mathml_parts.specs.Works.{AreIn, IsIn, due, tree_at, work_print, work_weight};
+ghost use Rattle.latex2mathml_parts.specs.Works.{AreIn, IsIn, due, print_weight, tree_at, work_print, work_weight, Writes, load, earlier};
 
 use crate::form::Part;
 use crate::list::before_last;
@@ -30,9 +28,10 @@ pub(crate) fn write_one(
     requires inside { AreIn list.now works.old.items }
     ensures inside { OnOk result (AreIn list.now works.new.items) }
     ensures next { IfOk result (λ next. (0 < next) × (next ≤ length list.now)) }
-    ensures print { IfOk result (λ next. string_bytes out.new ++ (print (tree_at (aside texts.now) list.now next) ++ due (aside texts.now) list.now works.new.items) ≡ string_bytes out.old ++ ((before.now ++ (print (tree_at (aside texts.now) list.now end) ++ work_print (aside texts.now) list.now after)) ++ due (aside texts.now) list.now works.old.items)) }
-    ensures weight { IfOk result (λ next. sum_by (work_weight (aside texts.now) list.now) works.new.items + print_weight (tree_at (aside texts.now) list.now next)
-        ≡ sum_by (work_weight (aside texts.now) list.now) works.old.items + print_weight (tree_at (aside texts.now) list.now end) + work_weight (aside texts.now) list.now after) }
+    ensures print { IfOk result (λ next. Writes (aside texts.now) list.now (string_bytes out.old) works.old.items
+        (before.now ++ (print (tree_at (aside texts.now) list.now end) ++ work_print (aside texts.now) list.now after)) (string_bytes out.new) works.new.items (Some next)) }
+    ensures weight { IfOk result (λ next. load (aside texts.now) list.now works.new.items + print_weight (tree_at (aside texts.now) list.now next)
+        ≡ load (aside texts.now) list.now works.old.items + print_weight (tree_at (aside texts.now) list.now end) + work_weight (aside texts.now) list.now after) }
 {
     out.push_str(before)?;
     push(after, texts, list, works)?;
@@ -55,9 +54,10 @@ pub(crate) fn write_braced(
     requires inside { AreIn list.now works.old.items }
     ensures inside { OnOk result (AreIn list.now works.new.items) }
     ensures next { IfOk result (λ next. (0 < next) × (next ≤ length list.now)) }
-    ensures print { IfOk result (λ next. string_bytes out.new ++ (print (tree_at (aside texts.now) list.now next) ++ due (aside texts.now) list.now works.new.items) ≡ string_bytes out.old ++ ((before.now ++ (print (tree_at (aside texts.now) list.now end) ++ (print (operator brace) ++ after.now))) ++ due (aside texts.now) list.now works.old.items)) }
-    ensures weight { IfOk result (λ next. sum_by (work_weight (aside texts.now) list.now) works.new.items + print_weight (tree_at (aside texts.now) list.now next)
-        ≡ sum_by (work_weight (aside texts.now) list.now) works.old.items + print_weight (tree_at (aside texts.now) list.now end) + 2) }
+    ensures print { IfOk result (λ next. Writes (aside texts.now) list.now (string_bytes out.old) works.old.items
+        (before.now ++ (print (tree_at (aside texts.now) list.now end) ++ (print (operator brace) ++ after.now))) (string_bytes out.new) works.new.items (Some next)) }
+    ensures weight { IfOk result (λ next. load (aside texts.now) list.now works.new.items + print_weight (tree_at (aside texts.now) list.now next)
+        ≡ load (aside texts.now) list.now works.old.items + print_weight (tree_at (aside texts.now) list.now end) + 2) }
 {
     out.push_str(before)?;
     push(Work::Markup(after), texts, list, works)?;
@@ -81,9 +81,10 @@ pub(crate) fn write_limit(
     requires inside { AreIn list.now works.old.items }
     ensures inside { OnOk result (AreIn list.now works.new.items) }
     ensures next { IfOk result (λ next. (0 < next) × (next ≤ length list.now)) }
-    ensures print { IfOk result (λ next. string_bytes out.new ++ (print (tree_at (aside texts.now) list.now next) ++ due (aside texts.now) list.now works.new.items) ≡ string_bytes out.old ++ ((before.now ++ (print (operator sign) ++ (print (tree_at (aside texts.now) list.now end) ++ after.now))) ++ due (aside texts.now) list.now works.old.items)) }
-    ensures weight { IfOk result (λ next. sum_by (work_weight (aside texts.now) list.now) works.new.items + print_weight (tree_at (aside texts.now) list.now next)
-        ≡ sum_by (work_weight (aside texts.now) list.now) works.old.items + print_weight (tree_at (aside texts.now) list.now end) + 1) }
+    ensures print { IfOk result (λ next. Writes (aside texts.now) list.now (string_bytes out.old) works.old.items
+        (before.now ++ (print (operator sign) ++ (print (tree_at (aside texts.now) list.now end) ++ after.now))) (string_bytes out.new) works.new.items (Some next)) }
+    ensures weight { IfOk result (λ next. load (aside texts.now) list.now works.new.items + print_weight (tree_at (aside texts.now) list.now next)
+        ≡ load (aside texts.now) list.now works.old.items + print_weight (tree_at (aside texts.now) list.now end) + 1) }
 {
     out.push_str(before)?;
     write_operator(sign, out)?;
@@ -106,9 +107,9 @@ fn two(
     ensures inside { OnOk result (AreIn list.now works.new.items) }
     ensures next { IfOk result (λ next. (0 < next) × (next ≤ length list.now)) }
     ensures print { IfOk result (λ next. print (tree_at (aside texts.now) list.now next) ++ due (aside texts.now) list.now works.new.items
-        ≡ (print (top (drop 1 (forest (aside texts.now) (take end list.now)))) ++ (print (tree_at (aside texts.now) list.now end) ++ after.now)) ++ due (aside texts.now) list.now works.old.items) }
-    ensures weight { IfOk result (λ next. sum_by (work_weight (aside texts.now) list.now) works.new.items + print_weight (tree_at (aside texts.now) list.now next)
-        ≡ sum_by (work_weight (aside texts.now) list.now) works.old.items + print_weight (top (drop 1 (forest (aside texts.now) (take end list.now)))) + print_weight (tree_at (aside texts.now) list.now end) + 1) }
+        ≡ (print (earlier (aside texts.now) list.now end) ++ (print (tree_at (aside texts.now) list.now end) ++ after.now)) ++ due (aside texts.now) list.now works.old.items) }
+    ensures weight { IfOk result (λ next. load (aside texts.now) list.now works.new.items + print_weight (tree_at (aside texts.now) list.now next)
+        ≡ load (aside texts.now) list.now works.old.items + print_weight (earlier (aside texts.now) list.now end) + print_weight (tree_at (aside texts.now) list.now end) + 1) }
 {
     let earlier = before_last(end, texts, list);
     push(Work::Markup(after), texts, list, works)?;
@@ -131,9 +132,9 @@ fn two_swapped(
     ensures inside { OnOk result (AreIn list.now works.new.items) }
     ensures next { IfOk result (λ next. (0 < next) × (next ≤ length list.now)) }
     ensures print { IfOk result (λ next. print (tree_at (aside texts.now) list.now next) ++ due (aside texts.now) list.now works.new.items
-        ≡ (print (tree_at (aside texts.now) list.now end) ++ (print (top (drop 1 (forest (aside texts.now) (take end list.now)))) ++ after.now)) ++ due (aside texts.now) list.now works.old.items) }
-    ensures weight { IfOk result (λ next. sum_by (work_weight (aside texts.now) list.now) works.new.items + print_weight (tree_at (aside texts.now) list.now next)
-        ≡ sum_by (work_weight (aside texts.now) list.now) works.old.items + print_weight (top (drop 1 (forest (aside texts.now) (take end list.now)))) + print_weight (tree_at (aside texts.now) list.now end) + 1) }
+        ≡ (print (tree_at (aside texts.now) list.now end) ++ (print (earlier (aside texts.now) list.now end) ++ after.now)) ++ due (aside texts.now) list.now works.old.items) }
+    ensures weight { IfOk result (λ next. load (aside texts.now) list.now works.new.items + print_weight (tree_at (aside texts.now) list.now next)
+        ≡ load (aside texts.now) list.now works.old.items + print_weight (earlier (aside texts.now) list.now end) + print_weight (tree_at (aside texts.now) list.now end) + 1) }
 {
     let earlier = before_last(end, texts, list);
     push(Work::Markup(after), texts, list, works)?;
@@ -141,7 +142,8 @@ fn two_swapped(
     Ok(end)
 }
 
-/// Writes two trees, the earlier one first.
+/// Writes two trees, the earlier one first. Scripts and fractions do, so it is worth inlining.
+#[inline(always)]
 pub(crate) fn write_two(
     before: &'static str,
     after: &'static str,
@@ -157,9 +159,10 @@ pub(crate) fn write_two(
     requires inside { AreIn list.now works.old.items }
     ensures inside { OnOk result (AreIn list.now works.new.items) }
     ensures next { IfOk result (λ next. (0 < next) × (next ≤ length list.now)) }
-    ensures print { IfOk result (λ next. string_bytes out.new ++ (print (tree_at (aside texts.now) list.now next) ++ due (aside texts.now) list.now works.new.items) ≡ string_bytes out.old ++ ((before.now ++ (print (top (drop 1 (forest (aside texts.now) (take end list.now)))) ++ (print (tree_at (aside texts.now) list.now end) ++ after.now))) ++ due (aside texts.now) list.now works.old.items)) }
-    ensures weight { IfOk result (λ next. sum_by (work_weight (aside texts.now) list.now) works.new.items + print_weight (tree_at (aside texts.now) list.now next)
-        ≡ sum_by (work_weight (aside texts.now) list.now) works.old.items + print_weight (top (drop 1 (forest (aside texts.now) (take end list.now)))) + print_weight (tree_at (aside texts.now) list.now end) + 1) }
+    ensures print { IfOk result (λ next. Writes (aside texts.now) list.now (string_bytes out.old) works.old.items
+        (before.now ++ (print (earlier (aside texts.now) list.now end) ++ (print (tree_at (aside texts.now) list.now end) ++ after.now))) (string_bytes out.new) works.new.items (Some next)) }
+    ensures weight { IfOk result (λ next. load (aside texts.now) list.now works.new.items + print_weight (tree_at (aside texts.now) list.now next)
+        ≡ load (aside texts.now) list.now works.old.items + print_weight (earlier (aside texts.now) list.now end) + print_weight (tree_at (aside texts.now) list.now end) + 1) }
 {
     out.push_str(before)?;
     let next = two(after, end, texts, list, works)?;
@@ -182,9 +185,10 @@ pub(crate) fn write_swapped(
     requires inside { AreIn list.now works.old.items }
     ensures inside { OnOk result (AreIn list.now works.new.items) }
     ensures next { IfOk result (λ next. (0 < next) × (next ≤ length list.now)) }
-    ensures print { IfOk result (λ next. string_bytes out.new ++ (print (tree_at (aside texts.now) list.now next) ++ due (aside texts.now) list.now works.new.items) ≡ string_bytes out.old ++ ((before.now ++ (print (tree_at (aside texts.now) list.now end) ++ (print (top (drop 1 (forest (aside texts.now) (take end list.now)))) ++ after.now))) ++ due (aside texts.now) list.now works.old.items)) }
-    ensures weight { IfOk result (λ next. sum_by (work_weight (aside texts.now) list.now) works.new.items + print_weight (tree_at (aside texts.now) list.now next)
-        ≡ sum_by (work_weight (aside texts.now) list.now) works.old.items + print_weight (top (drop 1 (forest (aside texts.now) (take end list.now)))) + print_weight (tree_at (aside texts.now) list.now end) + 1) }
+    ensures print { IfOk result (λ next. Writes (aside texts.now) list.now (string_bytes out.old) works.old.items
+        (before.now ++ (print (tree_at (aside texts.now) list.now end) ++ (print (earlier (aside texts.now) list.now end) ++ after.now))) (string_bytes out.new) works.new.items (Some next)) }
+    ensures weight { IfOk result (λ next. load (aside texts.now) list.now works.new.items + print_weight (tree_at (aside texts.now) list.now next)
+        ≡ load (aside texts.now) list.now works.old.items + print_weight (earlier (aside texts.now) list.now end) + print_weight (tree_at (aside texts.now) list.now end) + 1) }
 {
     out.push_str(before)?;
     let next = two_swapped(after, end, texts, list, works)?;
@@ -208,9 +212,10 @@ pub(crate) fn write_limits(
     requires inside { AreIn list.now works.old.items }
     ensures inside { OnOk result (AreIn list.now works.new.items) }
     ensures next { IfOk result (λ next. (0 < next) × (next ≤ length list.now)) }
-    ensures print { IfOk result (λ next. string_bytes out.new ++ (print (tree_at (aside texts.now) list.now next) ++ due (aside texts.now) list.now works.new.items) ≡ string_bytes out.old ++ ((before.now ++ (print (operator sign) ++ (print (top (drop 1 (forest (aside texts.now) (take end list.now)))) ++ (print (tree_at (aside texts.now) list.now end) ++ after.now)))) ++ due (aside texts.now) list.now works.old.items)) }
-    ensures weight { IfOk result (λ next. sum_by (work_weight (aside texts.now) list.now) works.new.items + print_weight (tree_at (aside texts.now) list.now next)
-        ≡ sum_by (work_weight (aside texts.now) list.now) works.old.items + print_weight (top (drop 1 (forest (aside texts.now) (take end list.now)))) + print_weight (tree_at (aside texts.now) list.now end) + 1) }
+    ensures print { IfOk result (λ next. Writes (aside texts.now) list.now (string_bytes out.old) works.old.items
+        (before.now ++ (print (operator sign) ++ (print (earlier (aside texts.now) list.now end) ++ (print (tree_at (aside texts.now) list.now end) ++ after.now)))) (string_bytes out.new) works.new.items (Some next)) }
+    ensures weight { IfOk result (λ next. load (aside texts.now) list.now works.new.items + print_weight (tree_at (aside texts.now) list.now next)
+        ≡ load (aside texts.now) list.now works.old.items + print_weight (earlier (aside texts.now) list.now end) + print_weight (tree_at (aside texts.now) list.now end) + 1) }
 {
     out.push_str(before)?;
     write_operator(sign, out)?;
@@ -235,9 +240,10 @@ pub(crate) fn write_swapped_limits(
     requires inside { AreIn list.now works.old.items }
     ensures inside { OnOk result (AreIn list.now works.new.items) }
     ensures next { IfOk result (λ next. (0 < next) × (next ≤ length list.now)) }
-    ensures print { IfOk result (λ next. string_bytes out.new ++ (print (tree_at (aside texts.now) list.now next) ++ due (aside texts.now) list.now works.new.items) ≡ string_bytes out.old ++ ((before.now ++ (print (operator sign) ++ (print (tree_at (aside texts.now) list.now end) ++ (print (top (drop 1 (forest (aside texts.now) (take end list.now)))) ++ after.now)))) ++ due (aside texts.now) list.now works.old.items)) }
-    ensures weight { IfOk result (λ next. sum_by (work_weight (aside texts.now) list.now) works.new.items + print_weight (tree_at (aside texts.now) list.now next)
-        ≡ sum_by (work_weight (aside texts.now) list.now) works.old.items + print_weight (top (drop 1 (forest (aside texts.now) (take end list.now)))) + print_weight (tree_at (aside texts.now) list.now end) + 1) }
+    ensures print { IfOk result (λ next. Writes (aside texts.now) list.now (string_bytes out.old) works.old.items
+        (before.now ++ (print (operator sign) ++ (print (tree_at (aside texts.now) list.now end) ++ (print (earlier (aside texts.now) list.now end) ++ after.now)))) (string_bytes out.new) works.new.items (Some next)) }
+    ensures weight { IfOk result (λ next. load (aside texts.now) list.now works.new.items + print_weight (tree_at (aside texts.now) list.now next)
+        ≡ load (aside texts.now) list.now works.old.items + print_weight (earlier (aside texts.now) list.now end) + print_weight (tree_at (aside texts.now) list.now end) + 1) }
 {
     out.push_str(before)?;
     write_operator(sign, out)?;
@@ -262,9 +268,10 @@ pub(crate) fn write_labelled(
     requires inside { AreIn list.now works.old.items }
     ensures inside { OnOk result (AreIn list.now works.new.items) }
     ensures next { IfOk result (λ next. (0 < next) × (next ≤ length list.now)) }
-    ensures print { IfOk result (λ next. string_bytes out.new ++ (print (tree_at (aside texts.now) list.now next) ++ due (aside texts.now) list.now works.new.items) ≡ string_bytes out.old ++ ((before.now ++ (print (top (drop 1 (forest (aside texts.now) (take end list.now)))) ++ (before.now ++ (print (operator brace) ++ (print (tree_at (aside texts.now) list.now end) ++ after.now))))) ++ due (aside texts.now) list.now works.old.items)) }
-    ensures weight { IfOk result (λ next. sum_by (work_weight (aside texts.now) list.now) works.new.items + print_weight (tree_at (aside texts.now) list.now next)
-        ≡ sum_by (work_weight (aside texts.now) list.now) works.old.items + print_weight (top (drop 1 (forest (aside texts.now) (take end list.now)))) + print_weight (tree_at (aside texts.now) list.now end) + 3) }
+    ensures print { IfOk result (λ next. Writes (aside texts.now) list.now (string_bytes out.old) works.old.items
+        (before.now ++ (print (earlier (aside texts.now) list.now end) ++ (before.now ++ (print (operator brace) ++ (print (tree_at (aside texts.now) list.now end) ++ after.now))))) (string_bytes out.new) works.new.items (Some next)) }
+    ensures weight { IfOk result (λ next. load (aside texts.now) list.now works.new.items + print_weight (tree_at (aside texts.now) list.now next)
+        ≡ load (aside texts.now) list.now works.old.items + print_weight (earlier (aside texts.now) list.now end) + print_weight (tree_at (aside texts.now) list.now end) + 3) }
 {
     let earlier = before_last(end, texts, list);
     out.push_str(before)?;

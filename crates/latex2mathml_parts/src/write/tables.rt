@@ -1,6 +1,5 @@
 //! Markup of characters, as it is written.
 ghost use Rattle.std.specs.Prelude.{◌≡◌, ◌++◌, IfSome, codes};
-ghost use Rattle.std.specs.Char.{encode_utf8};
 ghost use Rattle.latex2mathml_nodes.specs.Print.{print};
 ghost use Rattle.latex2mathml_nodes.specs.Tree.{letter, number, operator, space};
 ghost use Rattle.latex2mathml_tokens.specs.Attributes.{variant_text};
@@ -96,23 +95,24 @@ pub(crate) fn operator_markup(c: char) -> Option<&'static str>
     })
 }
 
-/// A digit that is alone.
-pub(crate) fn digit_markup(c: char) -> Option<&'static str>
-    ensures { IfSome result (λ markup. markup.now ≡ print (number (encode_utf8 c))) }
+/// A number of one digit.
+#[inline(always)]
+pub(crate) fn digit_markup(digits: &[u8]) -> Option<&'static str>
+    ensures { IfSome result (λ markup. markup.now ≡ print (number digits.now)) }
 {
-    Some(match c {
-        '0' => "<mn>0</mn>",
-        '1' => "<mn>1</mn>",
-        '2' => "<mn>2</mn>",
-        '3' => "<mn>3</mn>",
-        '4' => "<mn>4</mn>",
-        '5' => "<mn>5</mn>",
-        '6' => "<mn>6</mn>",
-        '7' => "<mn>7</mn>",
-        '8' => "<mn>8</mn>",
-        '9' => "<mn>9</mn>",
-        _ => return None,
-    })
+    match digits {
+        [b'0'] => Some("<mn>0</mn>"),
+        [b'1'] => Some("<mn>1</mn>"),
+        [b'2'] => Some("<mn>2</mn>"),
+        [b'3'] => Some("<mn>3</mn>"),
+        [b'4'] => Some("<mn>4</mn>"),
+        [b'5'] => Some("<mn>5</mn>"),
+        [b'6'] => Some("<mn>6</mn>"),
+        [b'7'] => Some("<mn>7</mn>"),
+        [b'8'] => Some("<mn>8</mn>"),
+        [b'9'] => Some("<mn>9</mn>"),
+        _ => None,
+    }
 }
 
 /// A space of a width that a command has.

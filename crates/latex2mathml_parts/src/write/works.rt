@@ -1,9 +1,8 @@
 //! The list of what is still to be written.
 ghost use Rattle.std.specs.Prelude.{◌≡◌, ◌+◌, ◌<◌, ◌≤◌, ◌++◌, OnOk, length, reverse, sum_by, take};
 ghost use Rattle.latex2mathml_nodes.specs.Print.{member_print, print};
-ghost use Rattle.latex2mathml_nodes.specs.PrintWeight.{print_weight};
 ghost use Rattle.latex2mathml_parts.specs.Forms.{AreWhole, aside, forest, in_style};
-ghost use Rattle.latex2mathml_parts.specs.Works.{AreIn, IsIn, cells_in, due, prints_in, tree_at, work_print, work_weight};
+ghost use Rattle.latex2mathml_parts.specs.Works.{AreIn, IsIn, cells_in, due, print_weight, prints_in, tree_at, work_print, work_weight, load};
 
 use crate::form::{Form, Part};
 use crate::kind::Kind;
@@ -23,7 +22,7 @@ pub(crate) fn push(
     requires inside { AreIn list.now works.old.items }
     ensures inside { OnOk result (AreIn list.now works.new.items) }
     ensures print { OnOk result (due (aside texts.now) list.now works.new.items ≡ work_print (aside texts.now) list.now work ++ due (aside texts.now) list.now works.old.items) }
-    ensures weight { OnOk result (sum_by (work_weight (aside texts.now) list.now) works.new.items ≡ sum_by (work_weight (aside texts.now) list.now) works.old.items + work_weight (aside texts.now) list.now work) }
+    ensures weight { OnOk result (load (aside texts.now) list.now works.new.items ≡ load (aside texts.now) list.now works.old.items + work_weight (aside texts.now) list.now work) }
 {
     let _ = texts;
     let _ = list;
@@ -42,7 +41,7 @@ pub(crate) fn push_plain(
     requires inside { AreIn list.now works.old.items }
     ensures inside { OnOk result (AreIn list.now works.new.items) }
     ensures print { OnOk result (due (aside texts.now) list.now works.new.items ≡ print (tree_at (aside texts.now) list.now end) ++ due (aside texts.now) list.now works.old.items) }
-    ensures weight { OnOk result (sum_by (work_weight (aside texts.now) list.now) works.new.items ≡ sum_by (work_weight (aside texts.now) list.now) works.old.items + print_weight (tree_at (aside texts.now) list.now end)) }
+    ensures weight { OnOk result (load (aside texts.now) list.now works.new.items ≡ load (aside texts.now) list.now works.old.items + print_weight (tree_at (aside texts.now) list.now end)) }
 {
     push(Work::Tree(end, None), texts, list, works)?;
     Ok(())
@@ -63,7 +62,7 @@ pub(crate) fn push_members(
     requires inside { AreIn list.now works.old.items }
     ensures inside { OnOk result (AreIn list.now works.new.items) }
     ensures print { OnOk result (due (aside texts.now) list.now works.new.items ≡ prints_in style (reverse (take count (forest (aside texts.now) (take end list.now)))) ++ due (aside texts.now) list.now works.old.items) }
-    ensures weight { OnOk result (sum_by (work_weight (aside texts.now) list.now) works.new.items ≡ sum_by (work_weight (aside texts.now) list.now) works.old.items + sum_by print_weight (take count (forest (aside texts.now) (take end list.now)))) }
+    ensures weight { OnOk result (load (aside texts.now) list.now works.new.items ≡ load (aside texts.now) list.now works.old.items + sum_by print_weight (take count (forest (aside texts.now) (take end list.now)))) }
 {
     let mut place = end;
     let mut left = count;
@@ -90,7 +89,7 @@ pub(crate) fn push_cells(
     requires inside { AreIn list.now works.old.items }
     ensures inside { OnOk result (AreIn list.now works.new.items) }
     ensures print { OnOk result (due (aside texts.now) list.now works.new.items ≡ cells_in style (reverse (take count (forest (aside texts.now) (take end list.now)))) ++ due (aside texts.now) list.now works.old.items) }
-    ensures weight { OnOk result (sum_by (work_weight (aside texts.now) list.now) works.new.items ≤ sum_by (work_weight (aside texts.now) list.now) works.old.items + sum_by print_weight (take count (forest (aside texts.now) (take end list.now)))) }
+    ensures weight { OnOk result (load (aside texts.now) list.now works.new.items ≤ load (aside texts.now) list.now works.old.items + sum_by print_weight (take count (forest (aside texts.now) (take end list.now)))) }
 {
     let mut place = end;
     let mut left = count;

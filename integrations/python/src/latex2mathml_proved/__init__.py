@@ -7,8 +7,8 @@
     Traceback (most recent call last):
     latex2mathml_proved.Refused: The token "RBrace" is expected, but the token "EOF" is found."
 
-`latex2mathml_proved.sphinx` is an extension of Sphinx, and `latex2mathml_proved.markdown` one of Python-Markdown. Both stand on
-`latex2mathml_proved.rendering`, which those of other tools may use too.
+`latex2mathml_proved.sphinx` is an extension for Sphinx, and `latex2mathml_proved.markdown` is one for Python-Markdown. Both use
+`latex2mathml_proved.rendering`, which extensions for other tools may use too.
 """
 from latex2mathml_proved._library import Refused, document, formula
 

@@ -11,7 +11,7 @@ ROOM, ROOM_PER_BYTE = 256, 64
 
 
 class Refused(ValueError):
-    """There is no markup. Its text is the reason, which may quote the formula: escape it before it goes into HTML."""
+    """A formula or a document is refused. The message is the reason. It may quote the formula, so escape it in HTML."""
 
     # as users write it
     __module__ = "latex2mathml_proved"
@@ -55,20 +55,21 @@ def _call(function: Any, text: str, *more: bool) -> str:
 def formula(latex: str, block: bool = False) -> str:
     """Returns the `math` element of a formula, which has no dollar signs around it.
 
-    It is set as a block of its own where `block` is true, and else for a line of text. Any number of threads may call at once.
+    If `block` is true, the element is for a block of its own, and otherwise for a line of text. Any number of threads may call at
+    once.
 
-    Raises `Refused` where the formula has no reading, as where a brace is never closed; `UnicodeEncodeError` where the text
-    holds half of a surrogate pair; `MemoryError`.
+    Raises `Refused` if the formula cannot be read, for example because a brace is not closed, `UnicodeEncodeError` if the text
+    contains half of a surrogate pair, and `MemoryError` if memory runs out.
     """
     return _call(_library.latex2mathml_formula, latex, block)
 
 
 def document(text: str) -> str:
-    r"""Returns the document with the `math` element of each formula in the formula's place.
+    r"""Returns the document with each formula replaced by its `math` element.
 
-    A formula stands between single dollar signs, for a line of text, or between double ones, as a block of its own. `\$` is a
-    dollar sign of the prose, and becomes `&#x24;`. All else of the prose is kept.
+    A formula is between single dollar signs, for a line of text, or between double ones, for a block of its own. `\$` is a
+    dollar sign of the prose, and becomes `&#x24;`. All other prose is unchanged.
 
-    Raises `Refused` where the dollar signs do not pair, or where one of the formulas is refused; else as `formula`.
+    Raises `Refused` if the dollar signs do not pair or a formula is refused, and the other errors of `formula`.
     """
     return _call(_library.latex2mathml_document, text)

@@ -15,7 +15,7 @@ pub returns-then-is_empty-clause-none : goal.returns-then-is_empty-clause-none
 returns-then-is_empty-clause-none c =
     let u = c.until_dollar.ensures in
     no_display c.args.text.now c.in-Some.inside.now _ _ (strip_two c.args.text.now (Some c.in-Some.inside) c.in-Some.ensures.cases) u.joined u.plain u.ends
-    (inl (nothing_in c.until_dollar.result.0.now c.if-is_empty.ensures))
+    (inl (nothing_in c.until_dollar.result.0.text.now c.if-is_empty.ensures))
 
 pub returns-in_err-rest-2-clause-none : goal.returns-in_err-rest-2-clause-none
 returns-in_err-rest-2-clause-none c =

@@ -1,17 +1,16 @@
 use Rattle.std.proofs.Common.{length, sym, subst, arith}
 use Rattle.std.specs.Prelude.{Some, None}
 use Rattle.std.proofs.lemmas.Str.Pattern.{find_char}
-use Rattle.latex2mathml_formulas.specs.Dollars.{dollar}
-use Rattle.latex2mathml.specs.Pieces.{HoldsNo}
+use Rattle.latex2mathml_formulas.specs.Dollars.{dollar, IsDollarFree}
 use Rattle.latex2mathml.proofs.PlainTexts.{none_before}
 use Rattle.latex2mathml.proofs.document.up_to_dollar.Goals as goal
 
 pub returns-in-Some-clause-free : goal.returns-in-Some-clause-free
 returns-in-Some-clause-free c =
-    subst (HoldsNo dollar) (sym c.split_at.ensures.front)
-    (none_before dollar c.args.text.now c.in-Some.place (find_char dollar c.args.text.now (Some c.in-Some.place) c.in-Some.ensures.cases (omega arith)).2)
+    subst IsDollarFree (sym c.split_at.ensures.front)
+    (none_before c.args.text.now c.in-Some.place (find_char dollar c.args.text.now (Some c.in-Some.place) c.in-Some.ensures.cases (omega arith)).2)
 
 pub returns-in-None-clause-free : goal.returns-in-None-clause-free
 returns-in-None-clause-free c =
-    subst (HoldsNo dollar) (sym c.split_at-in-None.ensures.front)
-    (none_before dollar c.args.text.now (length c.args.text.now) (find_char dollar c.args.text.now None c.in-None.ensures.cases (omega arith)))
+    subst IsDollarFree (sym c.split_at-in-None.ensures.front)
+    (none_before c.args.text.now (length c.args.text.now) (find_char dollar c.args.text.now None c.in-None.ensures.cases (omega arith)))

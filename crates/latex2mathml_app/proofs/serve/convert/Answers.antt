@@ -7,5 +7,5 @@ returns-in_default g c = record { told = NoMemory refl c.put_line.ensures.put }
 
 pub returns : goal.returns
 returns g c = record {
-  told = WalkEnded c.in-Ok.unconverted.items c.in-Ok.ensures.listed (rw c.as_slice.ensures.value at c.tell.ensures.told);
+  told = WalkEnded c.in-Ok.unconverted.items c.in-Ok.ensures.walked (rw c.as_slice.ensures.value at c.tell.ensures.told);
 }

@@ -8,11 +8,6 @@ returns-in_default-clause-node c = λ input e.
     let p = c.args.parser.now in
     c.append_rest.ensures.node input (c.in_ok-state.ensures.holds input (node_begun input _ _ (trees p.parts) (lexeme_tok c.args.lexeme) c.requires e))
 
-pub returns-in_default-clause-refused : goal.returns-in_default-clause-refused
-returns-in_default-clause-refused c = λ input e.
-    let p = c.args.parser.now in
-    c.append_rest.ensures.refused input (c.in_ok-state.ensures.holds input (node_begun input _ _ (trees p.parts) (lexeme_tok c.args.lexeme) c.requires e))
-
 pub returns-in_ok-write_leaf-in-None-clause-node : goal.returns-in_ok-write_leaf-in-None-clause-node
 returns-in_ok-write_leaf-in-None-clause-node c = λ input e.
     (c.requires, (_, leaf_read input c.args.parser.now.reader.list c.mark.new.self.list (lexeme_tok c.args.lexeme) _ c.mark.result e c.mark.ensures.list c.in-Some.ensures.1 c.in-None.is c.mark.ensures.mark, c.in_ok-write_leaf-in-None.ensures))
@@ -21,12 +16,5 @@ pub returns-in_ok-state-in-Some-mark-clause-node : goal.returns-in_ok-state-in-S
 returns-in_ok-state-in-Some-mark-clause-node c = λ input e.
     let p = c.args.parser.now in
     c.append_rest-in-Some-mark.ensures.node input
-    (c.in_ok-state-in-Some-mark.ensures.holds input
-    (leaf_begun input p.reader.list c.mark.new.self.list p.frames.stack.items (trees p.parts) (lexeme_tok c.args.lexeme) _ c.requires e c.mark.ensures.list c.in-Some.ensures.1))
-
-pub returns-in_ok-state-in-Some-mark-clause-refused : goal.returns-in_ok-state-in-Some-mark-clause-refused
-returns-in_ok-state-in-Some-mark-clause-refused c = λ input e.
-    let p = c.args.parser.now in
-    c.append_rest-in-Some-mark.ensures.refused input
     (c.in_ok-state-in-Some-mark.ensures.holds input
     (leaf_begun input p.reader.list c.mark.new.self.list p.frames.stack.items (trees p.parts) (lexeme_tok c.args.lexeme) _ c.requires e c.mark.ensures.list c.in-Some.ensures.1))

@@ -4,11 +4,11 @@ ghost use Rattle.latex2mathml_nodes.specs.Print.{print};
 ghost use Rattle.latex2mathml_nodes.specs.Tree.{undefined};
 ghost use Rattle.latex2mathml_tokens.specs.Escape.{content};
 
-use crate::ast::print::{write_content, write_undefined};
+use crate::ast::print::{needs_escape, write_escaped, write_undefined};
 use std::alloc::AllocError;
 use std::fmt;
 
-/// A text as contents.
+/// A text as contents, character by character.
 #[derive(Drop)]
 struct Contents<'a>(&'a str);
 
@@ -16,7 +16,7 @@ impl fmt::Display for Contents<'_> {
     ghost output = { λ text. Some (content text.0.now) };
 
     fn fmt<W: fmt::Write>(&self, f: &mut fmt::Formatter<W>) -> fmt::Result {
-        write_content(self.0, f)
+        write_escaped(self.0, f)
     }
 }
 
@@ -32,11 +32,14 @@ impl fmt::Display for Marked<'_> {
     }
 }
 
-/// Appends a text as contents to another.
+/// Appends a text as contents to another. A text in which nothing is escaped is appended whole.
 pub fn append_content(text: &str, out: &mut String) -> Result<(), AllocError>
     ensures { OnOk result (string_bytes out.new ≡ string_bytes out.old ++ content text.now) }
 {
-    write!(out, "{}", Contents(text))
+    match text.find(|c: char| needs_escape(c)) {
+        Some(_) => write!(out, "{}", Contents(text)),
+        None => out.push_str(text),
+    }
 }
 
 /// Appends the text of a token that has no meaning where it stands, marked as an error.

@@ -1,5 +1,5 @@
 use Rattle.std.proofs.Common.{◌≡◌, ◌<◌, ◌-◌, ◌∙◌, ap, length, subst, sym, take, arith}
-use Rattle.latex2mathml_nodes.specs.Productions.{spread}
+use Rattle.latex2mathml_nodes.specs.Productions.{matrix_members}
 use Rattle.latex2mathml_nodes.specs.Tree.{more_trees, no_trees}
 use Rattle.latex2mathml_parts.specs.Forms.{aside, forest, put_form}
 use Rattle.latex2mathml_parts.specs.Parts.{top}
@@ -19,4 +19,4 @@ returns-in_ok-push-in-None-clause-trees c =
     let some : 0 < length (forest texts c.args.list.now.items) = omega arith in
     c.in_ok-push-in-None.ensures.trees
     ∙ matrix_one texts c.args.align (forest texts c.args.list.now.items) some
-    (subst (λ us. spread (top us) ≡ more_trees (top us) no_trees) (sym whole) (c.in-None.ensures texts ts))
+    (subst (λ us. matrix_members (top us) ≡ more_trees (top us) no_trees) (sym whole) (c.in-None.ensures texts ts))

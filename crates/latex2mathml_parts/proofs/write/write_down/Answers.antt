@@ -1,8 +1,7 @@
 use Rattle.std.proofs.Common.{◌≡◌, ◌++◌, ◌∙◌, ap, sym, arith, string_bytes}
 use Rattle.latex2mathml_nodes.specs.Print.{print}
-use Rattle.latex2mathml_nodes.specs.PrintWeight.{print_weight}
 use Rattle.latex2mathml_parts.specs.Forms.{aside}
-use Rattle.latex2mathml_parts.specs.Works.{due, next_print, next_weight, tree_at}
+use Rattle.latex2mathml_parts.specs.Works.{due, next_print, next_weight, print_weight, tree_at}
 use Rattle.latex2mathml_parts.proofs.Styles.{plain}
 use Rattle.latex2mathml_parts.proofs.write.write_down.Goals as goal
 

@@ -1,10 +1,10 @@
-use Rattle.std.proofs.Common.{◌≡◌, ◌+◌, ◌<◌, ◌≤◌, length, refl, arith}
+use Rattle.std.proofs.Common.{refl, arith}
 use Rattle.latex2mathml_formulas.specs.Grammar.{core}
-use Rattle.latex2mathml_formulas.specs.Steps.{level, to_do}
-use Rattle.latex2mathml_tokens.specs.Lexemes.{lexeme_tok}
+use Rattle.latex2mathml_formulas.specs.Steps.{level}
 use Rattle.latex2mathml_tokens.specs.declared.lexeme.Lexeme.TheVariants as lexeme
 use Rattle.latex2mathml_formulas.proofs.Beginning.{bare_at, of_lexeme}
 use Rattle.latex2mathml_formulas.proofs.Levels.{given_at}
+use Rattle.latex2mathml_formulas.proofs.Progress.{GoesOn-trans}
 use Rattle.latex2mathml_formulas.proofs.Stepping.{follows_within}
 use Rattle.latex2mathml_formulas.proofs.parse.Parser.begin.Goals as goal
 
@@ -21,7 +21,7 @@ returns c =
     record {
       holds = λ input k. c.begin_rule.ensures.holds input (i.holds input k);
       counted = record {
-        counts = record { tokens = omega arith; at_least = omega arith; at_most = omega arith };
+        counts = GoesOn-trans _ _ _ i.counts d.counts;
         frames = record { taken = omega arith; openers = omega arith };
       };
       follows = follows_within c.begin_rule.result c.begin_rule.new.self _ _ (omega arith) c.begin_rule.ensures.follows;

@@ -1,7 +1,7 @@
 use Rattle.std.proofs.Common.{◌≡◌, ◌∷◌, [], ap, drop, sym, subst, refl}
 use Rattle.std.specs.Prelude.{string_bytes}
 use Rattle.latex2mathml_formulas.specs.Frames.{inside, within}
-use Rattle.latex2mathml_formulas.specs.Grammar.{core, ending, reads_members}
+use Rattle.latex2mathml_formulas.specs.Grammar.{core, after_environment_members, reads_members}
 use Rattle.latex2mathml_formulas.specs.Levels.{Leads, Made}
 use Rattle.latex2mathml_formulas.specs.Steps.{level}
 use Rattle.latex2mathml_nodes.specs.Tree.{words}
@@ -21,5 +21,5 @@ returns-clause-holds c = λ input k.
     let fs = p.frames.stack.items in
     c.open.ensures.holds input
     (subst (λ ts. Leads (within input fs (Members Environment 0) ts) c.name.new.self.list) (sym c.in_ok-put_words.ensures)
-    (group_begun group_end.End [] (ending name) core l _ refl
-    (named (λ bytes. reads_members End (ending bytes)) (Made core l) _ p.reader.list _ c.in_ok-name.ensures.name k)))
+    (group_begun group_end.End [] (after_environment_members name) core l _ refl
+    (named (λ bytes. reads_members End (after_environment_members bytes)) (Made core l) _ p.reader.list _ c.in_ok-name.ensures.name k)))

@@ -4,7 +4,7 @@ use mir.Val.{of_z, to_z}
 use Rattle.latex2mathml_formulas.specs.Grammar.{Read, core, gives, of_one, rule, single, with_second}
 use Rattle.latex2mathml_formulas.specs.Levels.{Made}
 use Rattle.latex2mathml_formulas.specs.Steps.{level}
-use Rattle.latex2mathml_nodes.specs.Productions.{binomial_tree, grouped, overbraced, overbraced_with, underbraced, underbraced_with}
+use Rattle.latex2mathml_nodes.specs.Productions.{binomial_tree, group_tree, overbrace_tree, labelled_overbrace_tree, underbrace_tree, labelled_underbrace_tree}
 use Rattle.latex2mathml_nodes.specs.Style.{styled}
 use Rattle.latex2mathml_nodes.specs.Tree.{frac, over_op, overset, space, under_op, underset, undefined}
 use Rattle.latex2mathml_tokens.specs.Lexemes.{lexeme_tok}
@@ -21,7 +21,7 @@ use Rattle.latex2mathml_formulas.proofs.parse.Parser.begin_rule.Goals as goal
 pub returns-in-LBrace-clause-holds : goal.returns-in-LBrace-clause-holds
 returns-in-LBrace-clause-holds c = λ input k.
     let l = level 0 input c.args.self.now in
-    c.open.ensures.holds input (group_begun group_end.Brace [] (λ xs. gives (grouped xs)) core l _ refl (of_lexeme l _ _ _ c.in-LBrace.is k))
+    c.open.ensures.holds input (group_begun group_end.Brace [] (λ xs. gives (group_tree xs)) core l _ refl (of_lexeme l _ _ _ c.in-LBrace.is k))
 
 pub returns-in-Over-clause-holds : goal.returns-in-Over-clause-holds
 returns-in-Over-clause-holds c = λ input k.
@@ -61,12 +61,12 @@ returns-in-Underset-clause-holds c = λ input k.
 pub returns-in-Overbrace-clause-holds : goal.returns-in-Overbrace-clause-holds
 returns-in-Overbrace-clause-holds c = λ input k.
     let l = level 0 input c.args.self.now in
-    c.open-in-Overbrace.ensures.holds input (part_leads single (with_second Circumflex (overbraced c.in-Overbrace.c) (λ x y. overbraced_with c.in-Overbrace.c y x)) (Made core l) _ (of_lexeme l _ _ _ c.in-Overbrace.is k))
+    c.open-in-Overbrace.ensures.holds input (part_leads single (with_second Circumflex (overbrace_tree c.in-Overbrace.c) (λ x y. labelled_overbrace_tree c.in-Overbrace.c y x)) (Made core l) _ (of_lexeme l _ _ _ c.in-Overbrace.is k))
 
 pub returns-in-Underbrace-clause-holds : goal.returns-in-Underbrace-clause-holds
 returns-in-Underbrace-clause-holds c = λ input k.
     let l = level 0 input c.args.self.now in
-    c.open-in-Underbrace.ensures.holds input (part_leads single (with_second Underscore (underbraced c.in-Underbrace.c) (λ x y. underbraced_with c.in-Underbrace.c y x)) (Made core l) _ (of_lexeme l _ _ _ c.in-Underbrace.is k))
+    c.open-in-Underbrace.ensures.holds input (part_leads single (with_second Underscore (underbrace_tree c.in-Underbrace.c) (λ x y. labelled_underbrace_tree c.in-Underbrace.c y x)) (Made core l) _ (of_lexeme l _ _ _ c.in-Underbrace.is k))
 
 pub returns-in-Sqrt-clause-holds : goal.returns-in-Sqrt-clause-holds
 returns-in-Sqrt-clause-holds c = λ input k.

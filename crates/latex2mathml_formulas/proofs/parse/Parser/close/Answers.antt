@@ -1,6 +1,6 @@
 use Rattle.std.proofs.Common.{ap, drop, reverse, take, ◌++◌, ◌∷◌, [], ◌∙◌}
 use Rattle.latex2mathml_formulas.specs.Grammar.{rule_gives}
-use Rattle.latex2mathml_nodes.specs.Productions.{grouped}
+use Rattle.latex2mathml_nodes.specs.Productions.{group_tree}
 use Rattle.latex2mathml_parts.specs.Parts.{trees}
 use Rattle.latex2mathml_formulas.specs.declared.parse.frames.Frame.TheVariants.{Members}
 use Rattle.latex2mathml_formulas.specs.declared.parse.frames.Group.TheVariants.{Brace, Degree, Fence, Environment}
@@ -14,7 +14,7 @@ returns-in_ok-group-in-Brace-clause-holds c = λ input end d k.
     let ts = trees c.args.self.now.parts in
     let count = c.in-Some-Members.count in
     let last = c.in-Some-Members.ensures.stack ∙ ap (λ f. fs ++ f ∷ []) (c.in-Some-Members.field-0-is ∙ ap (λ g. Members g count) c.in-Brace.is) in
-    core_put input fs _ (drop count ts) (grouped (reverse (take count ts))) _ c.in_ok-group-in-Brace.ensures
+    core_put input fs _ (drop count ts) (group_tree (reverse (take count ts))) _ c.in_ok-group-in-Brace.ensures
     (group_closed input fs _ Brace count end ts _ last d k _ rule_gives)
 
 pub returns-in_ok-group-in-Degree-clause-holds : goal.returns-in_ok-group-in-Degree-clause-holds
@@ -24,7 +24,7 @@ returns-in_ok-group-in-Degree-clause-holds c = λ input end d k.
     let count = c.in-Some-Members.count in
     let last = c.in-Some-Members.ensures.stack ∙ ap (λ f. fs ++ f ∷ []) (c.in-Some-Members.field-0-is ∙ ap (λ g. Members g count) c.in-Degree.is) in
     c.put_back.ensures.holds input
-    (degree_read input fs _ (drop count ts) (grouped (reverse (take count ts))) _ c.in_ok-group-in-Degree.ensures
+    (degree_read input fs _ (drop count ts) (group_tree (reverse (take count ts))) _ c.in_ok-group-in-Degree.ensures
     (group_closed input fs _ Degree count end ts _ last d k))
 
 pub returns-in-Fence-clause-holds : goal.returns-in-Fence-clause-holds

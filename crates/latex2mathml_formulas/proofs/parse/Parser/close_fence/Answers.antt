@@ -2,7 +2,7 @@ use Rattle.std.proofs.Common.{drop, refl, reverse, take}
 use Rattle.latex2mathml_formulas.specs.Frames.{inside}
 use Rattle.latex2mathml_formulas.specs.Grammar.{core, gives, rule_gives}
 use Rattle.latex2mathml_formulas.specs.Levels.{Made}
-use Rattle.latex2mathml_nodes.specs.Productions.{grouped}
+use Rattle.latex2mathml_nodes.specs.Productions.{group_tree}
 use Rattle.latex2mathml_nodes.specs.Tree.{fenced}
 use Rattle.latex2mathml_parts.specs.Parts.{fence_text, trees}
 use Rattle.latex2mathml_tokens.specs.Tok.{Right}
@@ -21,7 +21,7 @@ returns-in_default-clause-holds c = λ input k.
     let members = reverse (take c.args.count ts) in
     c.refuse_fence.ensures.holds input
     (core_refused input fs below _ (refused_at l core _ _ _ refl
-    (fence_missing Right _ (λ close. gives (fenced (fence_text c.args.opening) close (grouped members))) (Made core l) c.args.self.now.reader.list _ c.in_default.ensures c.take-got.ensures.token c.take-got.ensures.list k)))
+    (fence_missing Right _ (λ close. gives (fenced (fence_text c.args.opening) close (group_tree members))) (Made core l) c.args.self.now.reader.list _ c.in_default.ensures c.take-got.ensures.token c.take-got.ensures.list k)))
 
 pub returns-clause-holds : goal.returns-clause-holds
 returns-clause-holds c = λ input k.
@@ -30,8 +30,8 @@ returns-clause-holds c = λ input k.
     let below = drop c.args.count ts in
     let members = reverse (take c.args.count ts) in
     c.combine.ensures.holds input
-    (fences_put input fs c.args.opening c.in-Some.closing _ below (grouped members) _ c.in_ok-group.ensures
-    (fence_found Right _ (λ close. gives (fenced (fence_text c.args.opening) close (grouped members))) (Made core (inside input fs below)) _ c.args.self.now.reader.list _ c.in-Some.ensures c.take-got.ensures.token c.take-got.ensures.list k _ rule_gives))
+    (fences_put input fs c.args.opening c.in-Some.closing _ below (group_tree members) _ c.in_ok-group.ensures
+    (fence_found Right _ (λ close. gives (fenced (fence_text c.args.opening) close (group_tree members))) (Made core (inside input fs below)) _ c.args.self.now.reader.list _ c.in-Some.ensures c.take-got.ensures.token c.take-got.ensures.list k _ rule_gives))
 
 pub returns-in_default-clause-counted : goal.returns-in_default-clause-counted
 returns-in_default-clause-counted c = counted_skipped c.args.self.now _ _ 0 c.take-got.ensures.list c.take-got.ensures.counts refl c.refuse_fence.ensures.counted

@@ -1,8 +1,5 @@
-use Rattle.std.proofs.Common.{sym, subst}
-use Rattle.std.specs.Prelude.{IfSome}
-use Rattle.latex2mathml_formulas.specs.Grammar.{Reads, Refused, node}
+use Rattle.std.proofs.Common.{subst}
 use Rattle.latex2mathml_formulas.specs.Steps.{Holds}
-use Rattle.latex2mathml_tokens.specs.Refusal.{refusal_of}
 use Rattle.latex2mathml_formulas.proofs.Stepping.{counted_none, counted_on}
 use Rattle.latex2mathml_formulas.proofs.parse.Parser.finish.Goals as goal
 
@@ -23,7 +20,5 @@ steps-preserved c = record {
 pub returns-in-End-clause-node : goal.returns-in-End-clause-node
 returns-in-End-clause-node c = λ input k. subst (λ s. Holds input c.steps.self s) c.in-End.is (c.steps.invariant.holds input k)
 
-pub returns-in-Refused-clause-refused : goal.returns-in-Refused-clause-refused
-returns-in-Refused-clause-refused c = λ input k.
-    subst (λ e. IfSome (refusal_of e) (λ r. Reads node input (Refused r))) (sym c.replace.ensures.value)
-    (subst (λ s. Holds input c.steps.self s) c.in-Refused.is (c.steps.invariant.holds input k))
+pub returns-in-Refused-clause-node : goal.returns-in-Refused-clause-node
+returns-in-Refused-clause-node c = λ input k. subst (λ s. Holds input c.steps.self s) c.in-Refused.is (c.steps.invariant.holds input k)

@@ -1,5 +1,5 @@
 use Rattle.std.proofs.Common.{[], refl, arith}
-use Rattle.latex2mathml_formulas.specs.Grammar.{closing, core, reads_members}
+use Rattle.latex2mathml_formulas.specs.Grammar.{after_fence_members, core, reads_members}
 use Rattle.latex2mathml_formulas.specs.Levels.{Made}
 use Rattle.latex2mathml_formulas.specs.Steps.{level}
 use Rattle.latex2mathml_parts.specs.Parts.{trees}
@@ -16,8 +16,8 @@ returns-clause-holds c = λ input k.
     let p = c.args.self.now in
     let l = level 0 input p in
     c.open.ensures.holds input
-    (group_begun group_end.Right [] (closing _) core l _ refl
-    (fence_found Left _ (λ opening. reads_members Right (closing opening)) (Made core l) _ p.reader.list _ c.in-Some.ensures c.take-got.ensures.token c.take-got.ensures.list k))
+    (group_begun group_end.Right [] (after_fence_members _) core l _ refl
+    (fence_found Left _ (λ opening. reads_members Right (after_fence_members opening)) (Made core l) _ p.reader.list _ c.in-Some.ensures c.take-got.ensures.token c.take-got.ensures.list k))
 
 pub returns-in_default-clause-holds : goal.returns-in_default-clause-holds
 returns-in_default-clause-holds c = λ input k.
@@ -25,7 +25,7 @@ returns-in_default-clause-holds c = λ input k.
     let l = level 0 input p in
     c.refuse_fence.ensures.holds input
     (core_refused input p.frames.stack.items (trees p.parts) _
-    (fence_missing Left _ (λ opening. reads_members Right (closing opening)) (Made core l) p.reader.list _ c.in_default.ensures c.take-got.ensures.token c.take-got.ensures.list k))
+    (fence_missing Left _ (λ opening. reads_members Right (after_fence_members opening)) (Made core l) p.reader.list _ c.in_default.ensures c.take-got.ensures.token c.take-got.ensures.list k))
 
 pub returns-in_default-clause-counted : goal.returns-in_default-clause-counted
 returns-in_default-clause-counted c =

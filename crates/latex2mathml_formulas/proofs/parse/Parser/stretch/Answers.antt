@@ -1,6 +1,6 @@
 use Rattle.std.proofs.Common.{◌≡◌, ◌∷◌, ◌+◌, ◌*◌, ◌<◌, ◌≤◌, [], length, max, sum_by, ap, ◌∙◌, arith}
 use Rattle.std.proofs.lemmas.List.Sums.{sum_by_push}
-use Rattle.latex2mathml_formulas.specs.Frames.{held}
+use Rattle.latex2mathml_formulas.specs.Frames.{tree_count}
 use Rattle.latex2mathml_formulas.specs.Openers.{openers, opens}
 use Rattle.latex2mathml_formulas.specs.Steps.{weight}
 use Rattle.latex2mathml_parts.specs.Parts.{trees}
@@ -26,7 +26,7 @@ returns-clause-taken c =
     let most = c.open.ensures.greatest in
     let on = c.in_ok-open.ensures.stack in
     let heavier : sum_by weight c.open.new.self.stack.items ≡ sum_by weight fs + 2 = ap (sum_by weight) on ∙ sum_by_push weight fs (frame.Stretch got) in
-    let holding : sum_by held c.open.new.self.stack.items ≡ sum_by held fs + 0 = ap (sum_by held) on ∙ sum_by_push held fs (frame.Stretch got) in
+    let holding : sum_by tree_count c.open.new.self.stack.items ≡ sum_by tree_count fs + 0 = ap (sum_by tree_count) on ∙ sum_by_push tree_count fs (frame.Stretch got) in
     let enough = c.requires in
     record {
       trees = omega arith;

@@ -1,6 +1,6 @@
 use Rattle.std.proofs.Common.{ap, drop}
 use Rattle.latex2mathml_formulas.specs.Frames.{inside}
-use Rattle.latex2mathml_formulas.specs.Grammar.{core, stretching}
+use Rattle.latex2mathml_formulas.specs.Grammar.{core, stretched_or_refused}
 use Rattle.latex2mathml_parts.specs.Parts.{trees}
 use Rattle.latex2mathml_tokens.specs.Lexemes.{lexeme_tok}
 use Rattle.latex2mathml_formulas.proofs.Combining.{core_put}
@@ -14,11 +14,11 @@ returns-then-stretch-clause-holds c = λ input k.
     let fs = c.args.self.now.frames.stack.items in
     let below = drop 1 (trees c.args.self.now.parts) in
     let made = c.if-stretch.ensures in
-    core_put input fs _ below made.0 _ made.2 (given_at (inside input fs below) core _ made.0 _ (ap (stretching (lexeme_tok c.args.got)) made.1) k)
+    core_put input fs _ below made.0 _ made.2 (given_at (inside input fs below) core _ made.0 _ (ap (stretched_or_refused (lexeme_tok c.args.got)) made.1) k)
 
 pub returns-clause-holds : goal.returns-clause-holds
 returns-clause-holds c = λ input k.
     let fs = c.args.self.now.frames.stack.items in
     let below = drop 1 (trees c.args.self.now.parts) in
     c.refuse_fence.ensures.holds input
-    (core_refused input fs below _ (refused_at (inside input fs below) core _ _ _ (ap (stretching (lexeme_tok c.args.got)) c.if-stretch.ensures.0) k))
+    (core_refused input fs below _ (refused_at (inside input fs below) core _ _ _ (ap (stretched_or_refused (lexeme_tok c.args.got)) c.if-stretch.ensures.0) k))

@@ -1,7 +1,6 @@
 use Rattle.std.proofs.Common.{◌≤◌, length, string_bytes}
 use Rattle.latex2mathml_formulas.specs.Marks.{rest_of}
-use Rattle.latex2mathml_formulas.specs.Openers.{OpensFor}
-use Rattle.latex2mathml_formulas.specs.Unread.{GoesOn}
+use Rattle.latex2mathml_formulas.specs.Unread.{GoesOn, OpensFor}
 use Rattle.latex2mathml_formulas.proofs.Names.{AreTaken}
 use Rattle.latex2mathml_formulas.proofs.reader.Reader.name.Given as goal
 

@@ -1,9 +1,9 @@
 -- What is left of the current node and of the chain.
 use Rattle.std.proofs.Common.{◌+◌}
-use Rattle.latex2mathml_nodes.specs.Held.{held}
+use Rattle.latex2mathml_nodes.specs.Held.{weight_of_parts}
 use Rattle.latex2mathml_nodes.specs.Tree.{tree}
 use Rattle.latex2mathml_nodes.specs.Weight.{hung}
 use Rattle.latex2mathml_nodes.proofs.ast.dismantle.dismantle.Given as goal
 
 abbrev pub decreases-parts : goal.decreases-parts
-decreases-parts l = held l.current + hung (tree l.chain)
+decreases-parts l = weight_of_parts l.current + hung (tree l.chain)

@@ -1,7 +1,6 @@
 use Rattle.std.proofs.Common.{◌≡◌, ◌+◌, ◌++◌, ◌≤◌, ℕ, List, length, reverse, sum_by, take}
-use Rattle.latex2mathml_nodes.specs.PrintWeight.{print_weight}
 use Rattle.latex2mathml_parts.specs.Forms.{aside, forest}
-use Rattle.latex2mathml_parts.specs.Works.{AreIn, cells_in, due, work_weight}
+use Rattle.latex2mathml_parts.specs.Works.{AreIn, cells_in, due, print_weight, work_weight}
 use Rattle.latex2mathml_parts.proofs.write.works.push_cells.Given as goal
 
 abbrev pub invariant-members : goal.invariant-members

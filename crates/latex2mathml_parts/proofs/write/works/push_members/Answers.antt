@@ -1,8 +1,7 @@
 use Rattle.std.proofs.Common.{◌≡◌, ℕ, suc, ◌+◌, ◌-◌, ◌<◌, ◌≤◌, ◌++◌, arith, ap, take, length, reverse, ◌∙◌, sum_by, subst}
 use Rattle.latex2mathml_nodes.specs.Print.{print}
-use Rattle.latex2mathml_nodes.specs.PrintWeight.{print_weight}
 use Rattle.latex2mathml_parts.specs.Forms.{aside, forest, in_style}
-use Rattle.latex2mathml_parts.specs.Works.{due, prints_in}
+use Rattle.latex2mathml_parts.specs.Works.{due, print_weight, prints_in}
 use Rattle.latex2mathml_parts.proofs.Works.{length_step, members_step, weight_step}
 use Rattle.latex2mathml_parts.proofs.write.works.push_members.Goals as goal
 

@@ -1,0 +1,13 @@
+-- so many entries were added
+use Rattle.std.proofs.Common.{◌≡◌, ◌++◌, List, All, length}
+use Rattle.latex2mathml.specs.Files.{IsListed}
+use Rattle.latex2mathml.specs.declared.error.FileFault.TheVariants.{Entry}
+use Rattle.latex2mathml.specs.declared.files.Unconverted.{Unconverted}
+use Rattle.latex2mathml.proofs.files.add_unread.Given as goal
+
+abbrev pub invariant-loop-entry : goal.invariant-loop-entry
+invariant-loop-entry l =
+    (added : List Unconverted)
+    × (l.unconverted.items ≡ l.initial.unconverted.items ++ added)
+    × All (IsListed l.path Entry) added
+    × (length added ≡ l._entry)

@@ -1,7 +1,0 @@
-use Rattle.latex2mathml.proofs.Walks.{reading_fault}
-use Rattle.latex2mathml.proofs.files.read.Goals as goal
-
-pub returns : goal.returns
-returns g c = record {
-  fault = reading_fault _ _ _ c.read_document.ensures.reading.2;
-}

@@ -1,0 +1,7 @@
+-- What a check finds of a formula.
+use Rattle.std.specs.Prelude.{ℕ, List}
+use Rattle.latex2mathml.specs.Formulas.{DisplayStyle, IsRendering}
+
+-- the formula, set so, has markup
+abbrev pub HasRendering : List ℕ → DisplayStyle → Type 0
+HasRendering text display = (markup : List ℕ) × IsRendering text display markup
