@@ -1,7 +1,7 @@
 -- A document is answered piece by piece, and refused for its first refused piece.
 use Rattle.std.proofs.Common.{◌≡◌, ◌⊎◌, ℕ, List, [], ◌∷◌, ◌++◌, Option, Some, None, inl, inr, refl, sym, ap, ◌∙◌, append_assoc, append-nil, subst}
 use Rattle.std.specs.Prelude.{IfSome}
-use Rattle.latex2mathml.specs.Pieces.{BeginsWith, IsFront}
+use Rattle.latex2mathml.specs.Pieces.{BeginsWithPiece, IsFront}
 use Rattle.latex2mathml.specs.Documents.{Piece, IsCut, HasCut, HasNoCut, PieceAnswer, PiecesAnswer, IsAnswer, PieceRefuses, FirstRefused, IsRefusal}
 use Rattle.latex2mathml_tokens.specs.Refusal.{Refusal, InvalidNumberOfDollarSigns}
 use Rattle.latex2mathml.proofs.Cuts.{first_forced}
@@ -31,7 +31,7 @@ first_refused [] piece later answer refusal a r = inl r
 first_refused (first ∷ given) piece later answer refusal (x, y, a, b, e) r = inr ((x, a), first_refused given piece later y refusal b r)
 
 -- a piece of a document is refused, and those given before it have answers
-module _ (document : List ℕ) (given : List Piece) (text : List ℕ) (piece : Piece) (rest answer : List ℕ) (cut : HasCut document) (front : IsFront document given text) (begins : BeginsWith text piece rest) (answered : PiecesAnswer given answer) where
+module _ (document : List ℕ) (given : List Piece) (text : List ℕ) (piece : Piece) (rest answer : List ℕ) (cut : HasCut document) (front : IsFront document given text) (begins : BeginsWithPiece text piece rest) (answered : PiecesAnswer given answer) where
   refused_with : (refusal : Refusal) → PieceRefuses piece refusal → IsRefusal document refusal
   unfolding IsRefusal
   refused_with refusal r =

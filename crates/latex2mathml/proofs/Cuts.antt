@@ -3,7 +3,7 @@ use Rattle.std.proofs.Common.{◌≡◌, ◌≢◌, ℕ, List, [], ◌∷◌, �
 use Rattle.std.specs.Borrow.{Bor}
 use Rattle.std.specs.Prelude.{Option, Some, None, MatchOption, IfNone}
 use Rattle.std.specs.Str.Pattern.{FindsTextPrefix}
-use Rattle.latex2mathml.specs.Pieces.{BeginsWith, EndsBefore, IsFront, IsLongest}
+use Rattle.latex2mathml.specs.Pieces.{BeginsWithPiece, EndsBefore, IsFront, IsLongest}
 use Rattle.latex2mathml.specs.Documents.{Piece, prose, inline, display, piece_text, spelling, IsPlain, IsPiece, MayFollow, ArePieces, IsCut, HasCut}
 use Rattle.latex2mathml.proofs.PlainTexts.{plain_begins, plain_ends_once, body_plain, body_ends, ends_before_head}
 
@@ -15,7 +15,7 @@ stops_after t (inline b ∷ ps) f = (refl, f)
 stops_after t (display b ∷ ps) f = (refl, f)
 
 -- a piece and a cut of what is left are a cut
-pub more_cut : (text : List ℕ) (p : Piece) (rest : List ℕ) (ps : List Piece) → BeginsWith text p rest → IsCut rest ps → IsCut text (p ∷ ps)
+pub more_cut : (text : List ℕ) (p : Piece) (rest : List ℕ) (ps : List Piece) → BeginsWithPiece text p rest → IsCut rest ps → IsCut text (p ∷ ps)
 more_cut text p rest ps b c = record {
   well_formed = (b.is_piece, follows p ps b.longest c.well_formed (sym c.spelled), c.well_formed);
   spelled = ap (λ l. piece_text p ++ l) c.spelled ∙ b.split;
@@ -63,7 +63,7 @@ forced (display (a ∷ t)) rest (display u ∷ ps) i s w e =
     (ps, ap (λ l. display l ∷ ps) ends.0, record { well_formed = w.2; spelled = (let k : spelling ps ≡ rest = cc (ends.1) in k) })
 
 -- each cut of a text that begins with a piece begins with that piece
-pub first_forced : (text : List ℕ) (p : Piece) (rest : List ℕ) (ps : List Piece) → BeginsWith text p rest → IsCut text ps → GoesOn ps p rest
+pub first_forced : (text : List ℕ) (p : Piece) (rest : List ℕ) (ps : List Piece) → BeginsWithPiece text p rest → IsCut text ps → GoesOn ps p rest
 first_forced text p rest ps b c = forced p rest ps b.is_piece b.longest c.well_formed (c.spelled ∙ sym b.split)
 
 -- the empty document has the cut of no pieces alone
@@ -75,7 +75,7 @@ cut_of_nothing (inline t ∷ ps) c = let e = c.spelled in cc
 cut_of_nothing (display t ∷ ps) c = let e = c.spelled in cc
 
 -- a cut's first piece begins its text
-pub begins_with_first : (text : List ℕ) (p : Piece) (ps : List Piece) → IsCut text (p ∷ ps) → BeginsWith text p (spelling ps)
+pub begins_with_first : (text : List ℕ) (p : Piece) (ps : List Piece) → IsCut text (p ∷ ps) → BeginsWithPiece text p (spelling ps)
 begins_with_first text (prose t) ps c = record { is_piece = c.well_formed.0; split = c.spelled; longest = stops_after t ps c.well_formed.1 }
 begins_with_first text (inline t) ps c = record { is_piece = c.well_formed.0; split = c.spelled; longest = tt }
 begins_with_first text (display t) ps c = record { is_piece = c.well_formed.0; split = c.spelled; longest = tt }
@@ -117,7 +117,7 @@ no_inline text inside body end e lone j p s n (ps, c) = go ps c.well_formed (c.s
     go (display u ∷ ps) w q = lone ((u ++ 36 ∷ 36 ∷ []) ++ spelling ps) (e ∙ sym q)
 
 -- text that begins with no dollar sign begins with prose
-pub begins_with_prose : (text front rest : List ℕ) → text ≢ [] → ((more : List ℕ) → text ≢ 36 ∷ more) → front ++ rest ≡ text → IsPlain front → EndsBefore front rest → BeginsWith text (prose front) rest
+pub begins_with_prose : (text front rest : List ℕ) → text ≢ [] → ((more : List ℕ) → text ≢ 36 ∷ more) → front ++ rest ≡ text → IsPlain front → EndsBefore front rest → BeginsWithPiece text (prose front) rest
 begins_with_prose text front rest some no_dollar j p s = record { is_piece = (holds_something front rest j s, p); split = j; longest = s }
   where
     holds_something : (front rest : List ℕ) → front ++ rest ≡ text → EndsBefore front rest → front ≢ []
@@ -145,7 +145,7 @@ spelling_push (q ∷ made) p = ap (λ l. piece_text q ++ l) (spelling_push made 
 pub nothing_made : (document : List ℕ) → IsFront document [] document
 nothing_made document = record { spelled = refl; goes_on = λ tail c. c; only = λ pieces c. (pieces, refl, c) }
 
-pub one_more_made : (document : List ℕ) (made : List Piece) (text : List ℕ) (p : Piece) (rest : List ℕ) → IsFront document made text → BeginsWith text p rest → IsFront document (made ++ p ∷ []) rest
+pub one_more_made : (document : List ℕ) (made : List Piece) (text : List ℕ) (p : Piece) (rest : List ℕ) → IsFront document made text → BeginsWithPiece text p rest → IsFront document (made ++ p ∷ []) rest
 one_more_made document made text p rest so b = record {
   spelled = ap (λ l. l ++ rest) (spelling_push made p) ∙ append_assoc (spelling made) (piece_text p) rest ∙ ap (λ l. spelling made ++ l) b.split ∙ so.spelled;
   goes_on = λ tail c. subst (IsCut document) (sym (append_assoc made (p ∷ []) tail)) (so.goes_on (p ∷ tail) (more_cut text p rest tail b c));

@@ -1,13 +1,13 @@
 -- What is given piece by piece stands at the front of the document.
 use Rattle.std.proofs.Common.{◌≡◌, ℕ, List, [], ◌∷◌, ◌++◌, Some, Ok, Err, refl, sym, subst}
 use Rattle.std.specs.Iterator.{Yields}
-use Rattle.latex2mathml.specs.Pieces.{piece_of, BeginsWith, Item, GivesPiece, GivenBehind, IsFront}
+use Rattle.latex2mathml.specs.Pieces.{piece_of, BeginsWithPiece, Item, GivesPiece, GivenBehind, IsFront}
 use Rattle.latex2mathml.specs.Documents.{Piece, prose, inline, display, piece_text, IsPiece}
 use Rattle.latex2mathml.specs.declared.document.Pieces as code
 use Rattle.latex2mathml.proofs.Cuts.{one_more_made, never_made}
 
 -- no piece begins the empty text
-nothing_begins : (p : Piece) (rest : List ℕ) → BeginsWith [] p rest → ⊥
+nothing_begins : (p : Piece) (rest : List ℕ) → BeginsWithPiece [] p rest → ⊥
 nothing_begins p rest b = go p b.is_piece b.split
   where
     go : (p : Piece) → IsPiece p → piece_text p ++ rest ≡ [] → ⊥
@@ -18,7 +18,7 @@ nothing_begins p rest b = go p b.is_piece b.split
 
 -- after the last item nothing is given
 nothing_after : (item : Item) (s t : code.Pieces) → s.rest.now ≡ [] → GivesPiece s (Some item) t → ⊥
-nothing_after (Ok piece) s t e b = nothing_begins (piece_of piece) t.rest.now (subst (λ text. BeginsWith text (piece_of piece) t.rest.now) e b)
+nothing_after (Ok piece) s t e b = nothing_begins (piece_of piece) t.rest.now (subst (λ text. BeginsWithPiece text (piece_of piece) t.rest.now) e b)
 nothing_after (Err no_cut) s t e b = b.0 ([], record { well_formed = tt; spelled = sym e })
 
 pub up_to : (given : List Item) (document : List ℕ) (before : List Piece) (s place : code.Pieces) → IsFront document before s.rest.now → Yields GivesPiece s given place → GivenBehind document before given place.rest.now

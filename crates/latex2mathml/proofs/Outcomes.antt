@@ -3,7 +3,7 @@ use Rattle.std.proofs.Common.{◌≡◌, ◌≢◌, ◌⊎◌, ◌↔◌, ℕ, z
 use Rattle.latex2mathml.specs.DocumentLaws.{HasOneOutcome, IsForDollars}
 use Rattle.latex2mathml.specs.Documents.{Piece, prose, inline, display, piece_text, IsPlain, IsPiece, HasCut, HasNoCut, PieceAnswer, PiecesAnswer, IsAnswer, PieceRefuses, FirstRefused, IsRefusal, prose_answer}
 use Rattle.latex2mathml_formulas.specs.Dollars.{dollar}
-use Rattle.latex2mathml.specs.Pieces.{BeginsWith, EndsBefore}
+use Rattle.latex2mathml.specs.Pieces.{BeginsWithPiece, EndsBefore}
 use Rattle.latex2mathml_tokens.specs.Refusal.{Refusal, InvalidNumberOfDollarSigns}
 use Rattle.latex2mathml_tokens.specs.declared.DisplayStyle.TheVariants.{Block, Inline}
 use Rattle.latex2mathml.proofs.Cuts.{begins_with_prose, first_forced, more_cut, no_display, no_inline, one_cut_lem}
@@ -12,7 +12,7 @@ use Rattle.latex2mathml.proofs.PlainTexts.{dollar_or_other, plain_front}
 
 -- the first piece of a text, or that it has no cut
 abbrev Found : List ℕ → Type 0
-Found text = ((piece : Piece) × (rest : List ℕ) × BeginsWith text piece rest) ⊎ HasNoCut text
+Found text = ((piece : Piece) × (rest : List ℕ) × BeginsWithPiece text piece rest) ⊎ HasNoCut text
 
 found_prose : (b : ℕ) (text : List ℕ) → b ≢ dollar → Found (b ∷ text)
 found_prose b text other =
@@ -84,7 +84,7 @@ cut_within zero (b ∷ text) short = absurd (omega arith)
 cut_within (suc bound) (b ∷ text) short =
     ⊎_elim (λ first. behind first.0 first.1 first.2 (λ less. cut_within bound first.1 less)) (λ none. inr none) (found (b ∷ text) (λ e. cc))
   where
-    behind : (piece : Piece) (rest : List ℕ) → BeginsWith (b ∷ text) piece rest → (length rest ≤ bound → HasCut rest ⊎ HasNoCut rest) → HasCut (b ∷ text) ⊎ HasNoCut (b ∷ text)
+    behind : (piece : Piece) (rest : List ℕ) → BeginsWithPiece (b ∷ text) piece rest → (length rest ≤ bound → HasCut rest ⊎ HasNoCut rest) → HasCut (b ∷ text) ⊎ HasNoCut (b ∷ text)
     behind piece rest begins later =
         let less : length rest < length (b ∷ text) = subst (λ l. length rest < length l) begins.split (taken piece rest begins.is_piece) in
         ⊎_elim (λ cut. inl (piece ∷ cut.0, more_cut (b ∷ text) piece rest cut.0 begins cut.1))

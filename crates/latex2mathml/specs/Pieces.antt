@@ -29,7 +29,7 @@ IsLongest (prose text) rest = EndsBefore text rest
 IsLongest piece rest = Unit {0}
 
 -- the text is this piece and then the rest
-pub record BeginsWith (text : List ℕ) (piece : Piece) (rest : List ℕ) : Type 0 where
+pub record BeginsWithPiece (text : List ℕ) (piece : Piece) (rest : List ℕ) : Type 0 where
   pub is_piece : IsPiece piece
   pub split : piece_text piece ++ rest ≡ text
   pub longest : IsLongest piece rest
@@ -41,7 +41,7 @@ Item = Result code.Piece NoCut
 -- what a call gives: the piece at the front; or that what is left has no cut, and then nothing is left; or the end
 abbrev pub GivesPiece : Pieces → Option Item → Pieces → Type 0
 GivesPiece before None after = (before.rest.now ≡ []) × (after.rest.now ≡ [])
-GivesPiece before (Some (Ok piece)) after = BeginsWith before.rest.now (piece_of piece) after.rest.now
+GivesPiece before (Some (Ok piece)) after = BeginsWithPiece before.rest.now (piece_of piece) after.rest.now
 GivesPiece before (Some (Err no_cut)) after = HasNoCut before.rest.now × (after.rest.now ≡ [])
 
 -- the pieces spell the document up to the rest, every cut of the document begins with them, and with them in front a

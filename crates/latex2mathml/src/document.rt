@@ -1,6 +1,6 @@
 //! The pieces of a document: prose, and formulas between dollar signs.
 ghost use Rattle.std.specs.Prelude.{◌≡◌, ◌≢◌, ◌++◌, [], IfNone, IfSome, OnErr, OnOk};
-ghost use Rattle.latex2mathml.specs.Pieces.{BeginsWith, EndsAt, EndsBefore, piece_of};
+ghost use Rattle.latex2mathml.specs.Pieces.{BeginsWithPiece, EndsAt, EndsBefore, piece_of};
 ghost use Rattle.latex2mathml_formulas.specs.Dollars.{IsDollarFree, dollar};
 ghost use Rattle.latex2mathml.specs.Documents.{HasCut, HasNoCut, IsPlain};
 
@@ -75,7 +75,7 @@ impl<'a> Iterator for Pieces<'a> {
 /// The piece at the front of a text that is not empty, and the rest.
 fn first_piece(text: &str) -> Option<(Piece<'_>, &str)>
     requires { text.now ≢ [] }
-    ensures piece { IfSome result (λ found. BeginsWith text.now (piece_of found.0) found.1.now) }
+    ensures piece { IfSome result (λ found. BeginsWithPiece text.now (piece_of found.0) found.1.now) }
     ensures none { IfNone result (HasNoCut text.now) }
 {
     if let Some(inside) = text.strip_prefix("$$") {

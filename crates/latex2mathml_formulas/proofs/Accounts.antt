@@ -8,7 +8,7 @@ use Rattle.std.proofs.Math.Utf8.{encodes}
 use Rattle.std.proofs.lemmas.Str.{encodes-chars, length-le-encodes}
 use Rattle.latex2mathml_formulas.specs.Counts.{IsComparisonCount, IsRefusalCount, IsRefusedWithin, IsTokenCount, backslashes, begins_with_backslash}
 use Rattle.latex2mathml_formulas.specs.Cutting.{slices_of}
-use Rattle.latex2mathml_formulas.specs.Grammar.{Reading, Refuses}
+use Rattle.latex2mathml_formulas.specs.Grammar.{ReadsFormula, Refuses}
 use Rattle.latex2mathml_formulas.specs.Openers.{IsFrameCount}
 use Rattle.latex2mathml_tokens.specs.Refusal.{IfRefused, InvalidNumberOfDollarSigns, Refusal, refusal_of}
 use Rattle.latex2mathml_formulas.specs.Rendering.{IsFormulaRefusal, IsRendering, math_print}
@@ -59,7 +59,7 @@ comparison_count text old new taken n is start all none goes left same_taken sam
 pub frame_count : (text : List ℕ) (old new : Unread) (taken before n : ℕ) → old.list ≡ token_list (slices_of false text) → old.tokens ≡ 0 → before ≡ 0 → OpensFor old new (before + 0) n → taken ≡ new.tokens → IsFrameCount text taken n
 frame_count text old new taken before n e none start opens same = (omega arith, (old.list, whole_list text old.list e, omega arith))
 
-rendering : (text : List ℕ) (display : DisplayStyle) (l : List Tok) (markup : List ℕ) (xs : List Tree) → l ≡ token_list (slices_of false (chars text)) → Reading l xs → markup ≡ math_print display xs → IsRendering text display markup
+rendering : (text : List ℕ) (display : DisplayStyle) (l : List Tok) (markup : List ℕ) (xs : List Tree) → l ≡ token_list (slices_of false (chars text)) → ReadsFormula l xs → markup ≡ math_print display xs → IsRendering text display markup
 unfolding IsRendering
 rendering text display l markup xs e d same = (l, whole_list (chars text) l e, (xs, d, same))
 
@@ -67,12 +67,12 @@ refusal : (text : List ℕ) (l : List Tok) (q : Refusal) → l ≡ token_list (s
 unfolding IsFormulaRefusal
 refusal text l q e d = (l, whole_list (chars text) l e, d)
 
-pub rendered : (text : List ℕ) (display : DisplayStyle) (l : List Tok) (r : Result (String Global) LatexError) → l ≡ token_list (slices_of false (chars text)) → IfOk r (λ markup. (xs : List Tree) × Reading l xs × (string_bytes markup ≡ math_print display xs)) → IfOk r (λ markup. IsRendering text display (string_bytes markup))
+pub rendered : (text : List ℕ) (display : DisplayStyle) (l : List Tok) (r : Result (String Global) LatexError) → l ≡ token_list (slices_of false (chars text)) → IfOk r (λ markup. (xs : List Tree) × ReadsFormula l xs × (string_bytes markup ≡ math_print display xs)) → IfOk r (λ markup. IsRendering text display (string_bytes markup))
 rendered text display l (Ok markup) e h = rendering text display l (string_bytes markup) h.0 e h.1 h.2
 rendered text display l (Err error) e h = tt
 
 -- the markup of a text's tokens behind what was there is that of the text
-pub appended : (text : List ℕ) (display : DisplayStyle) (l : List Tok) (old new : List ℕ) (r : Result Unit LatexError) → l ≡ token_list (slices_of false (chars text)) → OnOk r ((xs : List Tree) × Reading l xs × (new ≡ old ++ math_print display xs)) → OnOk r ((markup : List ℕ) × IsRendering text display markup × (new ≡ old ++ markup))
+pub appended : (text : List ℕ) (display : DisplayStyle) (l : List Tok) (old new : List ℕ) (r : Result Unit LatexError) → l ≡ token_list (slices_of false (chars text)) → OnOk r ((xs : List Tree) × ReadsFormula l xs × (new ≡ old ++ math_print display xs)) → OnOk r ((markup : List ℕ) × IsRendering text display markup × (new ≡ old ++ markup))
 appended text display l old new (Ok done) e h = (math_print display h.0, rendering text display l (math_print display h.0) h.0 e h.1 refl, h.2)
 appended text display l old new (Err error) e h = tt
 

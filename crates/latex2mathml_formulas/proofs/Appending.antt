@@ -2,7 +2,7 @@
 use Rattle.std.proofs.Common.{◌≡◌, ◌≢◌, ℕ, ◌<◌, Bool, true, false, Option, List, [], ◌∷◌, ◌++◌, length, Some, None, refl, sym, ap, subst, ◌∙◌, append_assoc, append-nil, arith}
 use Rattle.latex2mathml_formulas.specs.Counts.{AreNodes, IsRefusedWithin, no_node, one_more}
 use Rattle.latex2mathml_formulas.specs.Frames.{inside}
-use Rattle.latex2mathml_formulas.specs.Grammar.{core, first, gives, rule, node, Outcome, Read, Refused, Reads, ReadsAll, formula_ends, member_read, later_refused, member_refused, Reading, Refuses}
+use Rattle.latex2mathml_formulas.specs.Grammar.{core, first, gives, rule, node, Outcome, Read, Refused, Reads, ReadsAll, formula_ends, member_read, later_refused, member_refused, ReadsFormula, Refuses}
 use Rattle.latex2mathml_nodes.specs.Print.{print, prints}
 use Rattle.std.specs.Prelude.{IfSome}
 use Rattle.latex2mathml_formulas.specs.Steps.{Holds, IsAppended, end_of}
@@ -75,8 +75,8 @@ one_node input place to old new newer x some d e so_far = record {
 }
 
 -- no token is left
-pub all_nodes : (input place : List Tok) (old new : List ℕ) → place ≡ [] → Appends input place old new → (xs : List Tree) × Reading input xs × (new ≡ old ++ prints (trees_of xs))
-unfolding Reading
+pub all_nodes : (input place : List Tok) (old new : List ℕ) → place ≡ [] → Appends input place old new → (xs : List Tree) × ReadsFormula input xs × (new ≡ old ++ prints (trees_of xs))
+unfolding ReadsFormula
 all_nodes input place old new e so_far =
     let ends : ReadsAll None place (Read [] []) = subst (λ l. ReadsAll None l (Read [] [])) (sym e) formula_ends in
     (so_far.nodes, subst (λ xs. ReadsAll None input (Read xs [])) (append-nil so_far.nodes) (so_far.leads _ ends), so_far.text)
@@ -150,7 +150,7 @@ leaf_read input place to t x mark same kept is none stands =
     subst (λ l. Reads node input (Read x l)) (sym kept) (lone_node t x input place same is no_mark.0 no_mark.1 no_mark.2)
 
 -- all nodes stand between what was written before them and what is written behind them
-pub finished : (input place : List Tok) (old new before after a c : List ℕ) → place ≡ [] → before ≡ old ++ a → Appends input place before after → new ≡ after ++ c → (xs : List Tree) × Reading input xs × (new ≡ old ++ (a ++ (prints (trees_of xs) ++ c)))
+pub finished : (input place : List Tok) (old new before after a c : List ℕ) → place ≡ [] → before ≡ old ++ a → Appends input place before after → new ≡ after ++ c → (xs : List Tree) × ReadsFormula input xs × (new ≡ old ++ (a ++ (prints (trees_of xs) ++ c)))
 finished input place old new before after a c e f so_far g =
     let all = all_nodes input place before after e so_far in
     let b = prints (trees_of all.0) in

@@ -4,7 +4,7 @@ use Rattle.std.proofs.lemmas.List.{reverse-append}
 use Rattle.std.proofs.Math.Seq.{drop-nil}
 use Rattle.latex2mathml_formulas.specs.Frames.{after_members, end_of, tree_count, innermost, inside, script, within}
 use Rattle.latex2mathml_formulas.specs.Grammar.{Sort, core, node, gives, of_one, Outcome, Read, rule_gives}
-use Rattle.latex2mathml_formulas.specs.Levels.{awaits_members, end_token, level_of_rule, Leads, Made, RuleLeads, Takes}
+use Rattle.latex2mathml_formulas.specs.Levels.{awaits_members, end_token, level_of_rule, Leads, Made, RuleLeads, Accepts}
 use Rattle.latex2mathml_nodes.specs.Style.{styled}
 use Rattle.latex2mathml_nodes.specs.Tree.{Tree}
 use Rattle.latex2mathml_parts.specs.Parts.{arity, put, top}
@@ -78,8 +78,8 @@ leaf_put input fs k ts us place none e m =
 -- The part that a frame waits for.
 
 -- what the part leads to where the frame is this one
-pub as_frame : (input : List Tok) (fs : List Frame) (f g : Frame) (ts : List Tree) (o : Outcome Tree) → f ≡ g → Takes (within input fs f ts) o → Takes (within input fs g ts) o
-as_frame input fs f g ts o e k = subst (λ h. Takes (within input fs h ts) o) e k
+pub as_frame : (input : List Tok) (fs : List Frame) (f g : Frame) (ts : List Tree) (o : Outcome Tree) → f ≡ g → Accepts (within input fs f ts) o → Accepts (within input fs g ts) o
+as_frame input fs f g ts o e k = subst (λ h. Accepts (within input fs h ts) o) e k
 
 -- the last operand of a part is read
 last_read : (input : List Tok) (fs : List Frame) (k : Kind) (ts : List Tree) (place : List Tok) → 1 ≤ arity k → 1 ≤ length ts → Made core (inside input fs (drop (arity k - 1) (drop 1 ts))) (Read (top (put k (top ts ∷ drop 1 ts))) place) → Made core (inside input fs (drop (arity k) ts)) (Read (top (put k ts)) place)
@@ -87,14 +87,14 @@ last_read input fs k ts place some h m =
     subst (λ us. Made core (inside input fs us) (Read (top (put k ts)) place)) (sym (drop_from_one (arity k) ts some))
     (subst (λ us. Made core (inside input fs (drop (arity k - 1) (drop 1 ts))) (Read (top (put k us)) place)) (sym (some_trees ts h)) m)
 
-pub operand_read : (input : List Tok) (fs : List Frame) (f : Frame) (k : Kind) (ts : List Tree) (place : List Tok) → f ≡ frame.Operand k → 1 ≤ arity k → 1 ≤ length ts → Takes (within input fs f (drop 1 ts)) (Read (top ts) place) → Made core (inside input fs (drop (arity k) ts)) (Read (top (put k ts)) place)
+pub operand_read : (input : List Tok) (fs : List Frame) (f : Frame) (k : Kind) (ts : List Tree) (place : List Tok) → f ≡ frame.Operand k → 1 ≤ arity k → 1 ≤ length ts → Accepts (within input fs f (drop 1 ts)) (Read (top ts) place) → Made core (inside input fs (drop (arity k) ts)) (Read (top (put k ts)) place)
 operand_read input fs f k ts place e some h m = last_read input fs k ts place some h (as_frame input fs f (frame.Operand k) (drop 1 ts) _ e m _ rule_gives)
 
-pub last_single_read : (input : List Tok) (fs : List Frame) (f : Frame) (k : Kind) (ts : List Tree) (place : List Tok) → f ≡ frame.Last k → 1 ≤ arity k → 1 ≤ length ts → Takes (within input fs f (drop 1 ts)) (Read (top ts) place) → Made core (inside input fs (drop (arity k) ts)) (Read (top (put k ts)) place)
+pub last_single_read : (input : List Tok) (fs : List Frame) (f : Frame) (k : Kind) (ts : List Tree) (place : List Tok) → f ≡ frame.Last k → 1 ≤ arity k → 1 ≤ length ts → Accepts (within input fs f (drop 1 ts)) (Read (top ts) place) → Made core (inside input fs (drop (arity k) ts)) (Read (top (put k ts)) place)
 last_single_read input fs f k ts place e some h m = last_read input fs k ts place some h (as_frame input fs f (frame.Last k) (drop 1 ts) _ e m _ rule_gives)
 
 -- the first of two operands is read, and the second is due
-pub first_read : (input : List Tok) (fs : List Frame) (f : Frame) (k : Kind) (ts : List Tree) (place : List Tok) → f ≡ frame.First k → arity k ≡ 2 → 1 ≤ length ts → Takes (within input fs f (drop 1 ts)) (Read (top ts) place) → Leads (within input fs (frame.Operand k) ts) place
+pub first_read : (input : List Tok) (fs : List Frame) (f : Frame) (k : Kind) (ts : List Tree) (place : List Tok) → f ≡ frame.First k → arity k ≡ 2 → 1 ≤ length ts → Accepts (within input fs f (drop 1 ts)) (Read (top ts) place) → Leads (within input fs (frame.Operand k) ts) place
 first_read input fs f k ts place e two h m =
     let one : 1 ≡ arity k - 1 = omega arith in
     let below : drop 1 ts ≡ drop (arity k - 1) ts = ap (λ n. drop n ts) one in
@@ -105,15 +105,15 @@ first_read input fs f k ts place e two h m =
     (subst (λ us. RuleLeads (of_one (λ y. top (put k (y ∷ ts)))) (Made core (inside input fs us)) place) below b)
 
 -- what a style is given to is read
-pub styled_read : (input : List Tok) (fs : List Frame) (f : Frame) (v : Variant) (ts us : List Tree) (place : List Tok) → f ≡ frame.Style v → us ≡ styled v (top ts) ∷ drop 1 ts → Takes (within input fs f (drop 1 ts)) (Read (top ts) place) → Made core (inside input fs (drop 1 us)) (Read (top us) place)
+pub styled_read : (input : List Tok) (fs : List Frame) (f : Frame) (v : Variant) (ts us : List Tree) (place : List Tok) → f ≡ frame.Style v → us ≡ styled v (top ts) ∷ drop 1 ts → Accepts (within input fs f (drop 1 ts)) (Read (top ts) place) → Made core (inside input fs (drop 1 us)) (Read (top us) place)
 styled_read input fs f v ts us place e made m = core_put input fs us (drop 1 ts) (styled v (top ts)) place made (as_frame input fs f (frame.Style v) (drop 1 ts) _ e m _ rule_gives)
 
 -- a script is read
-pub script_read : (input : List Tok) (fs : List Frame) (f : Frame) (sign : Sign) (ts us : List Tree) (place : List Tok) → f ≡ frame.Script sign → us ≡ script sign (top (drop 1 ts)) (top ts) ∷ drop 2 ts → Takes (within input fs f (drop 1 ts)) (Read (top ts) place) → Takes (inside input fs (drop 1 us)) (Read (top us) place)
+pub script_read : (input : List Tok) (fs : List Frame) (f : Frame) (sign : Sign) (ts us : List Tree) (place : List Tok) → f ≡ frame.Script sign → us ≡ script sign (top (drop 1 ts)) (top ts) ∷ drop 2 ts → Accepts (within input fs f (drop 1 ts)) (Read (top ts) place) → Accepts (inside input fs (drop 1 us)) (Read (top us) place)
 script_read input fs f sign ts us place e made m =
     let l = inside input fs (drop 1 (drop 1 ts)) in
     let read : Made node l (Read (script sign (top (drop 1 ts)) (top ts)) place) = as_frame input fs f (frame.Script sign) (drop 1 ts) _ e m _ rule_gives in
-    subst (λ vs. Takes (inside input fs (drop 1 vs)) (Read (top vs) place)) (sym (made ∙ ap (λ vs. script sign (top (drop 1 ts)) (top ts) ∷ vs) (drop_from_one 2 ts (omega arith)))) (node_due l _ read)
+    subst (λ vs. Accepts (inside input fs (drop 1 vs)) (Read (top vs) place)) (sym (made ∙ ap (λ vs. script sign (top (drop 1 ts)) (top ts) ∷ vs) (drop_from_one 2 ts (omega arith)))) (node_due l _ read)
 
 -- Members.
 
@@ -126,7 +126,7 @@ held_more group.Brace n = refl
 held_more g n = refl
 
 -- one more member is read
-pub member_read : (input : List Tok) (fs : List Frame) (f : Frame) (g : Group) (n : ℕ) (ts : List Tree) (place : List Tok) → f ≡ frame.Members g n → 1 ≤ length ts → Takes (within input fs f (drop 1 ts)) (Read (top ts) place) → Leads (within input fs (frame.Members g (n + 1)) ts) place
+pub member_read : (input : List Tok) (fs : List Frame) (f : Frame) (g : Group) (n : ℕ) (ts : List Tree) (place : List Tok) → f ≡ frame.Members g n → 1 ≤ length ts → Accepts (within input fs f (drop 1 ts)) (Read (top ts) place) → Leads (within input fs (frame.Members g (n + 1)) ts) place
 member_read input fs f g n ts place e h m =
     let held_is : drop (tree_count (frame.Members g n)) (drop 1 ts) ≡ drop (tree_count (frame.Members g (n + 1))) ts = sym (ap (λ k. drop k ts) (held_more g n) ∙ drop_suc (tree_count (frame.Members g n)) ts) in
     let a = as_frame input fs f (frame.Members g n) (drop 1 ts) _ e m in

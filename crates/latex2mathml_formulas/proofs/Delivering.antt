@@ -3,7 +3,7 @@ use Rattle.std.proofs.Common.{◌≡◌, ◌≢◌, ◌⊎◌, inl, inr, ℕ, su
 use Rattle.std.specs.Prelude.{MatchBool}
 use Rattle.latex2mathml_formulas.specs.Frames.{after_first, inside, one_of_pair, pair_sign, two_of_pair, unfit, within}
 use Rattle.latex2mathml_formulas.specs.Grammar.{core, after_environment_members, environment, first, gives, node, of_one, Read, reads_part, Reads, Refused, rule_gives, single}
-use Rattle.latex2mathml_formulas.specs.Levels.{Leads, Made, RuleLeads, Takes}
+use Rattle.latex2mathml_formulas.specs.Levels.{Leads, Made, RuleLeads, Accepts}
 use Rattle.latex2mathml_formulas.specs.Marks.{NameStands, sign_token}
 use Rattle.latex2mathml_nodes.specs.Productions.{environment_tree, group_tree}
 use Rattle.latex2mathml_nodes.specs.Tree.{Tree, fenced, root}
@@ -30,7 +30,7 @@ pub waits_last : (f : Frame) (j k : Kind) → j ≡ k → (f ≡ frame.Operand k
 waits_last f j k e h = subst (λ i. (f ≡ frame.Operand i) ⊎ (f ≡ frame.Last i)) (sym e) h
 
 -- the last operand of a part is read, be it a core or a single
-pub last_operand_read : (input : List Tok) (fs : List Frame) (f : Frame) (k : Kind) (ts : List Tree) (place : List Tok) → (f ≡ frame.Operand k) ⊎ (f ≡ frame.Last k) → unfit f ≡ 0 → 1 ≤ length ts → Takes (within input fs f (drop 1 ts)) (Read (top ts) place) → Made core (inside input fs (drop (arity k) ts)) (Read (top (put k ts)) place)
+pub last_operand_read : (input : List Tok) (fs : List Frame) (f : Frame) (k : Kind) (ts : List Tree) (place : List Tok) → (f ≡ frame.Operand k) ⊎ (f ≡ frame.Last k) → unfit f ≡ 0 → 1 ≤ length ts → Accepts (within input fs f (drop 1 ts)) (Read (top ts) place) → Made core (inside input fs (drop (arity k) ts)) (Read (top (put k ts)) place)
 last_operand_read input fs f k ts place (inl e) fits h m =
     let none : 1 - arity k ≡ 0 = sym (ap unfit e) ∙ fits in
     operand_read input fs f k ts place e (omega (arith, none)) h m

@@ -4,7 +4,7 @@ use Rattle.std.proofs.Common.{ℕ, Bool, true, false, List, [], ◌∷◌, Optio
 use Rattle.std.specs.Str.{bytes_eq, chars, encode_utf8_all}
 use Rattle.latex2mathml_formulas.specs.RenderingLaws.{RendersDollarFree}
 use Rattle.latex2mathml_formulas.specs.Dollars.{IsDollarFree}
-use Rattle.latex2mathml_formulas.specs.Grammar.{environment, sized, stretched_or_refused, with_fence, Rule, rule, rule_after_core, rule_after_single, Outcome, Read, Reading}
+use Rattle.latex2mathml_formulas.specs.Grammar.{environment, sized, stretched_or_refused, with_fence, Rule, rule, rule_after_core, rule_after_single, Outcome, Read, ReadsFormula}
 use Rattle.latex2mathml_nodes.specs.Productions.{environment_tree, fence_of, fenced_matrix, matrix_of, matrix_members, stretched_operator, group_tree}
 use Rattle.latex2mathml_formulas.specs.Rendering.{IsRendering}
 use Rattle.latex2mathml_tokens.specs.Tok.{Tok, EOF, Begin, Paren, LBrace, Left, Right, Middle, Frac, Binom, Overset, Underset, Overbrace, Underbrace, Sqrt, Integral, Lim, BigOp, Style, Big, Over, Under, OperatorName, Slashed, Text}
@@ -125,7 +125,7 @@ all_free (t ∷ l) h = (h.0, all_free l h.1)
 
 -- the law
 pub dollar_free : (text : List ℕ) → RendersDollarFree text
-unfolding IsRendering Reading
+unfolding IsRendering ReadsFormula
 dollar_free text display markup d =
     let read : HasTrees free_sizes (Read d.2.0 []) = read_all free_sizes free_kept d.2.1 (all_free d.0 (free_tokens None (chars text) d.0 d.1)) in
     subst IsDollarFree (sym d.2.2) (free_math display d.2.0 read.0)

@@ -6,7 +6,7 @@ use Rattle.latex2mathml_nodes.specs.Productions.{prime_mark}
 use Rattle.latex2mathml_formulas.specs.Grammar.{Sort, core, single, node, Rule, gives, reads_part, reads_members, reads_sign, takes_token, sees_token, takes_letters, rule, a_name, first_or_end, AreLetters, prime, rule_after_core, rule_after_single, Outcome, Read, Refused, first, Reads, ReadsRule, core_at_end, core_begun, single_read, node_read, rule_gives, token_taken, token_at_end, token_seen, letters_taken, part_read, part_refused, members_read, members_refused, sign_stands, sign_missing, ReadsAll, group_ends, never_closed, member_read, later_refused, member_refused}
 use Rattle.latex2mathml_formulas.specs.Frames.{script}
 use Rattle.latex2mathml_formulas.specs.Marks.{LettersStand, MarkStands, NameStands, mark_token, rest_of, sign_token}
-use Rattle.latex2mathml_formulas.specs.Levels.{Standing, awaits_part, awaits_members, end_token, MayBegin, RuleLeads, Then, As, behind, Level, part, members, due_of, sort_of, Leads, Takes, Made, level_of_rule}
+use Rattle.latex2mathml_formulas.specs.Levels.{Standing, awaits_part, awaits_members, end_token, MayBegin, RuleLeads, Then, As, behind, Level, part, members, due_of, sort_of, Leads, Accepts, Made, level_of_rule}
 use Rattle.latex2mathml_tokens.specs.Refusal.{Refusal, UnexpectedToken}
 use Rattle.latex2mathml_tokens.specs.Tok.{Tok, EOF, Underscore, Circumflex}
 use Rattle.latex2mathml_tokens.specs.TokenText.{token_text}
@@ -78,7 +78,7 @@ other_end : (end t : Tok) → t ≢ end → Some end ≢ Some t
 other_end end t h e = h (sym cc)
 
 -- what is due may begin here
-part_at : (l : Level) (place : List Tok) → MayBegin (due_of l) place → Leads l place → (o : Outcome Tree) → Reads (sort_of l) place o → Takes l o
+part_at : (l : Level) (place : List Tok) → MayBegin (due_of l) place → Leads l place → (o : Outcome Tree) → Reads (sort_of l) place o → Accepts l o
 part_at (part s K) place may k o d = k o d
 part_at (members end K) [] may k o d = elim may [ ]
 part_at (members end K) (t ∷ rest) may k (Read x to) d = λ os ds. k _ (one_member (Some (end_token end)) t rest to x os (other_end (end_token end) t may) d ds)
@@ -91,11 +91,11 @@ core_at node K place k = part_leads core rule_after_core (Then rule_after_single
 
 -- a token is taken: its rule leads on
 pub begun : (l : Level) (place to : List Tok) (t : Tok) → MayBegin (due_of l) place → place ≡ t ∷ to → Leads l place → RuleLeads (rule t) (Made core l) to
-begun l place to t may same k = λ o d. core_at (sort_of l) (Takes l) place (part_at l place may k) o (subst (λ p. Reads core p o) (sym same) (core_begun d))
+begun l place to t may same k = λ o d. core_at (sort_of l) (Accepts l) place (part_at l place may k) o (subst (λ p. Reads core p o) (sym same) (core_begun d))
 
 -- no token is left
 pub begun_at_end : (l : Level) (x : Tree) → MayBegin (due_of l) [] → x ≡ undefined (token_text EOF) → Leads l [] → Made core l (Read x [])
-begun_at_end l x may same k = subst (λ y. Made core l (Read y [])) (sym same) (core_at (sort_of l) (Takes l) [] (part_at l [] may k) _ core_at_end)
+begun_at_end l x may same k = subst (λ y. Made core l (Read y [])) (sym same) (core_at (sort_of l) (Accepts l) [] (part_at l [] may k) _ core_at_end)
 
 -- Members.
 
@@ -112,7 +112,7 @@ pub group_begun : (end : GroupEnd) (xs : List Tree) (then : List Tree → Rule) 
 group_begun end xs then s l place none k = λ o d. subst (Then then (Made s l)) (sym (ap (λ ys. behind ys o) none ∙ behind-nil o)) (members_lead end then (Made s l) place k o d)
 
 -- one more member is read
-pub group_grown : (end : GroupEnd) (xs ys : List Tree) (then : List Tree → Rule) (s : Sort) (l : Level) (x : Tree) (place : List Tok) → ys ≡ xs ++ x ∷ [] → Takes (level_of_rule (awaits_members end xs then) s l) (Read x place) → Leads (level_of_rule (awaits_members end ys then) s l) place
+pub group_grown : (end : GroupEnd) (xs ys : List Tree) (then : List Tree → Rule) (s : Sort) (l : Level) (x : Tree) (place : List Tok) → ys ≡ xs ++ x ∷ [] → Accepts (level_of_rule (awaits_members end xs then) s l) (Read x place) → Leads (level_of_rule (awaits_members end ys then) s l) place
 group_grown end xs ys then s l x place same k = λ o d. subst (Then then (Made s l)) (sym (ap (λ zs. behind zs o) same ∙ behind-push xs x o)) (k o d)
 
 -- the end of a group is taken
@@ -128,7 +128,7 @@ unprimed_as node K x place h k = k _ (sign_missing h rule_gives)
 
 -- no prime follows a core
 pub unprimed : (l : Level) (x : Tree) (place : List Tok) → first place ≢ Some prime → Made core l (Read x place) → Made single l (Read x place)
-unprimed l x place h k = unprimed_as (sort_of l) (Takes l) x place h k
+unprimed l x place h k = unprimed_as (sort_of l) (Accepts l) x place h k
 
 unscripted_as : (s : Sort) (K : Outcome Tree → Type 0) (x : Tree) (place : List Tok) → first place ≢ Some Underscore → first place ≢ Some Circumflex → As single s K (Read x place) → K (Read x place)
 unscripted_as core K x place h i k = k
@@ -136,8 +136,8 @@ unscripted_as single K x place h i k = k
 unscripted_as node K x place h i k = k _ (sign_missing h (sign_missing i rule_gives))
 
 -- no sign follows a single
-pub unscripted : (l : Level) (x : Tree) (place : List Tok) → first place ≢ Some Underscore → first place ≢ Some Circumflex → Made single l (Read x place) → Takes l (Read x place)
-unscripted l x place h i k = unscripted_as (sort_of l) (Takes l) x place h i k
+pub unscripted : (l : Level) (x : Tree) (place : List Tok) → first place ≢ Some Underscore → first place ≢ Some Circumflex → Made single l (Read x place) → Accepts l (Read x place)
+unscripted l x place h i k = unscripted_as (sort_of l) (Accepts l) x place h i k
 
 sort_of-core : (l : Level) → due_of l ≡ due.Core → sort_of l ≡ core
 sort_of-core (part core K) e = refl
@@ -152,17 +152,17 @@ sort_of-single (part node K) e = cc
 sort_of-single (members end K) e = cc
 
 -- a core where a core is due
-pub core_due : (l : Level) (o : Outcome Tree) → due_of l ≡ due.Core → Made core l o → Takes l o
-core_due l o e k = subst (λ s. As core s (Takes l) o) (sort_of-core l e) k
+pub core_due : (l : Level) (o : Outcome Tree) → due_of l ≡ due.Core → Made core l o → Accepts l o
+core_due l o e k = subst (λ s. As core s (Accepts l) o) (sort_of-core l e) k
 
 -- a single where no script may follow
-pub single_due : (l : Level) (o : Outcome Tree) → (due_of l ≡ due.Core) ⊎ (due_of l ≡ due.Single) → Made single l o → Takes l o
-single_due l o (inl e) k = subst (λ s. As single s (Takes l) o) (sort_of-core l e) k
-single_due l o (inr e) k = subst (λ s. As single s (Takes l) o) (sort_of-single l e) k
+pub single_due : (l : Level) (o : Outcome Tree) → (due_of l ≡ due.Core) ⊎ (due_of l ≡ due.Single) → Made single l o → Accepts l o
+single_due l o (inl e) k = subst (λ s. As single s (Accepts l) o) (sort_of-core l e) k
+single_due l o (inr e) k = subst (λ s. As single s (Accepts l) o) (sort_of-single l e) k
 
 -- a node is a node wherever it is due
-pub node_due : (l : Level) (o : Outcome Tree) → Made node l o → Takes l o
-node_due l o k = as_node (sort_of l) (Takes l) o k
+pub node_due : (l : Level) (o : Outcome Tree) → Made node l o → Accepts l o
+node_due l o k = as_node (sort_of l) (Accepts l) o k
   where
     as_node : (s : Sort) (K : Outcome Tree → Type 0) (o : Outcome Tree) → As node s K o → K o
     as_node core K o k = k
@@ -182,7 +182,7 @@ more_than_core (members end K) h e = cc
 
 -- a prime is taken, where more than a core is due
 pub prime_taken : (l : Level) (x y : Tree) (place to : List Tok) → due_of l ≢ due.Core → place ≡ prime ∷ to → y ≡ superscript x prime_mark → Made core l (Read x place) → Made single l (Read y to)
-prime_taken l x y place to h same made k = subst (λ z. Made single l (Read z to)) (sym made) (primed_as (sort_of l) (Takes l) x place to (more_than_core l h) same k)
+prime_taken l x y place to h same made k = subst (λ z. Made single l (Read z to)) (sym made) (primed_as (sort_of l) (Accepts l) x place to (more_than_core l h) same k)
 
 scripted_as : (s : Sort) (K : Outcome Tree → Type 0) (x : Tree) (place : List Tok) → s ≡ node → As single s K (Read x place) → RuleLeads (rule_after_single x) (As node s K) place
 scripted_as core K x place e k = absurd cc
@@ -197,7 +197,7 @@ more_than_single (members end K) h i = refl
 
 -- a sign may follow, where a node is due
 pub script_follows : (l : Level) (x : Tree) (place : List Tok) → due_of l ≢ due.Core → due_of l ≢ due.Single → Made single l (Read x place) → RuleLeads (rule_after_single x) (Made node l) place
-script_follows l x place h i k = scripted_as (sort_of l) (Takes l) x place (more_than_single l h i) k
+script_follows l x place h i k = scripted_as (sort_of l) (Accepts l) x place (more_than_single l h i) k
 
 -- a sign is taken: a node follows
 pub sign_taken : (l : Level) (sign : Sign) (x : Tree) (place to : List Tok) → place ≡ sign_token sign ∷ to → RuleLeads (rule_after_single x) (Made node l) place → RuleLeads (reads_part node (λ y. gives (script sign x y))) (Made node l) to
@@ -212,13 +212,13 @@ passed (u ∷ us) to t e f = cc
 -- The mark that the code saw.
 
 -- none follows a single
-pub no_script : (l : Level) (x : Tree) (place to : List Tok) (mark : Option Mark) → mark ≡ None → MarkStands mark (first place) → to ≡ place → Made single l (Read x place) → Takes l (Read x to)
+pub no_script : (l : Level) (x : Tree) (place to : List Tok) (mark : Option Mark) → mark ≡ None → MarkStands mark (first place) → to ≡ place → Made single l (Read x place) → Accepts l (Read x to)
 no_script l x place to mark e stands same k =
     let none = subst (λ m. MarkStands m (first place)) e stands in
-    subst (λ p. Takes l (Read x p)) (sym same) (unscripted l x place none.1 none.2 k)
+    subst (λ p. Accepts l (Read x p)) (sym same) (unscripted l x place none.1 none.2 k)
 
 -- none follows a core
-pub no_mark : (l : Level) (x : Tree) (place to : List Tok) (mark : Option Mark) → mark ≡ None → MarkStands mark (first place) → to ≡ place → Made core l (Read x place) → Takes l (Read x to)
+pub no_mark : (l : Level) (x : Tree) (place to : List Tok) (mark : Option Mark) → mark ≡ None → MarkStands mark (first place) → to ≡ place → Made core l (Read x place) → Accepts l (Read x to)
 no_mark l x place to mark e stands same k =
     let none = subst (λ m. MarkStands m (first place)) e stands in
     no_script l x place to mark e stands same (unprimed l x place none.0 k)
@@ -227,10 +227,10 @@ stands_next : (place : List Tok) (mark : Option Mark) (m n : Mark) → mark ≡ 
 stands_next place mark m n e f stands = subst (λ x. MarkStands x (first place)) (e ∙ ap Some f) stands
 
 -- a second prime, which no rule takes
-pub second_prime : (l : Level) (x : Tree) (place to : List Tok) (mark : Option Mark) (m : Mark) → mark ≡ Some m → m ≡ Prime → MarkStands mark (first place) → to ≡ place → Made single l (Read x place) → Takes l (Read x to)
+pub second_prime : (l : Level) (x : Tree) (place to : List Tok) (mark : Option Mark) (m : Mark) → mark ≡ Some m → m ≡ Prime → MarkStands mark (first place) → to ≡ place → Made single l (Read x place) → Accepts l (Read x to)
 second_prime l x place to mark m e f stands same k =
     let next = stands_next place mark m Prime e f stands in
-    subst (λ p. Takes l (Read x p)) (sym same) (unscripted l x place (λ h. cc) (λ h. cc) k)
+    subst (λ p. Accepts l (Read x p)) (sym same) (unscripted l x place (λ h. cc) (λ h. cc) k)
 
 -- a sign, and no prime, follows a core
 pub no_prime : (l : Level) (x : Tree) (place to : List Tok) (mark : Option Mark) (m : Mark) (sign : Sign) → mark ≡ Some m → m ≡ Script sign → MarkStands mark (first place) → to ≡ place → Made core l (Read x place) → Made single l (Read x to)
@@ -259,13 +259,13 @@ as_refused node core K r k = k
 as_refused node single K r k = k
 as_refused node node K r k = k
 
-takes_refused : (l : Level) (r : Refusal) → Takes l (Refused r) → Denies l r
+takes_refused : (l : Level) (r : Refusal) → Accepts l (Refused r) → Denies l r
 takes_refused (part s K) r k = k
 takes_refused (members end K) r k = k
 
 -- a core, a single or a node that refuses
 pub made_refused : (s : Sort) (l : Level) (r : Refusal) → Made s l (Refused r) → Denies l r
-made_refused s l r k = takes_refused l r (as_refused s (sort_of l) (Takes l) r k)
+made_refused s l r k = takes_refused l r (as_refused s (sort_of l) (Accepts l) r k)
 
 -- what is begun at a level refuses there
 pub entered_denies : (f : Standing) (s : Sort) (l : Level) (r : Refusal) → Denies (level_of_rule f s l) r → Denies l r

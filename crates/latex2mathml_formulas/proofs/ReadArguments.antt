@@ -3,7 +3,7 @@
 use Rattle.std.proofs.Common.{ℕ, Bool, true, false, List, [], ◌∷◌, Option, Some, None, codes, cond}
 use Rattle.std.specs.Str.{bytes_eq, encode_utf8_all}
 use Rattle.latex2mathml_nodes.specs.Arguments.{HasNoArgument, HaveNoArgument}
-use Rattle.latex2mathml_formulas.specs.Grammar.{environment, sized, stretched_or_refused, with_fence, Rule, rule, rule_after_core, rule_after_single, Outcome, Read, Reading}
+use Rattle.latex2mathml_formulas.specs.Grammar.{environment, sized, stretched_or_refused, with_fence, Rule, rule, rule_after_core, rule_after_single, Outcome, Read, ReadsFormula}
 use Rattle.latex2mathml_nodes.specs.Productions.{environment_tree, fence_of, fenced_matrix, matrix_of, matrix_members, stretched_operator, group_tree}
 use Rattle.latex2mathml_tokens.specs.Tok.{Tok, EOF, Begin, Paren, LBrace, Left, Right, Middle, Frac, Binom, Overset, Underset, Overbrace, Underbrace, Sqrt, Integral, Lim, BigOp, Style, Big, Over, Under, OperatorName, Slashed, Text}
 use Rattle.latex2mathml_nodes.specs.Style.{styled, all_styled}
@@ -121,8 +121,8 @@ any_tokens : (l : List Tok) → AllTokens no_argument l
 any_tokens [] = tt
 any_tokens (t ∷ l) = (tt, any_tokens l)
 
-pub reading_has_no_argument : (l : List Tok) (xs : List Tree) → Reading l xs → NoneHasArgument xs
-unfolding Reading
+pub reading_has_no_argument : (l : List Tok) (xs : List Tree) → ReadsFormula l xs → NoneHasArgument xs
+unfolding ReadsFormula
 reading_has_no_argument l xs d =
     let read : HasTrees no_argument (Read xs []) = read_all no_argument no_argument_kept d (any_tokens l) in
     read.0

@@ -1,7 +1,7 @@
 -- Each formula has exactly one rendering or exactly one refusal.
 use Rattle.std.proofs.Common.{◌≡◌, ◌⊎◌, ℕ, List, None, ⊎_elim, inl, inr, refl, sym, ap, ◌∙◌, subst}
 use Rattle.std.specs.Str.{chars}
-use Rattle.latex2mathml_formulas.specs.Grammar.{Reading, Refuses}
+use Rattle.latex2mathml_formulas.specs.Grammar.{ReadsFormula, Refuses}
 use Rattle.latex2mathml_formulas.specs.Rendering.{IsRendering, IsFormulaRefusal, math_print}
 use Rattle.latex2mathml_formulas.specs.RenderingLaws.{HasOneRendering, RenderingsHold}
 use Rattle.latex2mathml_formulas.specs.Spelling.{HasTokens}
@@ -28,7 +28,7 @@ module _ (text : List ℕ) (display : DisplayStyle) where
   once : (markup other : List ℕ) → IsRendering text display markup → IsRendering text display other → markup ≡ other
   unfolding IsRendering
   once markup other (ts, h, d) (us, k, e) =
-      d.2 ∙ ap (math_print display) ((has_one_reading us).one_reading d.0 e.0 (subst (λ l. Reading l d.0) (same_tokens ts us h k) d.1) e.1) ∙ sym e.2
+      d.2 ∙ ap (math_print display) ((has_one_reading us).one_reading d.0 e.0 (subst (λ l. ReadsFormula l d.0) (same_tokens ts us h k) d.1) e.1) ∙ sym e.2
 
   refused_once : (refusal other : Refusal) → IsFormulaRefusal text refusal → IsFormulaRefusal text other → refusal ≡ other
   unfolding IsFormulaRefusal
@@ -38,7 +38,7 @@ module _ (text : List ℕ) (display : DisplayStyle) where
   not_both : (markup : List ℕ) (refusal : Refusal) → IsRendering text display markup → IsFormulaRefusal text refusal → ⊥
   unfolding IsRendering IsFormulaRefusal
   not_both markup refusal (ts, h, d) (us, k, e) =
-      (has_one_reading us).never_both d.0 refusal (subst (λ l. Reading l d.0) (same_tokens ts us h k) d.1) e
+      (has_one_reading us).never_both d.0 refusal (subst (λ l. ReadsFormula l d.0) (same_tokens ts us h k) d.1) e
 
   pub has_one_rendering : HasOneRendering text display
   has_one_rendering = record { some = some; one_rendering = once; one_refusal = refused_once; never_both = not_both }

@@ -4,7 +4,7 @@ use Rattle.std.specs.Prelude.{IsTrue}
 use Rattle.std.proofs.lemmas.List.{reverse-append}
 use Rattle.latex2mathml_formulas.specs.Frames.{awaits, enter, first_due, tree_count, innermost, inside, inside_all, sort_made, standing_of, takes_script, whole, within}
 use Rattle.latex2mathml_formulas.specs.Grammar.{core, node, Outcome, Read, Reads, Refused, rule, Rule, rule_gives, gives, refuses, rule_refuses}
-use Rattle.latex2mathml_formulas.specs.Levels.{due_of, end_token, Leads, Level, Made, MayBegin, RuleLeads, Takes}
+use Rattle.latex2mathml_formulas.specs.Levels.{due_of, end_token, Leads, Level, Made, MayBegin, RuleLeads, Accepts}
 use Rattle.latex2mathml_nodes.specs.Tree.{Tree, undefined}
 use Rattle.latex2mathml_parts.specs.Parts.{top}
 use Rattle.latex2mathml_tokens.specs.Refusal.{Refusal, UnexpectedToken}
@@ -34,8 +34,8 @@ pub put_on : (input : List Tok) (fs gs : List Frame) (f : Frame) (ts : List Tree
 put_on input fs gs f ts place e k = subst (λ l. Leads l place) (sym (inside_push input fs gs f ts e)) k
 
 -- a frame is taken off
-pub taken_off : (input : List Tok) (fs gs : List Frame) (f : Frame) (ts : List Tree) (o : Outcome Tree) → gs ≡ fs ++ f ∷ [] → Takes (inside input gs ts) o → Takes (within input fs f ts) o
-taken_off input fs gs f ts o e k = subst (λ l. Takes l o) (inside_push input fs gs f ts e) k
+pub taken_off : (input : List Tok) (fs gs : List Frame) (f : Frame) (ts : List Tree) (o : Outcome Tree) → gs ≡ fs ++ f ∷ [] → Accepts (inside input gs ts) o → Accepts (within input fs f ts) o
+taken_off input fs gs f ts o e k = subst (λ l. Accepts l o) (inside_push input fs gs f ts e) k
 
 -- What is due.
 

@@ -1,7 +1,7 @@
 -- Each list of tokens has an outcome.
 use Rattle.std.proofs.Common.{ℕ, zero, suc, ◌-◌, ◌≤◌, ◌≡◌, ◌≢◌, ◌⊎◌, inl, inr, List, [], ◌∷◌, length, Option, Some, None, refl, sym, ap, subst, arith}
 use Rattle.latex2mathml_tokens.specs.Discreteness.{tok-discrete}
-use Rattle.latex2mathml_formulas.specs.Grammar.{Sort, core, single, node, Rule, gives, refuses, reads_part, reads_members, reads_sign, takes_token, sees_token, takes_letters, rule, rule_after_core, rule_after_single, Outcome, Read, Refused, first_or_end, letter_of, AreLetters, Reads, core_at_end, core_begun, single_read, node_read, ReadsRule, rule_gives, rule_refuses, part_read, part_refused, members_read, members_refused, sign_stands, sign_missing, token_taken, token_at_end, token_seen, letters_taken, ReadsAll, formula_ends, group_ends, never_closed, member_read, later_refused, member_refused, Reading, Refuses}
+use Rattle.latex2mathml_formulas.specs.Grammar.{Sort, core, single, node, Rule, gives, refuses, reads_part, reads_members, reads_sign, takes_token, sees_token, takes_letters, rule, rule_after_core, rule_after_single, Outcome, Read, Refused, first_or_end, letter_of, AreLetters, Reads, core_at_end, core_begun, single_read, node_read, ReadsRule, rule_gives, rule_refuses, part_read, part_refused, members_read, members_refused, sign_stands, sign_missing, token_taken, token_at_end, token_seen, letters_taken, ReadsAll, formula_ends, group_ends, never_closed, member_read, later_refused, member_refused, ReadsFormula, Refuses}
 use Rattle.latex2mathml_tokens.specs.Refusal.{Refusal}
 use Rattle.latex2mathml_tokens.specs.Tok.{Tok, EOF}
 use Rattle.latex2mathml_nodes.specs.Tree.{Tree}
@@ -204,8 +204,8 @@ nothing_left e (group_ends p) = absurd cc
 nothing_left e (member_read h d ds) = nothing_left e ds
 
 -- a formula has a reading or a refusal
-pub some_outcome : (l : List Tok) → ((xs : List Tree) × Reading l xs) ⊎ ((r : Refusal) × Refuses l r)
-unfolding Reading Refuses
+pub some_outcome : (l : List Tok) → ((xs : List Tree) × ReadsFormula l xs) ⊎ ((r : Refusal) × Refuses l r)
+unfolding ReadsFormula Refuses
 some_outcome l =
     let d = (outcomes (length l)).of_all None l (omega arith) in
     sided d.0 d.1

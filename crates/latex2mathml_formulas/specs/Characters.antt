@@ -1,12 +1,7 @@
 -- Texts as lists of characters. A character is its code point.
 use Rattle.std.specs.Prelude.{◌≡◌, ℕ, Bool, true, false, ◌||◌, ◌==◌, List, [], ◌∷◌, Option, Some, None, codes, ⊤}
 use Prim.Native.String.{String}
-
--- the list has the character
-abbrev pub is_among : ℕ → List ℕ → Bool
-is_among c [] = false
-is_among c (d ∷ []) = c == d
-is_among c (d ∷ e ∷ rest) = c == d || is_among c (e ∷ rest)
+use Rattle.latex2mathml_tokens.specs.Among.{is_among}
 
 -- the character is one of these
 infix 60 ◌∈◌

@@ -307,8 +307,8 @@ mutual
         → ReadsAll end (t ∷ l) (Refused r)
 
 -- the trees are a reading of the formula
-unfoldable pub Reading : List Tok → List Tree → Type 0
-Reading l xs = ReadsAll None l (Read xs [])
+unfoldable pub ReadsFormula : List Tok → List Tree → Type 0
+ReadsFormula l xs = ReadsAll None l (Read xs [])
 
 -- the formula is refused
 unfoldable pub Refuses : List Tok → Refusal → Type 0

@@ -1,6 +1,6 @@
 -- Laws of the grammar: they hold of every list of tokens, and whatever the rules are.
 use Rattle.std.specs.Prelude.{◌≡◌, ◌⊎◌, ◌↔◌, List, [], ◌++◌, Some}
-use Rattle.latex2mathml_formulas.specs.Grammar.{Sort, Rule, Read, Refused, Reads, ReadsRule, ReadsAll, Reading, Refuses}
+use Rattle.latex2mathml_formulas.specs.Grammar.{Sort, Rule, Read, Refused, Reads, ReadsRule, ReadsAll, ReadsFormula, Refuses}
 use Rattle.latex2mathml_tokens.specs.Refusal.{Refusal}
 use Rattle.latex2mathml_formulas.specs.SliceRefusals.{PartRefuses, RuleRefuses, MembersRefuse, FormulaRefuses}
 use Rattle.latex2mathml_formulas.specs.Slices.{IsPart, AreParts, AreMembers, AreNodes}
@@ -10,13 +10,13 @@ use Rattle.latex2mathml_nodes.specs.Tree.{Tree}
 -- the tokens have exactly one reading or exactly one refusal
 pub record HasOneReading (l : List Tok) : Type 0 where
   -- they have a reading or a refusal
-  pub some : ((xs : List Tree) × Reading l xs) ⊎ ((r : Refusal) × Refuses l r)
+  pub some : ((xs : List Tree) × ReadsFormula l xs) ⊎ ((r : Refusal) × Refuses l r)
   -- two readings are the same trees
-  pub one_reading : (xs ys : List Tree) → Reading l xs → Reading l ys → xs ≡ ys
+  pub one_reading : (xs ys : List Tree) → ReadsFormula l xs → ReadsFormula l ys → xs ≡ ys
   -- two refusals are the same refusal
   pub one_refusal : (r q : Refusal) → Refuses l r → Refuses l q → r ≡ q
   -- what has a reading is not refused
-  pub never_both : (xs : List Tree) (r : Refusal) → Reading l xs → Refuses l r → ⊥
+  pub never_both : (xs : List Tree) (r : Refusal) → ReadsFormula l xs → Refuses l r → ⊥
 
 -- what is read is a slice of the tokens, with the rest behind it
 pub record IsSliced : Type 0 where
@@ -32,7 +32,7 @@ pub record IsReadBySlices : Type 0 where
   pub parts : (s : Sort) (w f : List Tok) (x : Tree) → Reads s (w ++ f) (Read x f) ↔ IsPart s w f x
   pub rules : (r : Rule) (w f : List Tok) (x : Tree) → ReadsRule r (w ++ f) (Read x f) ↔ AreParts r w f x
   pub groups : (end : Tok) (w f : List Tok) (xs : List Tree) → ReadsAll (Some end) (w ++ f) (Read xs f) ↔ AreMembers end w f xs
-  pub formulas : (l : List Tok) (xs : List Tree) → Reading l xs ↔ AreNodes l xs
+  pub formulas : (l : List Tok) (xs : List Tree) → ReadsFormula l xs ↔ AreNodes l xs
 
 -- tokens are refused exactly where the grammar over slices refuses them
 pub record IsRefusedBySlices : Type 0 where

@@ -81,14 +81,14 @@ Leads (part s K) place = (o : Outcome Tree) → Reads s place o → K o
 Leads (members end K) place = (o : Outcome (List Tree)) → ReadsAll (Some (end_token end)) place o → K o
 
 -- where the outcome of the part, or of one member, leads
-abbrev pub Takes : Level → Outcome Tree → Type 0
-Takes (part s K) o = K o
-Takes (members end K) (Read x place) = (o : Outcome (List Tree)) → ReadsAll (Some (end_token end)) place o → K (behind (x ∷ []) o)
-Takes (members end K) (Refused r) = K (Refused r)
+abbrev pub Accepts : Level → Outcome Tree → Type 0
+Accepts (part s K) o = K o
+Accepts (members end K) (Read x place) = (o : Outcome (List Tree)) → ReadsAll (Some (end_token end)) place o → K (behind (x ∷ []) o)
+Accepts (members end K) (Refused r) = K (Refused r)
 
 -- where the outcome of a core, a single or a node leads
 abbrev pub Made : Sort → Level → Outcome Tree → Type 0
-Made s l = As s (sort_of l) (Takes l)
+Made s l = As s (sort_of l) (Accepts l)
 
 -- the level within a rule of this sort that was begun at a level
 abbrev pub level_of_rule : Standing → Sort → Level → Level

@@ -2,7 +2,7 @@
 use Rattle.std.specs.Prelude.{◌≡◌, ℕ, List, ◌++◌, None, codes}
 use Rattle.std.specs.Str.{chars}
 use Rattle.latex2mathml_tokens.specs.Attributes.{display_text}
-use Rattle.latex2mathml_formulas.specs.Grammar.{Reading, Refuses}
+use Rattle.latex2mathml_formulas.specs.Grammar.{ReadsFormula, Refuses}
 use Rattle.latex2mathml_nodes.specs.Print.{prints}
 use Rattle.latex2mathml_tokens.specs.Refusal.{Refusal}
 use Rattle.latex2mathml_formulas.specs.Spelling.{HasTokens}
@@ -17,7 +17,7 @@ math_print display xs = codes "<math xmlns=\"http://www.w3.org/1998/Math/MathML\
 -- the markup is that of a reading of the text's tokens
 unfoldable pub IsRendering : List ℕ → DisplayStyle → List ℕ → Type 0
 IsRendering text display markup =
-    (ts : List Tok) × HasTokens None (chars text) ts × ((xs : List Tree) × Reading ts xs × (markup ≡ math_print display xs))
+    (ts : List Tok) × HasTokens None (chars text) ts × ((xs : List Tree) × ReadsFormula ts xs × (markup ≡ math_print display xs))
 
 -- the grammar refuses the text's tokens
 unfoldable pub IsFormulaRefusal : List ℕ → Refusal → Type 0

@@ -2,12 +2,12 @@
 use Rattle.std.specs.Prelude.{◌≡◌, Bool, true, false, ℕ, ◌+◌, ◌*◌, ◌<◌, ◌≤◌, List, [], ◌++◌, drop, length, sum_by, IfSome}
 use Rattle.latex2mathml_formulas.specs.Frames.{tree_count, innermost, inside}
 use Rattle.latex2mathml_formulas.specs.Grammar.{core, node, Outcome, Read, Reads, Refused, Rule}
-use Rattle.latex2mathml_formulas.specs.Levels.{Leads, Level, Made, RuleLeads, Takes}
+use Rattle.latex2mathml_formulas.specs.Levels.{Leads, Level, Made, RuleLeads, Accepts}
 use Rattle.latex2mathml_formulas.specs.Openers.{opens}
 use Rattle.latex2mathml_formulas.specs.Unread.{GoesOn, OpensFor}
 use Rattle.latex2mathml_nodes.specs.Print.{print}
 use Rattle.latex2mathml_nodes.specs.Tree.{Tree}
-use Rattle.latex2mathml_parts.specs.Parts.{top, trees}
+use Rattle.latex2mathml_parts.specs.Parts.{top, trees_in}
 use Rattle.latex2mathml_tokens.specs.Lexemes.{lexeme_tok}
 use Rattle.latex2mathml_tokens.specs.Refusal.{refusal_of}
 use Rattle.latex2mathml_tokens.specs.Tok.{Tok}
@@ -23,11 +23,11 @@ use Rattle.latex2mathml_formulas.specs.declared.parse.frames.Frame.TheVariants a
 
 -- the level that the parser is at, without the last n trees
 abbrev pub level : ℕ → List Tok → Parser → Level
-level n input p = inside input p.frames.stack.items (drop n (trees p.parts))
+level n input p = inside input p.frames.stack.items (drop n (trees_in p.parts))
 
 -- the last tree is read, down to the tokens that are left
 abbrev pub last_tree_read : Parser → Outcome Tree
-last_tree_read p = Read (top (trees p.parts)) p.reader.list
+last_tree_read p = Read (top (trees_in p.parts)) p.reader.list
 
 -- whatever the rest of a core's rule comes to, it leads on; without the last n trees
 abbrev pub GoesOnBy : Rule → ℕ → List Tok → Parser → Type 0
@@ -41,7 +41,7 @@ Ends input p = (p.frames.stack.items ≡ []) × Reads node input (last_tree_read
 abbrev pub Holds : List Tok → Parser → State → Type 0
 Holds input p state.Next = Leads (level 0 input p) p.reader.list
 Holds input p state.Core = Made core (level 1 input p) (last_tree_read p)
-Holds input p state.Part = Takes (level 1 input p) (last_tree_read p)
+Holds input p state.Part = Accepts (level 1 input p) (last_tree_read p)
 Holds input p state.End = Ends input p
 Holds input p state.Refused = IfSome (refusal_of p.refusal) (λ r. Reads node input (Refused r))
 
@@ -52,7 +52,7 @@ end_of false = state.Refused
 
 -- there are trees for all frames, and n more
 abbrev pub HasTrees : ℕ → Parser → Type 0
-HasTrees n p = sum_by tree_count p.frames.stack.items + n ≤ length (trees p.parts)
+HasTrees n p = sum_by tree_count p.frames.stack.items + n ≤ length (trees_in p.parts)
 
 -- how many trees a state speaks of
 abbrev pub trees_of_state : State → ℕ
@@ -63,14 +63,14 @@ trees_of_state state.End = 1
 trees_of_state state.Refused = 0
 
 -- how much a frame still brings, apart from the part that it waits for
-abbrev pub weight : Frame → ℕ
-weight (frame.Members g n) = 1
-weight (frame.First k) = 5
-weight f = 2
+abbrev pub frame_weight : Frame → ℕ
+frame_weight (frame.Members g n) = 1
+frame_weight (frame.First k) = 5
+frame_weight f = 2
 
 -- what the tokens that are left and the frames still bring
 abbrev pub to_do : Parser → ℕ
-to_do p = 16 * length p.reader.list + sum_by weight p.frames.stack.items
+to_do p = 16 * length p.reader.list + sum_by frame_weight p.frames.stack.items
 
 abbrev pub state_weight : State → Due → ℕ
 state_weight state.Next (due.Member end) = 2

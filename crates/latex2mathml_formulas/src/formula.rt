@@ -1,7 +1,7 @@
 //! From a formula to its markup.
 ghost use Rattle.std.specs.Prelude.{◌≡◌, ℕ, ◌∷◌, ◌++◌, [], IfOk, List, OnOk, codes, string_bytes};
 ghost use Rattle.latex2mathml_formulas.specs.Counts.{IsRefusedWithin};
-ghost use Rattle.latex2mathml_formulas.specs.Grammar.{Reading, Refuses};
+ghost use Rattle.latex2mathml_formulas.specs.Grammar.{ReadsFormula, Refuses};
 ghost use Rattle.latex2mathml_formulas.specs.Openers.{opens};
 ghost use Rattle.latex2mathml_formulas.specs.Rendering.{IsFormulaRefusal, IsRendering, math_print};
 ghost use Rattle.latex2mathml_formulas.specs.Steps.{Counted, HasTrees, Holds, IsAppended, trees_of_state};
@@ -29,7 +29,7 @@ pub(crate) fn append_math(
     markup: &mut String,
 ) -> Result<(), LatexError>
     requires { parser.old.frames.stack.items ≡ [] }
-    ensures rendering { OnOk result ((xs : List Tree) × Reading parser.old.reader.list xs
+    ensures rendering { OnOk result ((xs : List Tree) × ReadsFormula parser.old.reader.list xs
         × (string_bytes markup.new ≡ string_bytes markup.old ++ math_print display xs)) }
     ensures refused { IfRefused result (Refuses parser.old.reader.list) }
     ensures within { IfRefused result (IsRefusedWithin parser.old.reader.list parser.new.reader.list) }
@@ -54,7 +54,7 @@ pub(crate) fn append_math(
 /// Returns the `math` element of the tokens that are left.
 pub(crate) fn math(parser: &mut Parser, display: DisplayStyle) -> Result<String, LatexError>
     requires { parser.old.frames.stack.items ≡ [] }
-    ensures rendering { IfOk result (λ markup. (xs : List Tree) × Reading parser.old.reader.list xs
+    ensures rendering { IfOk result (λ markup. (xs : List Tree) × ReadsFormula parser.old.reader.list xs
         × (string_bytes markup ≡ math_print display xs)) }
     ensures refused { IfRefused result (Refuses parser.old.reader.list) }
     ensures within { IfRefused result (IsRefusedWithin parser.old.reader.list parser.new.reader.list) }

@@ -7,9 +7,9 @@ ghost use Rattle.latex2mathml_formulas.specs.Cutting.{slices_of};
 ghost use Rattle.latex2mathml_formulas.specs.Frames.{awaits, tree_count, unfit, within};
 ghost use Rattle.latex2mathml_formulas.specs.Grammar.{Read, Reads, Refused, core as a_core, node as a_node};
 ghost use Rattle.latex2mathml_formulas.specs.Levels.{Leads, Made};
-ghost use Rattle.latex2mathml_formulas.specs.Steps.{Counted, Follows, HasTrees, Holds, end_of, level, trees_of_state, state_weight, to_do, weight, work};
+ghost use Rattle.latex2mathml_formulas.specs.Steps.{Counted, Follows, HasTrees, Holds, end_of, level, trees_of_state, state_weight, to_do, frame_weight, work};
 ghost use Rattle.latex2mathml_formulas.specs.Unread.{token_list};
-ghost use Rattle.latex2mathml_parts.specs.Parts.{trees};
+ghost use Rattle.latex2mathml_parts.specs.Parts.{trees_in};
 ghost use Rattle.latex2mathml_tokens.specs.Lexemes.{lexeme_tok};
 ghost use Rattle.latex2mathml_tokens.specs.Refusal.{IfRefused, MissingParensethis};
 ghost use Rattle.latex2mathml_tokens.specs.Tok.{Tok, tok};
@@ -192,10 +192,10 @@ impl<'a> Parser<'a> {
         requires fit { unfit frame ≡ 0 }
         requires trees { HasTrees (tree_count frame) self.old }
         ensures holds { (input : List Tok)
-            → Leads (within input self.old.frames.stack.items frame.entry (trees self.old.parts)) self.old.reader.list
+            → Leads (within input self.old.frames.stack.items frame.entry (trees_in self.old.parts)) self.old.reader.list
             → IfOk result (Holds input self.new) }
         ensures counted { Counted 1 self.old self.new }
-        ensures follows { IfOk result (Follows (to_do self.old + weight frame.entry + 6) self.new) }
+        ensures follows { IfOk result (Follows (to_do self.old + frame_weight frame.entry + 6) self.new) }
     {
         self.frames.open(frame)?;
         Ok(State::Next)
@@ -207,10 +207,10 @@ impl<'a> Parser<'a> {
         requires trees { HasTrees (tree_count frame) self.old }
         requires room { vec_len self.old.frames.stack < self.old.frames.greatest }
         ensures holds { (input : List Tok)
-            → Leads (within input self.old.frames.stack.items frame.entry (trees self.old.parts)) self.old.reader.list
+            → Leads (within input self.old.frames.stack.items frame.entry (trees_in self.old.parts)) self.old.reader.list
             → IfOk result (Holds input self.new) }
         ensures counted { Counted 0 self.old self.new }
-        ensures follows { IfOk result (Follows (to_do self.old + weight frame.entry + state_weight State.Next (awaits frame.entry) + 1) self.new) }
+        ensures follows { IfOk result (Follows (to_do self.old + frame_weight frame.entry + state_weight State.Next (awaits frame.entry) + 1) self.new) }
     {
         self.frames.put_back(frame)?;
         Ok(State::Next)

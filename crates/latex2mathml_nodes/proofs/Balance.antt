@@ -1,10 +1,11 @@
 -- The print of every tree is balanced.
 use Rattle.std.proofs.Common.{◌≡◌, ℕ, Bool, true, false, ◌&&◌, IsTrue, List, [], ◌∷◌, ◌++◌, Some, None, refl, sym, ap, ◌∙◌, append_assoc, codes, cond, option_and_then}
+use Rattle.std.specs.Str.{bytes_eq}
 use Rattle.std.proofs.lemmas.Option.{option_and_then_some}
 use Rattle.std.specs.Char.{encode_utf8}
 use Rattle.latex2mathml_tokens.specs.Attributes.{accent_text, align_text, thickness_text}
 use Rattle.latex2mathml_tokens.specs.Escape.{content, content_char, quoted}
-use Rattle.latex2mathml_nodes.specs.Markup.{Name, numbered, Event, open_tag, close_tag, empty_tag, reference, data_byte, OpenElements, lowest, above, at_start, add, any_element, Runs, IsBalanced, is_event, name_of, run, same_name, spell_event, step}
+use Rattle.latex2mathml_nodes.specs.Markup.{Name, numbered, Event, open_tag, close_tag, empty_tag, reference, data_byte, OpenElements, lowest, above, at_start, add, any_element, Runs, IsBalanced, is_event, name_of, run, spell_event, step}
 use Rattle.latex2mathml_nodes.specs.MathSchema.{child_table}
 use Rattle.latex2mathml_nodes.specs.Print.{print, prints, member_print, members_print, slashed_print, style_open}
 use Rattle.latex2mathml_nodes.specs.Tree.{Tree, Trees, number, letter, operator, function, applied, space, subscript, superscript, sub_sup, over_op, under_op, overset, underset, under, under_over, root, sqrt, frac, row, fenced, stretched, other_operator, sized_paren, words, matrix, ampersand, new_line, slashed, style, undefined, no_trees, more_trees}
@@ -56,7 +57,7 @@ empty_any false s t h = cc
 step_any : (p : Event) (s t : OpenElements) → step child_table p s ≡ Some t → step any_element p s ≡ Some t
 step_any (open_tag n attributes) s t h = h
 step_any (close_tag n) (lowest ks d) t h = h
-step_any (close_tag n) (above m ks d s) t h = close_any (same_name n m) (child_table (name_of s) m ks d) s t h
+step_any (close_tag n) (above m ks d s) t h = close_any (bytes_eq n m) (child_table (name_of s) m ks d) s t h
 step_any (empty_tag n attributes) s t h = empty_any (child_table (name_of s) n [] false) (add n s) t h
 step_any (reference r) s t h = h
 step_any (data_byte b) s t h = h

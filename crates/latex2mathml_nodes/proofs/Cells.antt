@@ -1,8 +1,9 @@
 -- The cells of a table, which end and begin between the prints of its members.
 use Rattle.std.proofs.Common.{ℕ, false, IsTrue, List, [], ◌∷◌, ◌++◌, Some, None, refl, ap, codes, map, cond}
+use Rattle.std.specs.Str.{bytes_eq}
 use Rattle.std.specs.List.{list_all}
 use Rattle.latex2mathml_tokens.specs.Attributes.{align_text}
-use Rattle.latex2mathml_nodes.specs.Markup.{Name, plain, attribute, open_tag, OpenElements, above, add, Schema, Runs, same_name}
+use Rattle.latex2mathml_nodes.specs.Markup.{Name, plain, attribute, open_tag, OpenElements, above, add, Schema, Runs}
 use Rattle.latex2mathml_nodes.specs.MathSchema.{child_table}
 use Rattle.latex2mathml_nodes.specs.Print.{member_print, print}
 use Rattle.latex2mathml_nodes.specs.Tree.{Tree, ampersand, new_line}
@@ -24,16 +25,16 @@ table_opened schema align.Right rest s t m = joined (single schema (open_tag (co
 close_cell : (ks cs rs : List Name) (s : OpenElements) → Runs child_table (codes "</mtd>") (in_cell ks cs rs s) (above (codes "mtr") (codes "mtd" ∷ cs) false (above (codes "mtable") (codes "mtr" ∷ rs) false s))
 close_cell ks cs rs s = closed child_table (codes "mtd") ks false _ refl refl
 
-close_row : (cs rs : List Name) (s : OpenElements) → IsTrue (list_all (same_name (codes "mtd")) cs) → Runs child_table (codes "</mtr>") (above (codes "mtr") (codes "mtd" ∷ cs) false (above (codes "mtable") (codes "mtr" ∷ rs) false s)) (above (codes "mtable") (codes "mtr" ∷ rs) false s)
+close_row : (cs rs : List Name) (s : OpenElements) → IsTrue (list_all (bytes_eq (codes "mtd")) cs) → Runs child_table (codes "</mtr>") (above (codes "mtr") (codes "mtd" ∷ cs) false (above (codes "mtable") (codes "mtr" ∷ rs) false s)) (above (codes "mtable") (codes "mtr" ∷ rs) false s)
 close_row cs rs s h = closed child_table (codes "mtr") (codes "mtd" ∷ cs) false _ refl (ap (λ b. cond b (Some (above (codes "mtable") (codes "mtr" ∷ rs) false s)) None) h)
 
-close_table : (rs : List Name) (s : OpenElements) → IsTrue (list_all (same_name (codes "mtr")) rs) → Runs child_table (codes "</mtable>") (above (codes "mtable") (codes "mtr" ∷ rs) false s) s
+close_table : (rs : List Name) (s : OpenElements) → IsTrue (list_all (bytes_eq (codes "mtr")) rs) → Runs child_table (codes "</mtable>") (above (codes "mtable") (codes "mtr" ∷ rs) false s) s
 close_table rs s h = closed child_table (codes "mtable") (codes "mtr" ∷ rs) false s refl (ap (λ b. cond b (Some s) None) h)
 
 next_cell : (ks cs rs : List Name) (s : OpenElements) → Runs child_table (codes "</mtd><mtd>") (in_cell ks cs rs s) (in_cell [] (codes "mtd" ∷ cs) rs s)
 next_cell ks cs rs s = joined (close_cell ks cs rs s) (opened child_table (codes "mtd") _ refl)
 
-next_row : (ks cs rs : List Name) (s : OpenElements) → IsTrue (list_all (same_name (codes "mtd")) cs) → Runs child_table (codes "</mtd></mtr><mtr><mtd>") (in_cell ks cs rs s) (in_cell [] [] (codes "mtr" ∷ rs) s)
+next_row : (ks cs rs : List Name) (s : OpenElements) → IsTrue (list_all (bytes_eq (codes "mtd")) cs) → Runs child_table (codes "</mtd></mtr><mtr><mtd>") (in_cell ks cs rs s) (in_cell [] [] (codes "mtr" ∷ rs) s)
 next_row ks cs rs s h = joined (close_cell ks cs rs s) (joined (close_row cs rs s h) (joined (opened child_table (codes "mtr") _ refl) (opened child_table (codes "mtd") _ refl)))
 
 -- the bytes lead from cell to cell, and leave rows of cells
@@ -41,13 +42,13 @@ pub record Inside (bs : List ℕ) (ks cs rs : List Name) (s : OpenElements) : Ty
   pub ks' : List Name
   pub cs' : List Name
   pub rs' : List Name
-  pub cells : IsTrue (list_all (same_name (codes "mtd")) cs')
-  pub rows : IsTrue (list_all (same_name (codes "mtr")) rs')
+  pub cells : IsTrue (list_all (bytes_eq (codes "mtd")) cs')
+  pub rows : IsTrue (list_all (bytes_eq (codes "mtr")) rs')
   pub leads : Runs child_table bs (in_cell ks cs rs s) (in_cell ks' cs' rs' s)
 
 -- the bytes are members of a table
 abbrev pub AreMembers : List ℕ → Type 0
-AreMembers bs = (ks cs rs : List Name) (s : OpenElements) → IsTrue (list_all (same_name (codes "mtd")) cs) → IsTrue (list_all (same_name (codes "mtr")) rs) → Inside bs ks cs rs s
+AreMembers bs = (ks cs rs : List Name) (s : OpenElements) → IsTrue (list_all (bytes_eq (codes "mtd")) cs) → IsTrue (list_all (bytes_eq (codes "mtr")) rs) → Inside bs ks cs rs s
 
 pub no_members : AreMembers []
 no_members ks cs rs s h i = record { ks' = ks; cs' = cs; rs' = rs; cells = h; rows = i; leads = staying }

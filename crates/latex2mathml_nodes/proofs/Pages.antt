@@ -1,8 +1,9 @@
 -- Markup on top of other markup: what runs alone runs wherever it is put, so balanced markup stays balanced.
 use Rattle.std.proofs.Common.{◌≡◌, ℕ, Bool, true, false, not, ◌&&◌, ◌||◌, cond, IsTrue, List, [], ◌∷◌, ◌++◌, Option, Some, None, option_and_then, refl, sym, ap, ◌∙◌, subst, codes}
+use Rattle.std.specs.Str.{bytes_eq}
 use Rattle.std.specs.Cmp.Lexicographic.{bytes_decides}
 use Rattle.std.specs.List.{list_all}
-use Rattle.latex2mathml_nodes.specs.Markup.{Name, Attribute, Event, open_tag, close_tag, empty_tag, reference, data_byte, OpenElements, lowest, above, at_start, add, mark, name_of, same_name, Schema, any_element, step, run, Runs, IsBalanced, spell_event, is_attribute, is_name}
+use Rattle.latex2mathml_nodes.specs.Markup.{Name, Attribute, Event, open_tag, close_tag, empty_tag, reference, data_byte, OpenElements, lowest, above, at_start, add, mark, name_of, Schema, any_element, step, run, Runs, IsBalanced, spell_event, is_attribute, is_name}
 use Rattle.latex2mathml_nodes.specs.MathSchema.{IsMathElement, child_table, holding, holding_table, holds, is_parent, may_stand_in}
 use Rattle.latex2mathml_nodes.specs.Pages.{IsPage, JoinsBalanced, JoinsMarkup, JoinsPages, is_in_table, may_stand_in_page, page_schema, takes_math}
 use Rattle.latex2mathml_nodes.proofs.Runs.{closed, joined, single, staying}
@@ -79,7 +80,7 @@ module _ (schema other : Schema) (base : OpenElements) (fits : Fits schema other
       ap (λ l. Some (above name [] false l)) (sym (added base name s)) ∙ ap (λ l. Some (onto base l)) same
   step_onto (close_tag name) (lowest children met) t e = cc
   step_onto (close_tag name) (above own children met below) t e =
-      close_step (same_name name own) (schema (name_of below) own children met) (other (name_of (onto base below)) own children met) below t (obeys_onto below own children met) e
+      close_step (bytes_eq name own) (schema (name_of below) own children met) (other (name_of (onto base below)) own children met) below t (obeys_onto below own children met) e
   step_onto (empty_tag name attributes) s t e =
       empty_step (schema (name_of s) name [] false) (other (name_of (onto base s)) name [] false) name s t (obeys_onto s name [] false) e
   step_onto (reference r) s t e =
@@ -159,7 +160,7 @@ one_after_other schema markup other fits (names, (has_text, m)) (children, (met,
     let low = stays_lowest children names met has_text in
     (low.0, (low.1.0, subst (λ s. Runs schema (markup ++ other) at_start s) low.1.1 (joined m on)))
 
-same_self : (name : Name) → same_name name name ≡ true
+same_self : (name : Name) → bytes_eq name name ≡ true
 same_self name = (bytes_decides name name).1 refl
 
 within_element : (schema : Schema) (name : Name) (attributes : List Attribute) (markup : List ℕ) → Fits schema schema (Some name) → ((children : List Name) (met : Bool) → IsTrue (schema None name children met)) → IsTrue (is_name name) → IsTrue (list_all is_attribute attributes) → IsClosed schema markup → IsClosed schema (spell_event (open_tag name attributes) ++ (markup ++ spell_event (close_tag name)))
@@ -202,8 +203,8 @@ in_page named false b c k h = cc
 
 table_fits : (base : Option Name) → IsTrue (takes_math base) → Fits child_table page_schema base
 table_fits base takes = record {
-  outer = λ name children met h. in_page (is_in_table name) (may_stand_in None name) (may_stand_in_page base name) (holds (holding holding_table name) children met) (stands_outer (same_name (codes "mtr") name) (same_name (codes "mtd") name) (same_name (codes "math") name) base takes) h;
-  inner = λ parent name children met h. in_page (is_in_table name) (may_stand_in (Some parent) name) (may_stand_in_page (Some parent) name) (holds (holding holding_table name) children met) (stands (same_name (codes "mtr") name) (same_name (codes "mtd") name) (same_name (codes "math") name) parent) h;
+  outer = λ name children met h. in_page (is_in_table name) (may_stand_in None name) (may_stand_in_page base name) (holds (holding holding_table name) children met) (stands_outer (bytes_eq (codes "mtr") name) (bytes_eq (codes "mtd") name) (bytes_eq (codes "math") name) base takes) h;
+  inner = λ parent name children met h. in_page (is_in_table name) (may_stand_in (Some parent) name) (may_stand_in_page (Some parent) name) (holds (holding holding_table name) children met) (stands (bytes_eq (codes "mtr") name) (bytes_eq (codes "mtd") name) (bytes_eq (codes "math") name) parent) h;
 }
 
 -- a `math` element on top of any levels
@@ -231,7 +232,7 @@ within_free true false false false fit parent free h = h
 
 page_within : (parent : Name) → IsTrue (not (is_in_table parent)) → Fits page_schema page_schema (Some parent)
 page_within parent free = record {
-  outer = λ name children met h. within_free (is_in_table name) (same_name (codes "mtr") name) (same_name (codes "mtd") name) (same_name (codes "math") name) (holds (holding holding_table name) children met) parent free h;
+  outer = λ name children met h. within_free (is_in_table name) (bytes_eq (codes "mtr") name) (bytes_eq (codes "mtd") name) (bytes_eq (codes "math") name) (holds (holding holding_table name) children met) parent free h;
   inner = λ above name children met h. h;
 }
 

@@ -1,9 +1,10 @@
 -- Markup: the events that bytes are cut into (tags, references and data), and when their elements are balanced. Nothing here
 -- knows of formulas.
 use Rattle.std.specs.Prelude.{◌≡◌, ℕ, Bool, true, false, not, ◌&&◌, ◌||◌, ◌==◌, IsTrue, List, [], ◌∷◌, ◌++◌, Option, Some, None, option_and_then, if◌then◌else◌, codes}
+use Rattle.std.specs.Str.{bytes_eq}
 use Rattle.std.specs.Char.{is_ascii_alphabetic, is_ascii_hexdigit, is_ascii_lowercase}
-use Rattle.std.specs.Cmp.Lexicographic.{pointwise}
 use Rattle.std.specs.List.{flat_map, list_all}
+use Rattle.latex2mathml_tokens.specs.Among.{is_among}
 
 -- the name of an element or of an attribute, as its bytes
 abbrev pub Name : Type 0
@@ -30,12 +31,6 @@ pub data Event : Type 0 where
   empty_tag : Name → List Attribute → Event
   reference : Reference → Event
   data_byte : ℕ → Event
-
--- the byte is one of these
-abbrev pub is_among : ℕ → List ℕ → Bool
-is_among b [] = false
-is_among b (c ∷ []) = b == c
-is_among b (c ∷ d ∷ rest) = b == c || is_among b (d ∷ rest)
 
 -- one byte or more, each of which passes the test
 abbrev pub is_word : (ℕ → Bool) → List ℕ → Bool
@@ -116,9 +111,6 @@ abbrev pub name_of : OpenElements → Option Name
 name_of (lowest children has_text) = None
 name_of (above own children has_text below) = Some own
 
-abbrev pub same_name : Name → Name → Bool
-same_name = pointwise ◌==◌
-
 -- what an element must be like when it ends: its parent's name, its own, its children's, the last one first, and whether
 -- there is data or a reference in it
 abbrev pub Schema : Type 0
@@ -134,7 +126,7 @@ abbrev pub step : Schema → Event → OpenElements → Option OpenElements
 step schema (open_tag name attributes) levels = Some (above name [] false (add name levels))
 step schema (close_tag name) (lowest children has_text) = None
 step schema (close_tag name) (above own children has_text below) =
-    if same_name name own && schema (name_of below) own children has_text then Some below else None
+    if bytes_eq name own && schema (name_of below) own children has_text then Some below else None
 step schema (empty_tag name attributes) levels = if schema (name_of levels) name [] false then Some (add name levels) else None
 step schema (reference r) levels = Some (mark true levels)
 step schema (data_byte b) levels = Some (mark true levels)

@@ -1,8 +1,9 @@
 -- The child table: which elements there are in the markup of a formula, what each may hold, and where it may stand. The
 -- counts are those of MathML 3.
 use Rattle.std.specs.Prelude.{ℕ, Bool, true, false, not, ◌&&◌, ◌==◌, List, [], ◌∷◌, length, Option, Some, None, if◌then◌else◌, codes}
+use Rattle.std.specs.Str.{bytes_eq}
 use Rattle.std.specs.List.{list_all}
-use Rattle.latex2mathml_nodes.specs.Markup.{Name, Schema, IsElement, same_name}
+use Rattle.latex2mathml_nodes.specs.Markup.{Name, Schema, IsElement}
 
 -- what an element may hold
 pub data Holding : Type 0 where
@@ -44,7 +45,7 @@ holding_table =
 -- what an element of this name may hold, if there is one
 abbrev pub holding : List (Name × Holding) → Name → Option Holding
 holding [] name = None
-holding (entry ∷ entries) name = if same_name entry.0 name then Some entry.1 else holding entries name
+holding (entry ∷ entries) name = if bytes_eq entry.0 name then Some entry.1 else holding entries name
 
 abbrev pub has_some : List Name → Bool
 has_some [] = false
@@ -57,11 +58,11 @@ holds (Some text) children has_text = not (has_some children)
 holds (Some nothing) children has_text = not (has_some children) && not has_text
 holds (Some (exactly count)) children has_text = length children == count && not has_text
 holds (Some elements) children has_text = not has_text
-holds (Some (all_of name)) children has_text = has_some children && (not has_text && list_all (same_name name) children)
+holds (Some (all_of name)) children has_text = has_some children && (not has_text && list_all (bytes_eq name) children)
 
 abbrev pub is_parent : Name → Option Name → Bool
 is_parent name None = false
-is_parent name (Some parent) = same_name name parent
+is_parent name (Some parent) = bytes_eq name parent
 
 abbrev pub is_outermost : Option Name → Bool
 is_outermost None = true
@@ -70,9 +71,9 @@ is_outermost (Some parent) = false
 -- `mtr` stands in `mtable` alone, `mtd` in `mtr` alone, and `math` in no element
 abbrev pub may_stand_in : Option Name → Name → Bool
 may_stand_in parent name =
-    if same_name (codes "mtr") name then is_parent (codes "mtable") parent
-    else if same_name (codes "mtd") name then is_parent (codes "mtr") parent
-    else if same_name (codes "math") name then is_outermost parent
+    if bytes_eq (codes "mtr") name then is_parent (codes "mtable") parent
+    else if bytes_eq (codes "mtd") name then is_parent (codes "mtr") parent
+    else if bytes_eq (codes "math") name then is_outermost parent
     else true
 
 -- the schema of the markup of formulas

@@ -1,7 +1,8 @@
 -- Markup that is put together: balanced markup side by side and in elements, and pages with `math` elements in them.
 use Rattle.std.specs.Prelude.{ℕ, Bool, true, not, ◌&&◌, IsTrue, List, [], ◌++◌, Option, Some, None, is_some, if◌then◌else◌, codes}
+use Rattle.std.specs.Str.{bytes_eq}
 use Rattle.std.specs.List.{list_all}
-use Rattle.latex2mathml_nodes.specs.Markup.{Name, Attribute, OpenElements, Schema, Runs, IsBalanced, add, any_element, at_start, lowest, name_of, open_tag, close_tag, spell_event, is_attribute, is_name, same_name}
+use Rattle.latex2mathml_nodes.specs.Markup.{Name, Attribute, OpenElements, Schema, Runs, IsBalanced, add, any_element, at_start, lowest, name_of, open_tag, close_tag, spell_event, is_attribute, is_name}
 use Rattle.latex2mathml_nodes.specs.MathSchema.{IsMathElement, holding, holding_table, holds, is_parent}
 
 -- the child table names the element
@@ -16,9 +17,9 @@ takes_math (Some parent) = not (is_in_table parent)
 -- where an element of the table may stand in a page: as the table says, but for `math`
 abbrev pub may_stand_in_page : Option Name → Name → Bool
 may_stand_in_page parent name =
-    if same_name (codes "mtr") name then is_parent (codes "mtable") parent
-    else if same_name (codes "mtd") name then is_parent (codes "mtr") parent
-    else if same_name (codes "math") name then takes_math parent
+    if bytes_eq (codes "mtr") name then is_parent (codes "mtable") parent
+    else if bytes_eq (codes "mtd") name then is_parent (codes "mtr") parent
+    else if bytes_eq (codes "math") name then takes_math parent
     else true
 
 -- the schema of a page: each element that the table names holds what the table says, and any other what it will

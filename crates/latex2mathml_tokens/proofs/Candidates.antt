@@ -2,9 +2,9 @@
 use Rattle.std.proofs.Common.{◌≡◌, ℕ, zero, suc, ◌+◌, ◌-◌, ◌<◌, ◌≤◌, true, false, not, cond, List, [], ◌∷◌, Some, None, map, take, drop, get_or, length, refl, sym, ap, subst, ◌∙◌, add-one, arith}
 use Rattle.std.proofs.lemmas.Bool.{and_parts, not-true}
 use Rattle.std.proofs.lemmas.List.{drop-map, take-map}
-use Rattle.std.specs.Cmp.Lexicographic.{pointwise}
 use Rattle.std.specs.List.{slice_range}
-use Rattle.std.specs.Prelude.{nat_eq, nat_le, slice_get}
+use Rattle.std.specs.Prelude.{nat_le, slice_get}
+use Rattle.std.specs.Str.{bytes_eq}
 use Rattle.latex2mathml_tokens.specs.Commands.{command_entries, entry_token}
 use Rattle.latex2mathml_tokens.specs.Entries.{entry_of}
 use Rattle.latex2mathml_tokens.specs.Index.{begins_with, divides, none_begins_with, stand_between}
@@ -33,11 +33,11 @@ stand_at entries places byte d h k = rw (add-one byte) (stand_from entries 0 pla
 
 -- a name that begins with another byte is another
 
-apart : (a : List ℕ) (byte : ℕ) (name : List ℕ) → begins_with byte a ≡ false → pointwise nat_eq a (byte ∷ name) ≡ false
+apart : (a : List ℕ) (byte : ℕ) (name : List ℕ) → begins_with byte a ≡ false → bytes_eq a (byte ∷ name) ≡ false
 apart [] byte name h = refl
 apart (b ∷ a) byte name h = rw h refl
 
-first_apart : (r : List ℕ × Tok) (rs : Entries) (byte : ℕ) (name : List ℕ) → none_begins_with byte (r ∷ rs) ≡ true → pointwise nat_eq r.0 (byte ∷ name) ≡ false
+first_apart : (r : List ℕ × Tok) (rs : Entries) (byte : ℕ) (name : List ℕ) → none_begins_with byte (r ∷ rs) ≡ true → bytes_eq r.0 (byte ∷ name) ≡ false
 first_apart r rs byte name h = apart r.0 byte name (not-true _ (and_parts (not (begins_with byte r.0)) (none_begins_with byte rs) h).0)
 
 others_apart : (r : List ℕ × Tok) (rs : Entries) (byte : ℕ) → none_begins_with byte (r ∷ rs) ≡ true → none_begins_with byte rs ≡ true
@@ -57,7 +57,7 @@ without_front (suc n) (r ∷ rs) byte name h = rw (first_apart r (take n rs) byt
 without_back : (n : ℕ) (rs : Entries) (byte : ℕ) (name : List ℕ) → none_begins_with byte (drop n rs) ≡ true → entry_token (take n rs) (byte ∷ name) ≡ entry_token rs (byte ∷ name)
 without_back zero rs byte name h = sym (none_among rs byte name h)
 without_back (suc n) [] byte name h = refl
-without_back (suc n) (r ∷ rs) byte name h = ap (cond (pointwise nat_eq r.0 (byte ∷ name)) (Some r.1)) (without_back n rs byte name h)
+without_back (suc n) (r ∷ rs) byte name h = ap (cond (bytes_eq r.0 (byte ∷ name)) (Some r.1)) (without_back n rs byte name h)
 
 -- the entries between two places
 

@@ -1,8 +1,8 @@
 -- The command table: which token the name of a command stands for. A name is its bytes, without the backslash; a
 -- character is its code point, and stands behind its line as well.
-use Rattle.std.specs.Prelude.{ℕ, pos, negsuc, List, [], ◌∷◌, Option, Some, None, unwrap_or, cond, nat_eq, codes}
+use Rattle.std.specs.Prelude.{ℕ, pos, negsuc, List, [], ◌∷◌, Option, Some, None, unwrap_or, cond, codes}
 use Rattle.std.specs.Char.{encode_utf8}
-use Rattle.std.specs.Cmp.Lexicographic.{pointwise}
+use Rattle.std.specs.Str.{bytes_eq}
 use Rattle.latex2mathml_tokens.specs.Tok.{Tok, Begin, End, NewLine, Left, Right, Middle, Paren, Frac, Binom, Overset, Underset, Overbrace, Underbrace, Sqrt, Integral, Lim, Space, Style, Big, Over, Under, Operator, BigOp, Letter, Function, OperatorName, Slashed, Text, Command}
 use Rattle.latex2mathml_tokens.specs.declared.DisplayStyle.TheVariants.{Block, Inline}
 use Rattle.latex2mathml_tokens.specs.declared.attribute.Variant.TheVariants.{Normal, Italic, Bold, BoldItalic, DoubleStruck, Fraktur, Script, SansSerif, Monospace}
@@ -490,7 +490,7 @@ command_entries =
 -- the token of the entry with this name, if there is one
 abbrev pub entry_token : List (List ℕ × Tok) → List ℕ → Option Tok
 entry_token [] name = None
-entry_token (entry ∷ entries) name = cond (pointwise nat_eq entry.0 name) (Some entry.1) (entry_token entries name)
+entry_token (entry ∷ entries) name = cond (bytes_eq entry.0 name) (Some entry.1) (entry_token entries name)
 
 -- the token of a command; a name that has no entry is a command of its own
 unfoldable pub command_token : List ℕ → Tok

@@ -1,3 +1,4 @@
+pub mod Among
 pub mod Attributes
 pub mod Commands
 pub mod Discreteness

@@ -8,7 +8,7 @@ ghost use Rattle.latex2mathml_formulas.specs.Openers.{opens};
 ghost use Rattle.latex2mathml_formulas.specs.Steps.{Counted, Follows, GoesOnBy, HasTrees, Holds, IsStretched, level, to_do};
 ghost use Rattle.latex2mathml_nodes.specs.Productions.{fence_of};
 ghost use Rattle.latex2mathml_nodes.specs.Tree.{undefined};
-ghost use Rattle.latex2mathml_parts.specs.Parts.{arity, fence_text, put, top, trees};
+ghost use Rattle.latex2mathml_parts.specs.Parts.{arity, fence_text, put, top, trees_in};
 ghost use Rattle.latex2mathml_tokens.specs.Lexemes.{lexeme_tok};
 ghost use Rattle.latex2mathml_tokens.specs.Names.{limit_text, size_text};
 ghost use Rattle.latex2mathml_tokens.specs.TokenText.{token_text};
@@ -155,7 +155,7 @@ impl<'a> Parser<'a> {
     /// An operator with the limits whose signs stand next.
     fn limits(&mut self, operator: char, below: Pair, above: Pair) -> Result<State, AllocError>
         requires { HasTrees 0 self.old }
-        ensures holds { (input : List Tok) → GoesOnBy (with_limits operator below above (trees self.old.parts)) 0 input self.old → IfOk result (Holds input self.new) }
+        ensures holds { (input : List Tok) → GoesOnBy (with_limits operator below above (trees_in self.old.parts)) 0 input self.old → IfOk result (Holds input self.new) }
         ensures counted { Counted 1 self.old self.new }
         ensures follows { IfOk result (Follows (to_do self.old + 13) self.new) }
     {

@@ -3,11 +3,11 @@
 ghost use Rattle.std.specs.Prelude.{◌≡◌, ◌∷◌, ◌+◌, ◌<◌, IfOk, List, drop, reverse, take, vec_len};
 ghost use Rattle.latex2mathml_formulas.specs.Frames.{after_first, tree_count, innermost, script, unfit, within};
 ghost use Rattle.latex2mathml_formulas.specs.Grammar.{Read, after_fence_members, core as a_core, after_environment_members, stretched_or_refused, under_slash};
-ghost use Rattle.latex2mathml_formulas.specs.Levels.{Leads, Made, Takes, end_token};
-ghost use Rattle.latex2mathml_formulas.specs.Steps.{Counted, Follows, GoesOnBy, HasTrees, Holds, last_tree_read, level, to_do, weight};
+ghost use Rattle.latex2mathml_formulas.specs.Levels.{Leads, Made, Accepts, end_token};
+ghost use Rattle.latex2mathml_formulas.specs.Steps.{Counted, Follows, GoesOnBy, HasTrees, Holds, last_tree_read, level, to_do, frame_weight};
 ghost use Rattle.latex2mathml_nodes.specs.Productions.{stretched_operator};
 ghost use Rattle.latex2mathml_nodes.specs.Tree.{Tree};
-ghost use Rattle.latex2mathml_parts.specs.Parts.{arity, fence_text, put, top, trees, words_of};
+ghost use Rattle.latex2mathml_parts.specs.Parts.{arity, fence_text, put, top, trees_in, words_of};
 ghost use Rattle.latex2mathml_tokens.specs.Lexemes.{lexeme_tok};
 ghost use Rattle.latex2mathml_tokens.specs.Tok.{Tok};
 ghost use Rattle.latex2mathml_formulas.specs.declared.parse.frames.Due.{Due};
@@ -28,7 +28,7 @@ impl<'a> Parser<'a> {
     /// Gives the innermost frame the part that it waits for. Without frames the part is a node of the formula.
     pub(crate) fn after_part(&mut self) -> Result<State, AllocError>
         requires { HasTrees 1 self.old }
-        ensures holds { (input : List Tok) → Takes (level 1 input self.old) (last_tree_read self.old) → IfOk result (Holds input self.new) }
+        ensures holds { (input : List Tok) → Accepts (level 1 input self.old) (last_tree_read self.old) → IfOk result (Holds input self.new) }
         ensures counted { Counted 0 self.old self.new }
         ensures follows { IfOk result (Follows (to_do self.old + 3) self.new) }
     {
@@ -43,9 +43,9 @@ impl<'a> Parser<'a> {
         requires fit { unfit frame ≡ 0 }
         requires trees { HasTrees (tree_count frame + 1) self.old }
         requires room { vec_len self.old.frames.stack < self.old.frames.greatest }
-        ensures holds { (input : List Tok) → Takes (within input self.old.frames.stack.items frame.entry (drop 1 (trees self.old.parts))) (last_tree_read self.old) → IfOk result (Holds input self.new) }
+        ensures holds { (input : List Tok) → Accepts (within input self.old.frames.stack.items frame.entry (drop 1 (trees_in self.old.parts))) (last_tree_read self.old) → IfOk result (Holds input self.new) }
         ensures counted { Counted 0 self.old self.new }
-        ensures follows { IfOk result (Follows (to_do self.old + weight frame.entry + 3) self.new) }
+        ensures follows { IfOk result (Follows (to_do self.old + frame_weight frame.entry + 3) self.new) }
     {
         match frame {
             Frame::Members(group, count) => {
@@ -72,7 +72,7 @@ impl<'a> Parser<'a> {
     /// Puts a part behind its operands.
     fn combine(&mut self, kind: Kind<'a>) -> Result<State, AllocError>
         requires { HasTrees (arity kind) self.old }
-        ensures holds { (input : List Tok) → Made a_core (level (arity kind.entry) input self.old) (Read (top (put kind.entry (trees self.old.parts))) self.old.reader.list) → IfOk result (Holds input self.new) }
+        ensures holds { (input : List Tok) → Made a_core (level (arity kind.entry) input self.old) (Read (top (put kind.entry (trees_in self.old.parts))) self.old.reader.list) → IfOk result (Holds input self.new) }
         ensures counted { Counted 0 self.old self.new }
         ensures follows { IfOk result (Follows (to_do self.old + 5) self.new) }
     {
@@ -84,7 +84,7 @@ impl<'a> Parser<'a> {
     fn after_first(&mut self, pair: Pair) -> Result<State, AllocError>
         requires trees { HasTrees 1 self.old }
         requires room { vec_len self.old.frames.stack < self.old.frames.greatest }
-        ensures holds { (input : List Tok) → GoesOnBy (after_first pair (drop 1 (trees self.old.parts)) (top (trees self.old.parts))) 1 input self.old → IfOk result (Holds input self.new) }
+        ensures holds { (input : List Tok) → GoesOnBy (after_first pair (drop 1 (trees_in self.old.parts)) (top (trees_in self.old.parts))) 1 input self.old → IfOk result (Holds input self.new) }
         ensures counted { Counted 0 self.old self.new }
         ensures follows { IfOk result (Follows (to_do self.old + 5) self.new) }
     {
@@ -97,7 +97,7 @@ impl<'a> Parser<'a> {
     /// Strikes the last tree through. The lexeme behind it is skipped.
     fn slashed(&mut self) -> Result<State, AllocError>
         requires { HasTrees 1 self.old }
-        ensures holds { (input : List Tok) → GoesOnBy (under_slash (top (trees self.old.parts))) 1 input self.old → IfOk result (Holds input self.new) }
+        ensures holds { (input : List Tok) → GoesOnBy (under_slash (top (trees_in self.old.parts))) 1 input self.old → IfOk result (Holds input self.new) }
         ensures counted { Counted 0 self.old self.new }
         ensures follows { IfOk result (Follows (to_do self.old + 5) self.new) }
     {
@@ -109,7 +109,7 @@ impl<'a> Parser<'a> {
     /// Stretches the operator that is the last tree, or refuses the lexeme that stood behind `\middle`.
     fn stretched(&mut self, got: Lexeme<'a>) -> Result<State, AllocError>
         requires { HasTrees 1 self.old }
-        ensures holds { (input : List Tok) → GoesOnBy (stretched_or_refused (lexeme_tok got.entry) (stretched_operator (top (trees self.old.parts)))) 1 input self.old → IfOk result (Holds input self.new) }
+        ensures holds { (input : List Tok) → GoesOnBy (stretched_or_refused (lexeme_tok got.entry) (stretched_operator (top (trees_in self.old.parts)))) 1 input self.old → IfOk result (Holds input self.new) }
         ensures counted { Counted 0 self.old self.new }
         ensures follows { IfOk result (Follows (to_do self.old + 5) self.new) }
     {
@@ -148,7 +148,7 @@ impl<'a> Parser<'a> {
     /// Ends a fence whose members were read.
     fn close_fence(&mut self, opening: Option<Paren>, count: usize) -> Result<State, AllocError>
         requires { HasTrees count self.old }
-        ensures holds { (input : List Tok) → GoesOnBy (after_fence_members (fence_text opening) (reverse (take count (trees self.old.parts)))) count input self.old → IfOk result (Holds input self.new) }
+        ensures holds { (input : List Tok) → GoesOnBy (after_fence_members (fence_text opening) (reverse (take count (trees_in self.old.parts)))) count input self.old → IfOk result (Holds input self.new) }
         ensures counted { Counted 0 self.old self.new }
         ensures follows { IfOk result (Follows (to_do self.old + 5) self.new) }
     {
@@ -163,7 +163,7 @@ impl<'a> Parser<'a> {
     /// Ends an environment whose members were read.
     fn end_environment(&mut self, count: usize) -> Result<State, AllocError>
         requires { HasTrees (count + 1) self.old }
-        ensures holds { (input : List Tok) → GoesOnBy (after_environment_members (words_of (top (drop count (trees self.old.parts)))) (reverse (take count (trees self.old.parts)))) (count + 1) input self.old → IfOk result (Holds input self.new) }
+        ensures holds { (input : List Tok) → GoesOnBy (after_environment_members (words_of (top (drop count (trees_in self.old.parts)))) (reverse (take count (trees_in self.old.parts)))) (count + 1) input self.old → IfOk result (Holds input self.new) }
         ensures counted { Counted 0 self.old self.new }
         ensures follows { IfOk result (Follows (to_do self.old + 5) self.new) }
     {

@@ -3,7 +3,7 @@ use Rattle.latex2mathml_formulas.specs.Frames.{script, takes_script}
 use Rattle.latex2mathml_formulas.specs.Grammar.{gives, node}
 use Rattle.latex2mathml_formulas.specs.Levels.{Made}
 use Rattle.latex2mathml_formulas.specs.Steps.{level}
-use Rattle.latex2mathml_parts.specs.Parts.{top, trees}
+use Rattle.latex2mathml_parts.specs.Parts.{top, trees_in}
 use Rattle.latex2mathml_formulas.specs.declared.parse.frames.Due.TheVariants as due
 use Rattle.latex2mathml_formulas.proofs.Levels.{part_leads, passed, script_follows, sign_taken}
 use Rattle.latex2mathml_formulas.proofs.Stacks.{due_is_not}
@@ -14,7 +14,7 @@ pub returns-clause-holds : goal.returns-clause-holds
 returns-clause-holds c = λ input k.
     let p = c.args.self.now in
     let fs = p.frames.stack.items in
-    let ts = trees p.parts in
+    let ts = trees_in p.parts in
     let l = level 1 input p in
     let more : takes_script c.due.result ≡ true = sym c.takes_script.ensures ∙ c.if-not-takes_script.false in
     c.open.ensures.holds input

@@ -3,7 +3,7 @@ use Rattle.latex2mathml_formulas.specs.Grammar.{Read, Reads, Refused, core, node
 use Rattle.latex2mathml_formulas.specs.Levels.{Made}
 use Rattle.latex2mathml_formulas.specs.Steps.{level}
 use Rattle.latex2mathml_nodes.specs.Tree.{undefined}
-use Rattle.latex2mathml_parts.specs.Parts.{trees}
+use Rattle.latex2mathml_parts.specs.Parts.{trees_in}
 use Rattle.latex2mathml_tokens.specs.Refusal.{UnexpectedToken}
 use Rattle.latex2mathml_tokens.specs.Tok.{EOF}
 use Rattle.latex2mathml_tokens.specs.TokenText.{token_text}
@@ -16,11 +16,11 @@ returns-in-Member-clause-holds c = λ input k none.
     let p = c.args.self.now in
     refused input p _ _ _ c.refuse.ensures.state c.refuse.ensures.refusal
     (subst (λ t. Reads node input (Refused (UnexpectedToken t EOF))) (sym c.token.ensures)
-    (group_open input p.frames.stack.items (trees p.parts) c.in-Member.end (sym c.due.ensures ∙ c.in-Member.is) k))
+    (group_open input p.frames.stack.items (trees_in p.parts) c.in-Member.end (sym c.due.ensures ∙ c.in-Member.is) k))
 
 pub returns-clause-holds : goal.returns-clause-holds
 returns-clause-holds c = λ input k none.
     let p = c.args.self.now in
     c.error.ensures.holds input
     (subst (λ l. Made core (level 0 input p) (Read (undefined (token_text EOF)) l)) (sym none)
-    (nothing_begun input p.frames.stack.items (trees p.parts) c.due.result c.due.ensures c.in_default.not-Member k))
+    (nothing_begun input p.frames.stack.items (trees_in p.parts) c.due.result c.due.ensures c.in_default.not-Member k))

@@ -5,7 +5,7 @@ use Rattle.latex2mathml_formulas.specs.Grammar.{core, after_environment_members,
 use Rattle.latex2mathml_formulas.specs.Levels.{Leads, Made}
 use Rattle.latex2mathml_formulas.specs.Steps.{level}
 use Rattle.latex2mathml_nodes.specs.Tree.{words}
-use Rattle.latex2mathml_parts.specs.Parts.{trees}
+use Rattle.latex2mathml_parts.specs.Parts.{trees_in}
 use Rattle.latex2mathml_tokens.specs.Tok.{End}
 use Rattle.latex2mathml_formulas.specs.declared.parse.frames.Frame.TheVariants.{Members}
 use Rattle.latex2mathml_formulas.specs.declared.parse.frames.Group.TheVariants.{Environment}

@@ -4,7 +4,7 @@ use Rattle.latex2mathml_formulas.specs.Grammar.{core, gives, rule_gives}
 use Rattle.latex2mathml_formulas.specs.Levels.{Made}
 use Rattle.latex2mathml_nodes.specs.Productions.{group_tree}
 use Rattle.latex2mathml_nodes.specs.Tree.{fenced}
-use Rattle.latex2mathml_parts.specs.Parts.{fence_text, trees}
+use Rattle.latex2mathml_parts.specs.Parts.{fence_text, trees_in}
 use Rattle.latex2mathml_tokens.specs.Tok.{Right}
 use Rattle.latex2mathml_formulas.proofs.Delivering.{fences_put}
 use Rattle.latex2mathml_formulas.proofs.Signs.{fence_found, fence_missing, refused_at}
@@ -15,7 +15,7 @@ use Rattle.latex2mathml_formulas.proofs.parse.Parser.close_fence.Goals as goal
 pub returns-in_default-clause-holds : goal.returns-in_default-clause-holds
 returns-in_default-clause-holds c = λ input k.
     let fs = c.args.self.now.frames.stack.items in
-    let ts = trees c.args.self.now.parts in
+    let ts = trees_in c.args.self.now.parts in
     let below = drop c.args.count ts in
     let l = inside input fs below in
     let members = reverse (take c.args.count ts) in
@@ -26,7 +26,7 @@ returns-in_default-clause-holds c = λ input k.
 pub returns-clause-holds : goal.returns-clause-holds
 returns-clause-holds c = λ input k.
     let fs = c.args.self.now.frames.stack.items in
-    let ts = trees c.args.self.now.parts in
+    let ts = trees_in c.args.self.now.parts in
     let below = drop c.args.count ts in
     let members = reverse (take c.args.count ts) in
     c.combine.ensures.holds input

@@ -2,7 +2,7 @@ use Rattle.std.proofs.Common.{[], refl, arith}
 use Rattle.latex2mathml_formulas.specs.Grammar.{after_fence_members, core, reads_members}
 use Rattle.latex2mathml_formulas.specs.Levels.{Made}
 use Rattle.latex2mathml_formulas.specs.Steps.{level}
-use Rattle.latex2mathml_parts.specs.Parts.{trees}
+use Rattle.latex2mathml_parts.specs.Parts.{trees_in}
 use Rattle.latex2mathml_tokens.specs.Tok.{Left, Right}
 use Rattle.latex2mathml_formulas.specs.declared.parse.frames.GroupEnd.TheVariants as group_end
 use Rattle.latex2mathml_formulas.proofs.Beginning.{fence_found, fence_missing}
@@ -24,7 +24,7 @@ returns-in_default-clause-holds c = λ input k.
     let p = c.args.self.now in
     let l = level 0 input p in
     c.refuse_fence.ensures.holds input
-    (core_refused input p.frames.stack.items (trees p.parts) _
+    (core_refused input p.frames.stack.items (trees_in p.parts) _
     (fence_missing Left _ (λ opening. reads_members Right (after_fence_members opening)) (Made core l) p.reader.list _ c.in_default.ensures c.take-got.ensures.token c.take-got.ensures.list k))
 
 pub returns-in_default-clause-counted : goal.returns-in_default-clause-counted

@@ -2,7 +2,7 @@ use Rattle.std.proofs.Common.{[], ap, refl, sym, subst, ◌∙◌}
 use Rattle.latex2mathml_formulas.specs.Grammar.{core, refuses, sized}
 use Rattle.latex2mathml_formulas.specs.Levels.{Made}
 use Rattle.latex2mathml_formulas.specs.Steps.{Counted, level}
-use Rattle.latex2mathml_parts.specs.Parts.{trees}
+use Rattle.latex2mathml_parts.specs.Parts.{trees_in}
 use Rattle.latex2mathml_tokens.specs.Lexemes.{lexeme_tok}
 use Rattle.latex2mathml_tokens.specs.Refusal.{UnexpectedToken}
 use Rattle.latex2mathml_tokens.specs.Tok.{Paren}
@@ -29,7 +29,7 @@ returns-in_ok-got-in_default-clause-holds c = λ input k.
     let l = level 0 input p in
     let size = size_text c.args.size in
     refused input (record p { reader = c.take.new.self }) _ _ _ c.refuse.ensures.state c.refuse.ensures.refusal
-    (core_refused input p.frames.stack.items (trees p.parts) _
+    (core_refused input p.frames.stack.items (trees_in p.parts) _
     (refused_at l core _ _ _
     (ap (sized size) (sym c.take.ensures.token) ∙ not_sized size c.take.result c.in_default.not-Paren ∙ ap (λ t. refuses (UnexpectedToken (Paren []) t)) (sym c.in_ok-got-in_default.ensures))
     (skipped (sized size) (Made core l) p.reader.list _ c.take.ensures.list k)))

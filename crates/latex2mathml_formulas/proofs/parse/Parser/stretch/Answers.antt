@@ -2,8 +2,8 @@ use Rattle.std.proofs.Common.{◌≡◌, ◌∷◌, ◌+◌, ◌*◌, ◌<◌, �
 use Rattle.std.proofs.lemmas.List.Sums.{sum_by_push}
 use Rattle.latex2mathml_formulas.specs.Frames.{tree_count}
 use Rattle.latex2mathml_formulas.specs.Openers.{openers, opens}
-use Rattle.latex2mathml_formulas.specs.Steps.{weight}
-use Rattle.latex2mathml_parts.specs.Parts.{trees}
+use Rattle.latex2mathml_formulas.specs.Steps.{frame_weight}
+use Rattle.latex2mathml_parts.specs.Parts.{trees_in}
 use Rattle.latex2mathml_tokens.specs.Lexemes.{lexeme_tok}
 use Rattle.latex2mathml_formulas.specs.declared.parse.frames.Frame.TheVariants as frame
 use Rattle.latex2mathml_formulas.proofs.Beginning.{stood, stretch_begun}
@@ -13,7 +13,7 @@ use Rattle.latex2mathml_formulas.proofs.parse.Parser.stretch.Goals as goal
 pub returns-clause-holds : goal.returns-clause-holds
 returns-clause-holds c = λ input k.
     let p = c.args.self.now in
-    stretch_begun input p.frames.stack.items _ (trees p.parts) c.take-got.result p.reader.list _ c.in_ok-open.ensures.stack c.take-got.ensures.token c.take-got.ensures.list k
+    stretch_begun input p.frames.stack.items _ (trees_in p.parts) c.take-got.result p.reader.list _ c.in_ok-open.ensures.stack c.take-got.ensures.token c.take-got.ensures.list k
 
 pub returns-clause-taken : goal.returns-clause-taken
 returns-clause-taken c =
@@ -25,7 +25,7 @@ returns-clause-taken c =
     let room = p.frames.covered in
     let most = c.open.ensures.greatest in
     let on = c.in_ok-open.ensures.stack in
-    let heavier : sum_by weight c.open.new.self.stack.items ≡ sum_by weight fs + 2 = ap (sum_by weight) on ∙ sum_by_push weight fs (frame.Stretch got) in
+    let heavier : sum_by frame_weight c.open.new.self.stack.items ≡ sum_by frame_weight fs + 2 = ap (sum_by frame_weight) on ∙ sum_by_push frame_weight fs (frame.Stretch got) in
     let holding : sum_by tree_count c.open.new.self.stack.items ≡ sum_by tree_count fs + 0 = ap (sum_by tree_count) on ∙ sum_by_push tree_count fs (frame.Stretch got) in
     let enough = c.requires in
     record {
