@@ -143,7 +143,7 @@ def run_of_each_job(way):
     def case(self):
         tests = support.ROOT / "crates/latex2mathml_app/out/latex2mathml_app_tests"
         self.assertTrue(tests.exists(), f"{tests} is missing, which rt ci and rt test build")
-        self.in_turn([tests, "tests::runs_without_memory"], way, lambda done, _: self.expect(done, 0, None, None), marked=True)
+        self.in_turn([tests, "tests::memory::runs_without_memory"], way, lambda done, _: self.expect(done, 0, None, None), marked=True)
     return case
 
 
