@@ -10,6 +10,7 @@ import os
 import signal
 import sys
 
+from tests.cases import WrongCase
 from tests.modules import Runs, every_name, module_of, name_of
 from tests.results import Counts
 from tests.steps import Library, Proofs, set_aside
@@ -76,5 +77,7 @@ def table(steps, watch):
 if __name__ == "__main__":
     try:
         sys.exit(main(sys.argv[1:]))
+    except WrongCase as wrong:
+        sys.exit(str(wrong))
     except KeyboardInterrupt:
         sys.exit(130)

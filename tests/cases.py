@@ -162,7 +162,7 @@ def read(name):
 
 def two_of(lines):
     if len(lines) != 2:
-        raise WrongCase(f"{lines[0].place}: a case has two lines, and a blank line behind it; this has {len(lines)}")
+        raise WrongCase(f"{lines[0].place}: a case has two lines, and a blank line after it; this has {len(lines)}")
     return lines
 
 
@@ -195,18 +195,33 @@ def math(display, contents):
 
 
 def test_name(word):
-    """The name that unittest has for a file of cases, or for the case on a line of one.
+    """The name that unittest has for a file of cases, or for the case that has a line of one: its input or its answer.
+
+    Raises `WrongCase` where there is no such file, or no case has the line.
 
     >>> test_name("cases/formulas/letters.txt")
     'tests.test_cases.formulas_letters'
-    >>> test_name("cases/refusals.txt:12")
-    'tests.test_cases.refusals.test_12'
+    >>> test_name("cases/refusals.txt:14")
+    'tests.test_cases.refusals.test_13'
     >>> test_name("cases/commands.txt:12")
     'tests.test_commands.Entries.test_12'
     """
     name, _, line = word.removeprefix("cases/").partition(":")
+    if name not in files("**/*.txt"):
+        raise WrongCase(f"{word}: cases/ has no such file")
     tests = "test_commands.Entries" if name == "commands.txt" else f"test_cases.{class_name(name)}"
-    return f"tests.{tests}" + (f".test_{int(line)}" if line else "")
+    return f"tests.{tests}" + (f".test_{first_line(word, name, line)}" if line else "")
+
+
+def first_line(word, name, line):
+    """The number of the first line of the case that has this line."""
+    if name == "commands.txt":
+        starts = {str(command.line.number): command.line.number for command in commands()}
+    else:
+        starts = {str(its.number): case.first.number for case in read(name) for its in (case.first, case.second)}
+    if line not in starts:
+        raise WrongCase(f"{word}: no case has this line")
+    return starts[line]
 
 
 def class_name(name):

@@ -6,7 +6,7 @@ import time
 import unittest
 import unittest.mock
 
-from tests import samples
+from tests import cases, samples
 from tests.modules import Module, Runs, classes_of, name_of
 from tests.results import Counts, Result, SKIP_NOTHING
 from tests.steps import Command, Library, Proofs, crates_below, set_aside
@@ -89,6 +89,15 @@ class Modules(unittest.TestCase):
         for word in ("tests.test_c", "test_c", "tests/test_c.py"):
             self.assertEqual(name_of(word), "tests.test_c")
         self.assertEqual(name_of("test_c.Deep.test_deep"), "tests.test_c.Deep.test_deep")
+
+    def test_a_line_names_its_case(self):
+        first = cases.read("refusals.txt")[0].first.number
+        for line in (first, first + 1):
+            self.assertEqual(name_of(f"cases/refusals.txt:{line}"), f"tests.test_cases.refusals.test_{first}")
+        with self.assertRaisesRegex(cases.WrongCase, f"refusals.txt:{first + 2}: no case has this line"):
+            name_of(f"cases/refusals.txt:{first + 2}")
+        with self.assertRaisesRegex(cases.WrongCase, "no such file"):
+            name_of("cases/none.txt:1")
 
 
 class Steps(unittest.TestCase):
