@@ -13,7 +13,7 @@ DEFINITION = re.compile(r"\[`(?P<word>[^`]+)`\]\((?P<path>[^)#\s]+\.antt)#L(?P<l
 QUOTE = re.compile(r"<!-- quoted from (?P<path>\S+) -->\n```rust\n(?P<text>.*?)```", re.S)
 
 # the library's crates with public calls
-LIBRARY = ("latex2mathml_tokens", "latex2mathml_nodes", "latex2mathml_formulas", "latex2mathml")
+LIBRARY = ("latex2mathml_tokens", "latex2mathml_trees", "latex2mathml_nodes", "latex2mathml_formulas", "latex2mathml")
 
 
 @dataclass(frozen=True)
@@ -97,5 +97,5 @@ def public_calls():
 def sources():
     for crate in LIBRARY:
         for source in sorted((ROOT / "crates" / crate / "src").rglob("*.rt")):
-            if source.name not in ("lexeme.rt", "names.rt", "formula.rt", "print.rt", "append.rt"):
+            if source.name not in ("lexeme.rt", "names.rt", "formula.rt", "append.rt", "text.rt", "width.rt"):
                 yield source

@@ -3,9 +3,9 @@ use Rattle.std.proofs.Common.{◌≡◌, ℕ, Bool, true, false, ◌&&◌, cond,
 use Rattle.latex2mathml.specs.Documents.{Piece, prose, inline, display, PieceAnswer, PiecesAnswer, IsCut, IsAnswer}
 use Rattle.latex2mathml.specs.Surroundings.{HasBalancedProse, HasClosedProse, HasPageProse, ProseRuns, TakesFormula}
 use Rattle.latex2mathml_formulas.specs.RenderingLaws.{RenderingsHold}
-use Rattle.latex2mathml_nodes.specs.Markup.{Name, OpenElements, Schema, Runs, IsBalanced, add, any_element, at_start, lowest, name_of}
-use Rattle.latex2mathml_nodes.specs.MathSchema.{IsMathElement}
-use Rattle.latex2mathml_nodes.specs.Pages.{IsPage, JoinsBalanced, JoinsMarkup, JoinsPages, page_schema, takes_math}
+use Rattle.latex2mathml_trees.specs.Markup.{Name, OpenElements, Schema, Runs, IsBalanced, add, any_element, at_start, lowest, name_of}
+use Rattle.latex2mathml_trees.specs.MathSchema.{IsMathElement}
+use Rattle.latex2mathml_trees.specs.Pages.{IsPage, JoinsBalanced, JoinsMarkup, JoinsPages, page_schema, takes_math}
 use Rattle.latex2mathml_tokens.specs.declared.DisplayStyle.TheVariants.{Block, Inline}
 use Rattle.latex2mathml.proofs.Cuts.{one_cut_lem}
 

@@ -5,9 +5,9 @@ use Rattle.latex2mathml.specs.Documents.{Piece, prose, inline, display, HasCut, 
 use Rattle.latex2mathml.specs.Surroundings.{HasBalancedProse, HasPageProse}
 use Rattle.latex2mathml_formulas.specs.Dollars.{backslash, IsDollarFree}
 use Rattle.latex2mathml_formulas.specs.Rendering.{IsRendering}
-use Rattle.latex2mathml_nodes.specs.Markup.{IsBalanced}
-use Rattle.latex2mathml_nodes.specs.MathSchema.{IsMathElement}
-use Rattle.latex2mathml_nodes.specs.Pages.{IsPage}
+use Rattle.latex2mathml_trees.specs.Markup.{IsBalanced}
+use Rattle.latex2mathml_trees.specs.MathSchema.{IsMathElement}
+use Rattle.latex2mathml_trees.specs.Pages.{IsPage}
 use Rattle.latex2mathml_tokens.specs.Refusal.{Refusal, InvalidNumberOfDollarSigns}
 use Rattle.latex2mathml_tokens.specs.declared.DisplayStyle.TheVariants.{Block, Inline}
 

@@ -1,5 +1,5 @@
 -- The words of the promise that markup is one element and balanced, and of markup that is put together.
-pub use Rattle.latex2mathml_nodes.specs.Markup.{Name, Attribute, Event, OpenElements, Schema, Runs, IsBalanced, IsElement, any_element, at_start, lowest, above, add, open_tag, close_tag, empty_tag, spell_event}
-pub use Rattle.latex2mathml_nodes.specs.MathSchema.{IsOneElement, child_table}
-unfoldable pub use Rattle.latex2mathml_nodes.specs.MathSchema.{IsMathElement}
-pub use Rattle.latex2mathml_nodes.specs.Pages.{IsPage, JoinsBalanced, JoinsMarkup, JoinsPages, is_in_table, page_schema, takes_math}
+pub use Rattle.latex2mathml_trees.specs.Markup.{Name, Attribute, Event, OpenElements, Schema, Runs, IsBalanced, IsElement, any_element, at_start, lowest, above, add, open_tag, close_tag, empty_tag, spell_event}
+pub use Rattle.latex2mathml_trees.specs.MathSchema.{IsOneElement, child_table}
+unfoldable pub use Rattle.latex2mathml_trees.specs.MathSchema.{IsMathElement}
+pub use Rattle.latex2mathml_trees.specs.Pages.{IsPage, JoinsBalanced, JoinsMarkup, JoinsPages, is_in_table, page_schema, takes_math}

@@ -11,6 +11,7 @@ pub mod Inputs
 pub mod Pieces
 pub mod Streams
 pub mod Surroundings
+pub mod Tree
 -- texts without a dollar sign
 pub use Rattle.latex2mathml_formulas.specs.Dollars
 -- tokens, the command table, nodes, and their texts
@@ -19,8 +20,7 @@ pub use Rattle.latex2mathml_tokens.specs.Commands
 pub use Rattle.latex2mathml_tokens.specs.Escape
 pub use Rattle.latex2mathml_tokens.specs.Tok
 pub use Rattle.latex2mathml_tokens.specs.TokenText
-pub use Rattle.latex2mathml_nodes.specs.Arguments
-pub use Rattle.latex2mathml_nodes.specs.Print
-pub use Rattle.latex2mathml_nodes.specs.Style
-pub use Rattle.latex2mathml_nodes.specs.Tree
-pub use Rattle.latex2mathml_nodes.specs.Width
+pub use Rattle.latex2mathml_trees.specs.Arguments
+pub use Rattle.latex2mathml_trees.specs.Print
+pub use Rattle.latex2mathml_trees.specs.Style
+pub use Rattle.latex2mathml_trees.specs.Width

@@ -1,8 +1,8 @@
 -- What surrounds the formulas of a document, where it is markup: its prose, with an element in each formula's place.
 use Rattle.std.specs.Prelude.{◌≡◌, ℕ, Bool, List, [], ◌∷◌, Some, codes}
 use Rattle.latex2mathml.specs.Documents.{Piece, prose, inline, display, prose_answer, IsCut}
-use Rattle.latex2mathml_nodes.specs.Markup.{Name, OpenElements, Schema, Runs, any_element, at_start, empty_tag, lowest, step}
-use Rattle.latex2mathml_nodes.specs.Pages.{page_schema}
+use Rattle.latex2mathml_trees.specs.Markup.{Name, OpenElements, Schema, Runs, any_element, at_start, empty_tag, lowest, step}
+use Rattle.latex2mathml_trees.specs.Pages.{page_schema}
 
 -- a formula may stand at these levels, and leads to those: it counts as a `math` element that holds nothing
 abbrev pub TakesFormula : Schema → OpenElements → OpenElements → Type 0

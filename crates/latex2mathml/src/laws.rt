@@ -6,9 +6,8 @@ pub use latex2mathml_formulas::laws::{
     dollar_free, one_reading, one_reading_of, one_rendering, one_token_list, places,
     read_by_slices, refused_by_slices, rendering, renderings, sliced, texts, white_space,
 };
-pub use latex2mathml_nodes::laws::{
-    balanced, joined_markup, one_element, restyled, widths_are_nearest,
-};
+pub use latex2mathml_nodes::laws::{balanced, one_element, restyled};
+pub use latex2mathml_trees::laws::{joined_markup, widths_are_nearest};
 
 /// A document has at most one cut into pieces.
 pub fn one_cut(document: &str)

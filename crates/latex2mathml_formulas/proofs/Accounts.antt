@@ -14,7 +14,7 @@ use Rattle.latex2mathml_tokens.specs.Refusal.{IfRefused, InvalidNumberOfDollarSi
 use Rattle.latex2mathml_formulas.specs.Rendering.{IsFormulaRefusal, IsRendering, math_print}
 use Rattle.latex2mathml_formulas.specs.Spelling.{HasSlices, HasTokens, Slice, takes_digit}
 use Rattle.latex2mathml_tokens.specs.Tok.{Tok}
-use Rattle.latex2mathml_nodes.specs.Tree.{Tree}
+use Rattle.latex2mathml_trees.specs.Tree.{Tree}
 use Rattle.latex2mathml_formulas.specs.Unread.{GoesOn, OpensFor, Unread, token_list}
 use Rattle.latex2mathml_tokens.specs.declared.DisplayStyle.{DisplayStyle}
 use Rattle.latex2mathml_tokens.specs.declared.error.LatexError.{LatexError}

@@ -3,7 +3,7 @@ use Rattle.std.proofs.Common.{◌≡◌, ◌≢◌, ℕ, ◌<◌, Bool, true, fa
 use Rattle.latex2mathml_formulas.specs.Counts.{AreNodes, IsRefusedWithin, no_node, one_more}
 use Rattle.latex2mathml_formulas.specs.Frames.{inside}
 use Rattle.latex2mathml_formulas.specs.Grammar.{core, first, gives, rule, node, Outcome, Read, Refused, Reads, ReadsAll, formula_ends, member_read, later_refused, member_refused, ReadsFormula, Refuses}
-use Rattle.latex2mathml_nodes.specs.Print.{print, prints}
+use Rattle.latex2mathml_trees.specs.Print.{print, prints}
 use Rattle.std.specs.Prelude.{IfSome}
 use Rattle.latex2mathml_formulas.specs.Steps.{Holds, IsAppended, end_of}
 use Rattle.latex2mathml_tokens.specs.Refusal.{Refusal, refusal_of}
@@ -11,7 +11,7 @@ use Rattle.latex2mathml_tokens.specs.declared.error.LatexError.{LatexError}
 use Rattle.latex2mathml_formulas.specs.declared.parse.Parser.{Parser}
 use Rattle.latex2mathml_formulas.specs.declared.parse.State.TheVariants as state
 use Rattle.latex2mathml_tokens.specs.Tok.{Tok}
-use Rattle.latex2mathml_nodes.specs.Tree.{Tree, trees_of}
+use Rattle.latex2mathml_trees.specs.Tree.{Tree, trees_of}
 use Rattle.latex2mathml_formulas.specs.Levels.{Made, RuleLeads}
 use Rattle.latex2mathml_formulas.specs.Marks.{MarkStands}
 use Rattle.latex2mathml_formulas.specs.declared.parse.frames.Frame.{Frame}

@@ -4,8 +4,8 @@ use Rattle.latex2mathml_formulas.specs.Frames.{inside}
 use Rattle.latex2mathml_formulas.specs.Grammar.{Sort, core, Outcome, Read, Refused, Rule, a_fence, first_or_end, gives, refuses, reads_part, rule, rule_gives, rule_refuses, single, sized, stretched_or_refused, with_fence, ReadsRule}
 use Rattle.latex2mathml_formulas.specs.Levels.{due_of, Leads, Level, Made, MayBegin, RuleLeads}
 use Rattle.latex2mathml_formulas.specs.Marks.{rest_of}
-use Rattle.latex2mathml_nodes.specs.Productions.{fence_of, stretched_operator}
-use Rattle.latex2mathml_nodes.specs.Tree.{Tree, undefined}
+use Rattle.latex2mathml_trees.specs.Productions.{fence_of, stretched_operator}
+use Rattle.latex2mathml_trees.specs.Tree.{Tree, undefined}
 use Rattle.latex2mathml_tokens.specs.Lexemes.{lexeme_tok}
 use Rattle.latex2mathml_tokens.specs.Refusal.{Refusal, MissingParensethis, UnexpectedToken}
 use Rattle.latex2mathml_tokens.specs.Tok.{Tok, EOF, Middle, Paren}

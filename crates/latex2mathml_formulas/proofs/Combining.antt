@@ -5,8 +5,8 @@ use Rattle.std.proofs.Math.Seq.{drop-nil}
 use Rattle.latex2mathml_formulas.specs.Frames.{after_members, end_of, tree_count, innermost, inside, script, within}
 use Rattle.latex2mathml_formulas.specs.Grammar.{Sort, core, node, gives, of_one, Outcome, Read, rule_gives}
 use Rattle.latex2mathml_formulas.specs.Levels.{awaits_members, end_token, level_of_rule, Leads, Made, RuleLeads, Accepts}
-use Rattle.latex2mathml_nodes.specs.Style.{styled}
-use Rattle.latex2mathml_nodes.specs.Tree.{Tree}
+use Rattle.latex2mathml_trees.specs.Style.{styled}
+use Rattle.latex2mathml_trees.specs.Tree.{Tree}
 use Rattle.latex2mathml_parts.specs.Parts.{arity, put, top}
 use Rattle.latex2mathml_parts.specs.declared.kind.Kind.{Kind}
 use Rattle.latex2mathml_parts.specs.declared.kind.Kind.TheVariants as kind

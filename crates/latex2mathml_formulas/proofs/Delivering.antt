@@ -5,8 +5,8 @@ use Rattle.latex2mathml_formulas.specs.Frames.{after_first, inside, one_of_pair,
 use Rattle.latex2mathml_formulas.specs.Grammar.{core, after_environment_members, environment, first, gives, node, of_one, Read, reads_part, Reads, Refused, rule_gives, single}
 use Rattle.latex2mathml_formulas.specs.Levels.{Leads, Made, RuleLeads, Accepts}
 use Rattle.latex2mathml_formulas.specs.Marks.{NameStands, sign_token}
-use Rattle.latex2mathml_nodes.specs.Productions.{environment_tree, group_tree}
-use Rattle.latex2mathml_nodes.specs.Tree.{Tree, fenced, root}
+use Rattle.latex2mathml_trees.specs.Productions.{environment_tree, group_tree}
+use Rattle.latex2mathml_trees.specs.Tree.{Tree, fenced, root}
 use Rattle.latex2mathml_parts.specs.Parts.{arity, fence_text, put, top, words_of}
 use Rattle.latex2mathml_parts.specs.declared.kind.Kind.{Kind}
 use Rattle.latex2mathml_parts.specs.declared.kind.Kind.TheVariants as kind

@@ -8,7 +8,7 @@ use Rattle.std.proofs.lemmas.Bool.Decides.{eqb_tells, nat_tests}
 use Rattle.std.proofs.lemmas.List.Folds.{list_all-append}
 use Rattle.latex2mathml_formulas.specs.Dollars.{dollar, is_other, IsDollarFree, free_both, free_first, free_more, free_one, free_rest, other}
 use Rattle.latex2mathml_tokens.specs.Escape.{content, content_byte, content_char, value, value_byte}
-use Rattle.latex2mathml_nodes.specs.Width.{width_text, thousandths_text, thousandths, after_point, trimmed, keep, three_digits}
+use Rattle.latex2mathml_trees.specs.Width.{width_text, thousandths_text, thousandths, after_point, trimmed, keep, three_digits}
 
 pub free_if : (p : Bool) (a b : List ℕ) → IsDollarFree a → IsDollarFree b → IsDollarFree (cond p a b)
 free_if true a b x y = x

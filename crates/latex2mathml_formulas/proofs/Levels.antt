@@ -2,7 +2,7 @@
 use Rattle.std.proofs.Common.{◌≡◌, ◌≢◌, ◌⊎◌, ℕ, inl, inr, List, [], ◌∷◌, ◌++◌, Option, Some, None, refl, sym, ap, subst, ◌∙◌, append_assoc, append-nil}
 use Rattle.std.specs.Prelude.{IsNone}
 use Rattle.std.specs.Str.{encode_utf8_all}
-use Rattle.latex2mathml_nodes.specs.Productions.{prime_mark}
+use Rattle.latex2mathml_trees.specs.Productions.{prime_mark}
 use Rattle.latex2mathml_formulas.specs.Grammar.{Sort, core, single, node, Rule, gives, reads_part, reads_members, reads_sign, takes_token, sees_token, takes_letters, rule, a_name, first_or_end, AreLetters, prime, rule_after_core, rule_after_single, Outcome, Read, Refused, first, Reads, ReadsRule, core_at_end, core_begun, single_read, node_read, rule_gives, token_taken, token_at_end, token_seen, letters_taken, part_read, part_refused, members_read, members_refused, sign_stands, sign_missing, ReadsAll, group_ends, never_closed, member_read, later_refused, member_refused}
 use Rattle.latex2mathml_formulas.specs.Frames.{script}
 use Rattle.latex2mathml_formulas.specs.Marks.{LettersStand, MarkStands, NameStands, mark_token, rest_of, sign_token}
@@ -10,7 +10,7 @@ use Rattle.latex2mathml_formulas.specs.Levels.{Standing, awaits_part, awaits_mem
 use Rattle.latex2mathml_tokens.specs.Refusal.{Refusal, UnexpectedToken}
 use Rattle.latex2mathml_tokens.specs.Tok.{Tok, EOF, Underscore, Circumflex}
 use Rattle.latex2mathml_tokens.specs.TokenText.{token_text}
-use Rattle.latex2mathml_nodes.specs.Tree.{Tree, undefined, superscript}
+use Rattle.latex2mathml_trees.specs.Tree.{Tree, undefined, superscript}
 use Rattle.latex2mathml_formulas.specs.declared.parse.frames.Due.TheVariants as due
 use Rattle.latex2mathml_formulas.specs.declared.parse.frames.GroupEnd.{GroupEnd}
 use Rattle.latex2mathml_formulas.specs.declared.reader.mark.Mark.{Mark}

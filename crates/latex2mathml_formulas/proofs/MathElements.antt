@@ -2,18 +2,18 @@
 use Rattle.std.proofs.Common.{◌≡◌, ℕ, true, false, ◌&&◌, IsTrue, List, [], ◌∷◌, ◌++◌, refl, sym, ap, ◌∙◌, append_assoc, append-nil, codes, map, Result, Global, Ok, Err}
 use Rattle.std.specs.Prelude.{IfOk, String, string_bytes}
 use Rattle.std.specs.List.{flat_map, list_all}
-use Rattle.latex2mathml_nodes.specs.Arguments.{HaveNoArgument}
+use Rattle.latex2mathml_trees.specs.Arguments.{HaveNoArgument}
 use Rattle.latex2mathml_tokens.specs.Attributes.{display_text}
-use Rattle.latex2mathml_nodes.specs.Markup.{plain, attribute, open_tag, OpenElements, lowest, above, at_start, add, Runs, IsElement, is_part, spell_part}
-use Rattle.latex2mathml_nodes.specs.MathSchema.{child_table, IsMathElement}
-use Rattle.latex2mathml_nodes.specs.Print.{prints}
+use Rattle.latex2mathml_trees.specs.Markup.{plain, attribute, open_tag, OpenElements, lowest, above, at_start, add, Runs, IsElement, is_part, spell_part}
+use Rattle.latex2mathml_trees.specs.MathSchema.{child_table, IsMathElement}
+use Rattle.latex2mathml_trees.specs.Print.{prints}
 use Rattle.latex2mathml_formulas.specs.Rendering.{IsRendering, math_print}
-use Rattle.latex2mathml_nodes.specs.Tree.{Tree, trees_of}
+use Rattle.latex2mathml_trees.specs.Tree.{Tree, trees_of}
 use Rattle.latex2mathml_tokens.specs.declared.DisplayStyle.{DisplayStyle}
 use Rattle.latex2mathml_tokens.specs.declared.DisplayStyle.TheVariants.{Block, Inline}
 use Rattle.latex2mathml_tokens.specs.declared.error.LatexError.{LatexError}
-use Rattle.latex2mathml_nodes.proofs.Elements.{some_children}
-use Rattle.latex2mathml_nodes.proofs.Runs.{closed, joined, plain-spells, single, spelled_as}
+use Rattle.latex2mathml_trees.proofs.Elements.{some_children}
+use Rattle.latex2mathml_trees.proofs.Runs.{closed, joined, plain-spells, single, spelled_as}
 use Rattle.latex2mathml_formulas.proofs.ReadArguments.{reading_has_no_argument}
 
 display-valid : (display : DisplayStyle) → IsTrue (list_all is_part (map plain (display_text display)))

@@ -2,8 +2,8 @@
 use Rattle.std.proofs.Common.{◌≡◌, ◌≢◌, ℕ, List, [], ◌∷◌, Option, Some, None}
 use Rattle.latex2mathml_formulas.specs.Grammar.{Rule, rule, sized, with_fence, stretched_or_refused, environment, Outcome, Refused, Refuses}
 use Rattle.latex2mathml_formulas.specs.Rendering.{IsFormulaRefusal}
-use Rattle.latex2mathml_nodes.specs.Productions.{fence_of}
-use Rattle.latex2mathml_nodes.specs.Tree.{Tree}
+use Rattle.latex2mathml_trees.specs.Productions.{fence_of}
+use Rattle.latex2mathml_trees.specs.Tree.{Tree}
 use Rattle.latex2mathml_tokens.specs.Refusal.{Refusal, UnexpectedToken, MissingParensethis, UnknownEnvironment, InvalidNumberOfDollarSigns}
 use Rattle.latex2mathml_tokens.specs.Tok.{Tok, Begin, Paren, Left, Right, Middle, Frac, Binom, Overset, Underset, Overbrace, Underbrace, LBrace, Sqrt, Integral, Lim, BigOp, Style, Big, Over, Under, OperatorName, Slashed, Text}
 use Rattle.latex2mathml_formulas.proofs.Kept.{Property, KeepsRule, IsKept, AllTokens, HasTrees, read_all}

@@ -4,10 +4,10 @@ use Rattle.std.specs.Prelude.{MatchBool}
 use Rattle.latex2mathml_formulas.specs.Grammar.{Sort, Rule, a_fence, with_fence, refuses, first, first_or_end, Outcome, Refused, rule_refuses}
 use Rattle.latex2mathml_formulas.specs.Levels.{RuleLeads, Level, Made}
 use Rattle.latex2mathml_formulas.specs.Marks.{rest_of}
-use Rattle.latex2mathml_nodes.specs.Productions.{fence_of}
+use Rattle.latex2mathml_trees.specs.Productions.{fence_of}
 use Rattle.latex2mathml_tokens.specs.Refusal.{Refusal, MissingParensethis}
 use Rattle.latex2mathml_tokens.specs.Tok.{Tok}
-use Rattle.latex2mathml_nodes.specs.Tree.{Tree}
+use Rattle.latex2mathml_trees.specs.Tree.{Tree}
 use Rattle.latex2mathml_formulas.proofs.Levels.{skipped}
 
 -- a sign that was found

@@ -1,13 +1,13 @@
 -- What is read is a slice of the tokens, with the rest behind it; and what is refused is refused behind such slices.
 use Rattle.std.proofs.Common.{◌≡◌, ◌≢◌, ◌∙◌, ℕ, List, [], ◌∷◌, ◌++◌, length, map, Option, Some, None, refl, sym, ap, subst, append_assoc, arith}
 use Rattle.std.proofs.lemmas.List.{append_cancel_right}
-use Rattle.latex2mathml_nodes.specs.Productions.{prime_mark}
+use Rattle.latex2mathml_trees.specs.Productions.{prime_mark}
 use Rattle.latex2mathml_formulas.specs.Grammar.{Sort, core, single, node, Rule, reads_part, reads_members, reads_sign, takes_token, sees_token, takes_letters, prime, rule, Outcome, Read, Refused, first, first_or_end, first_letter, letter_of, AreLetters, Reads, core_at_end, core_begun, single_read, node_read, ReadsRule, rule_gives, rule_refuses, part_read, part_refused, members_read, members_refused, sign_stands, sign_missing, token_taken, token_at_end, token_seen, letters_taken, ReadsAll, formula_ends, group_ends, never_closed, member_read, later_refused, member_refused}
 use Rattle.latex2mathml_tokens.specs.Refusal.{Refusal}
 use Rattle.latex2mathml_formulas.specs.SliceRefusals.{PartRefuses, core_refuses, single_refuses, node_refuses, subscript_refuses, superscript_refuses, RuleRefuses, rule_itself, part_itself, behind_part, members_themselves, behind_members, behind_sign, behind_no_sign, behind_token, behind_no_token, at_next_token, behind_letters, MembersRefuse, end_missing, member_itself, behind_member, FormulaRefuses, node_itself, behind_node}
 use Rattle.latex2mathml_formulas.specs.Slices.{IsPart, no_core, core_by_rule, without_prime, with_prime, without_script, with_subscript, with_superscript, AreParts, no_part, part, members, with_sign, without_sign, with_token, without_token, by_next_token, letters, AreMembers, no_member, member, AreNodes, no_node, one_node}
 use Rattle.latex2mathml_tokens.specs.Tok.{Tok, EOF, Underscore, Circumflex}
-use Rattle.latex2mathml_nodes.specs.Tree.{Tree, subscript, superscript}
+use Rattle.latex2mathml_trees.specs.Tree.{Tree, subscript, superscript}
 use Rattle.latex2mathml_formulas.proofs.Total.{some_taken}
 
 -- what is read of a part is a slice, and what is refused is refused behind slices

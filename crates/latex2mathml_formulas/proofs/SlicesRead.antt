@@ -5,7 +5,7 @@ use Rattle.latex2mathml_tokens.specs.Refusal.{Refusal}
 use Rattle.latex2mathml_formulas.specs.SliceRefusals.{PartRefuses, core_refuses, single_refuses, node_refuses, subscript_refuses, superscript_refuses, RuleRefuses, rule_itself, part_itself, behind_part, members_themselves, behind_members, behind_sign, behind_no_sign, behind_token, behind_no_token, at_next_token, behind_letters, MembersRefuse, end_missing, member_itself, behind_member, FormulaRefuses, node_itself, behind_node}
 use Rattle.latex2mathml_formulas.specs.Slices.{IsPart, no_core, core_by_rule, without_prime, with_prime, without_script, with_subscript, with_superscript, AreParts, no_part, part, members, with_sign, without_sign, with_token, without_token, by_next_token, letters, AreMembers, no_member, member, AreNodes, no_node, one_node}
 use Rattle.latex2mathml_tokens.specs.Tok.{Tok, Underscore, Circumflex}
-use Rattle.latex2mathml_nodes.specs.Tree.{Tree}
+use Rattle.latex2mathml_trees.specs.Tree.{Tree}
 use Rattle.latex2mathml_formulas.proofs.Total.{some_taken}
 
 -- two slices, one after the other, before the rest

@@ -5,7 +5,7 @@ use Rattle.std.proofs.lemmas.List.{reverse-append}
 use Rattle.latex2mathml_formulas.specs.Frames.{awaits, enter, first_due, tree_count, innermost, inside, inside_all, sort_made, standing_of, takes_script, whole, within}
 use Rattle.latex2mathml_formulas.specs.Grammar.{core, node, Outcome, Read, Reads, Refused, rule, Rule, rule_gives, gives, refuses, rule_refuses}
 use Rattle.latex2mathml_formulas.specs.Levels.{due_of, end_token, Leads, Level, Made, MayBegin, RuleLeads, Accepts}
-use Rattle.latex2mathml_nodes.specs.Tree.{Tree, undefined}
+use Rattle.latex2mathml_trees.specs.Tree.{Tree, undefined}
 use Rattle.latex2mathml_parts.specs.Parts.{top}
 use Rattle.latex2mathml_tokens.specs.Refusal.{Refusal, UnexpectedToken}
 use Rattle.latex2mathml_tokens.specs.Tok.{Tok, EOF}

@@ -4,7 +4,7 @@ use Rattle.latex2mathml_tokens.specs.Discreteness.{tok-discrete}
 use Rattle.latex2mathml_formulas.specs.Grammar.{Sort, core, single, node, Rule, gives, refuses, reads_part, reads_members, reads_sign, takes_token, sees_token, takes_letters, rule, rule_after_core, rule_after_single, Outcome, Read, Refused, first_or_end, letter_of, AreLetters, Reads, core_at_end, core_begun, single_read, node_read, ReadsRule, rule_gives, rule_refuses, part_read, part_refused, members_read, members_refused, sign_stands, sign_missing, token_taken, token_at_end, token_seen, letters_taken, ReadsAll, formula_ends, group_ends, never_closed, member_read, later_refused, member_refused, ReadsFormula, Refuses}
 use Rattle.latex2mathml_tokens.specs.Refusal.{Refusal}
 use Rattle.latex2mathml_tokens.specs.Tok.{Tok, EOF}
-use Rattle.latex2mathml_nodes.specs.Tree.{Tree}
+use Rattle.latex2mathml_trees.specs.Tree.{Tree}
 use Rattle.latex2mathml_formulas.proofs.Begins.{begins}
 
 -- where the outcome has a rest, it has at most k tokens

@@ -3,7 +3,7 @@ use Rattle.std.specs.Prelude.{◌≡◌, ℕ, ◌+◌, ◌*◌, ◌<◌, ◌≤�
 use Rattle.latex2mathml_formulas.specs.Characters.{◌∈◌}
 use Rattle.latex2mathml_formulas.specs.Grammar.{node, Read, Reads, Refused}
 use Rattle.latex2mathml_formulas.specs.Spelling.{Slice, HasSlices, HasTokens}
-use Rattle.latex2mathml_nodes.specs.Tree.{Tree}
+use Rattle.latex2mathml_trees.specs.Tree.{Tree}
 use Rattle.latex2mathml_tokens.specs.Refusal.{Refusal}
 use Rattle.latex2mathml_tokens.specs.Tok.{Tok}
 

@@ -5,9 +5,9 @@ use Rattle.std.specs.Prelude.{ℕ, ◌+◌, ◌-◌, Bool, true, false, List, []
 use Rattle.latex2mathml_formulas.specs.Grammar.{Sort, core, single, node, operand, Rule, gives, reads_part, reads_sign, of_one, of_degree, with_second, under_slash, after_fence_members, stretched_or_refused, after_environment_members, Reads}
 use Rattle.latex2mathml_formulas.specs.Levels.{Standing, awaits_part, awaits_members, Level, part, level_of_rule}
 use Rattle.latex2mathml_formulas.specs.Marks.{sign_token}
-use Rattle.latex2mathml_nodes.specs.Productions.{group_tree, stretched_operator}
-use Rattle.latex2mathml_nodes.specs.Style.{styled}
-use Rattle.latex2mathml_nodes.specs.Tree.{Tree, operator, subscript, superscript}
+use Rattle.latex2mathml_trees.specs.Productions.{group_tree, stretched_operator}
+use Rattle.latex2mathml_trees.specs.Style.{styled}
+use Rattle.latex2mathml_trees.specs.Tree.{Tree, operator, subscript, superscript}
 use Rattle.latex2mathml_parts.specs.Parts.{arity, fence_text, put, top, words_of}
 use Rattle.latex2mathml_parts.specs.declared.kind.Kind.{Kind}
 use Rattle.latex2mathml_parts.specs.declared.kind.Kind.TheVariants as kind

@@ -2,12 +2,12 @@
 -- a core; three small relations say how rules are read, and they are the same for every rule.
 use Rattle.std.specs.Prelude.{◌≡◌, ◌≢◌, ℕ, Bool, true, false, List, [], ◌∷◌, Option, Some, None, codes}
 use Rattle.std.specs.Str.{byte, encode_utf8_all}
-use Rattle.latex2mathml_nodes.specs.Productions.{binomial_tree, environment_tree, fence_of, overbrace_tree, labelled_overbrace_tree, stretched_operator, underbrace_tree, labelled_underbrace_tree, group_tree, prime_mark}
+use Rattle.latex2mathml_trees.specs.Productions.{binomial_tree, environment_tree, fence_of, overbrace_tree, labelled_overbrace_tree, stretched_operator, underbrace_tree, labelled_underbrace_tree, group_tree, prime_mark}
 use Rattle.latex2mathml_tokens.specs.Refusal.{Refusal, UnexpectedToken, MissingParensethis, UnknownEnvironment}
-use Rattle.latex2mathml_nodes.specs.Style.{styled}
+use Rattle.latex2mathml_trees.specs.Style.{styled}
 use Rattle.latex2mathml_tokens.specs.Tok.{Tok, Illegal, EOF, Begin, End, Ampersand, Paren, LBrace, RBrace, NewLine, Left, Right, Middle, Frac, Underscore, Circumflex, Binom, Overset, Underset, Overbrace, Underbrace, Sqrt, Integral, Lim, Letter, Number, Operator, BigOp, Space, Style, Big, Over, Under, Function, OperatorName, Slashed, Text, Command}
 use Rattle.latex2mathml_tokens.specs.TokenText.{token_text}
-use Rattle.latex2mathml_nodes.specs.Tree.{Tree, number, letter, operator, function, space, other_operator, subscript, superscript, sub_sup, over_op, under_op, overset, underset, under, under_over, root, sqrt, frac, fenced, sized_paren, words, ampersand, new_line, slashed, undefined}
+use Rattle.latex2mathml_trees.specs.Tree.{Tree, number, letter, operator, function, space, other_operator, subscript, superscript, sub_sup, over_op, under_op, overset, underset, under, under_over, root, sqrt, frac, fenced, sized_paren, words, ampersand, new_line, slashed, undefined}
 use Rattle.latex2mathml_tokens.specs.declared.attribute.LineThickness.TheVariants.{Medium}
 
 -- what a part of a rule may be: a core, a single, which is a core with what stands directly behind it, or a node, which

@@ -5,7 +5,7 @@ use Rattle.latex2mathml_tokens.specs.Refusal.{Refusal}
 use Rattle.latex2mathml_formulas.specs.SliceRefusals.{PartRefuses, RuleRefuses, MembersRefuse, FormulaRefuses}
 use Rattle.latex2mathml_formulas.specs.Slices.{IsPart, AreParts, AreMembers, AreNodes}
 use Rattle.latex2mathml_tokens.specs.Tok.{Tok}
-use Rattle.latex2mathml_nodes.specs.Tree.{Tree}
+use Rattle.latex2mathml_trees.specs.Tree.{Tree}
 
 -- the tokens have exactly one reading or exactly one refusal
 pub record HasOneReading (l : List Tok) : Type 0 where

@@ -3,7 +3,7 @@
 use Rattle.std.specs.Prelude.{◌≢◌, List, [], ◌∷◌, ◌++◌, Some, codes}
 use Rattle.latex2mathml_formulas.specs.Grammar.{Sort, core, single, node, Rule, rule_after_core, rule_after_single, Outcome, Read, Refused, Reads, ReadsRule, ReadsAll}
 use Rattle.latex2mathml_tokens.specs.Tok.{Tok, End, Paren, RBrace, Right}
-use Rattle.latex2mathml_nodes.specs.Tree.{Tree}
+use Rattle.latex2mathml_trees.specs.Tree.{Tree}
 use Rattle.latex2mathml_formulas.specs.declared.parse.frames.Due.{Due}
 use Rattle.latex2mathml_formulas.specs.declared.parse.frames.Due.TheVariants as due
 use Rattle.latex2mathml_formulas.specs.declared.parse.frames.GroupEnd.{GroupEnd}

@@ -3,11 +3,11 @@ use Rattle.std.specs.Prelude.{◌≡◌, ℕ, List, ◌++◌, None, codes}
 use Rattle.std.specs.Str.{chars}
 use Rattle.latex2mathml_tokens.specs.Attributes.{display_text}
 use Rattle.latex2mathml_formulas.specs.Grammar.{ReadsFormula, Refuses}
-use Rattle.latex2mathml_nodes.specs.Print.{prints}
+use Rattle.latex2mathml_trees.specs.Print.{prints}
 use Rattle.latex2mathml_tokens.specs.Refusal.{Refusal}
 use Rattle.latex2mathml_formulas.specs.Spelling.{HasTokens}
 use Rattle.latex2mathml_tokens.specs.Tok.{Tok}
-use Rattle.latex2mathml_nodes.specs.Tree.{Tree, trees_of}
+use Rattle.latex2mathml_trees.specs.Tree.{Tree, trees_of}
 use Rattle.latex2mathml_tokens.specs.declared.DisplayStyle.{DisplayStyle}
 
 -- trees as one `math` element

@@ -2,7 +2,7 @@
 use Rattle.std.specs.Prelude.{◌≡◌, ◌≢◌, ◌⊎◌, ℕ, List}
 use Rattle.latex2mathml_formulas.specs.Dollars.{IsDollarFree}
 use Rattle.latex2mathml_formulas.specs.Rendering.{IsFormulaRefusal, IsRendering}
-use Rattle.latex2mathml_nodes.specs.MathSchema.{IsMathElement}
+use Rattle.latex2mathml_trees.specs.MathSchema.{IsMathElement}
 use Rattle.latex2mathml_tokens.specs.Refusal.{Refusal, InvalidNumberOfDollarSigns}
 use Rattle.latex2mathml_tokens.specs.declared.DisplayStyle.{DisplayStyle}
 

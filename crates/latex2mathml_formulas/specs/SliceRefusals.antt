@@ -5,7 +5,7 @@ use Rattle.latex2mathml_formulas.specs.Grammar.{Sort, core, single, node, Rule, 
 use Rattle.latex2mathml_tokens.specs.Refusal.{Refusal, UnexpectedToken}
 use Rattle.latex2mathml_formulas.specs.Slices.{IsPart, AreMembers}
 use Rattle.latex2mathml_tokens.specs.Tok.{Tok, EOF, Underscore, Circumflex}
-use Rattle.latex2mathml_nodes.specs.Tree.{Tree}
+use Rattle.latex2mathml_trees.specs.Tree.{Tree}
 
 mutual
   -- a core, a single or a node is to stand at the front of the tokens, and is refused

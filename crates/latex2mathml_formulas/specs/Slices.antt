@@ -1,11 +1,11 @@
 -- The grammar over slices: which tokens w, with which tokens f behind them, are a core, a single, a node, the parts of a
 -- rule, the members of a group, or the nodes of a formula. A law says that what the rules read is exactly this.
 use Rattle.std.specs.Prelude.{◌≡◌, ◌≢◌, ℕ, List, [], ◌∷◌, ◌++◌, map, Some, None}
-use Rattle.latex2mathml_nodes.specs.Productions.{prime_mark}
+use Rattle.latex2mathml_trees.specs.Productions.{prime_mark}
 use Rattle.latex2mathml_formulas.specs.Grammar.{Sort, core, single, node, Rule, gives, reads_part, reads_members, reads_sign, takes_token, sees_token, takes_letters, rule, prime, first, first_or_end, letter_of, first_letter}
 use Rattle.latex2mathml_tokens.specs.Tok.{Tok, EOF, Underscore, Circumflex}
 use Rattle.latex2mathml_tokens.specs.TokenText.{token_text}
-use Rattle.latex2mathml_nodes.specs.Tree.{Tree, subscript, superscript, undefined}
+use Rattle.latex2mathml_trees.specs.Tree.{Tree, subscript, superscript, undefined}
 
 mutual
   -- the slice w, with f behind it, is a core, a single or a node, and x is its tree

@@ -9,7 +9,7 @@ ghost use Rattle.latex2mathml_tokens.specs.Attributes.{display_text};
 ghost use Rattle.latex2mathml_tokens.specs.Lexemes.{lexeme_tok};
 ghost use Rattle.latex2mathml_tokens.specs.Refusal.{IfRefused};
 ghost use Rattle.latex2mathml_tokens.specs.Tok.{Tok};
-ghost use Rattle.latex2mathml_nodes.specs.Tree.{Tree};
+ghost use Rattle.latex2mathml_trees.specs.Tree.{Tree};
 
 use crate::parse::begin::symbol;
 use crate::parse::{Parser, State};
@@ -98,7 +98,7 @@ fn append_node<'a>(
     match parser.reader.mark() {
         // Most nodes are one such lexeme that no mark follows. These need no part.
         None => {
-            write_leaf(parser.alloc, leaf, markup)?;
+            write_leaf(leaf, markup)?;
             Ok(true)
         }
         Some(_) => {
@@ -119,7 +119,7 @@ fn append_rest(parser: &mut Parser, begun: State, markup: &mut String) -> Result
     if !is_read {
         return Ok(false);
     }
-    parser.parts.write(parser.alloc, markup)?;
+    parser.parts.write(markup)?;
     parser.parts.clear();
     Ok(true)
 }

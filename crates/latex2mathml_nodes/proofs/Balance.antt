@@ -5,17 +5,17 @@ use Rattle.std.proofs.lemmas.Option.{option_and_then_some}
 use Rattle.std.specs.Char.{encode_utf8}
 use Rattle.latex2mathml_tokens.specs.Attributes.{accent_text, align_text, thickness_text}
 use Rattle.latex2mathml_tokens.specs.Escape.{content, content_char, quoted}
-use Rattle.latex2mathml_nodes.specs.Markup.{Name, numbered, Event, open_tag, close_tag, empty_tag, reference, data_byte, OpenElements, lowest, above, at_start, add, any_element, Runs, IsBalanced, is_event, name_of, run, spell_event, step}
-use Rattle.latex2mathml_nodes.specs.MathSchema.{child_table}
-use Rattle.latex2mathml_nodes.specs.Print.{print, prints, member_print, members_print, slashed_print, style_open}
-use Rattle.latex2mathml_nodes.specs.Tree.{Tree, Trees, number, letter, operator, function, applied, space, subscript, superscript, sub_sup, over_op, under_op, overset, underset, under, under_over, root, sqrt, frac, row, fenced, stretched, other_operator, sized_paren, words, matrix, ampersand, new_line, slashed, style, undefined, no_trees, more_trees}
+use Rattle.latex2mathml_trees.specs.Markup.{Name, numbered, Event, open_tag, close_tag, empty_tag, reference, data_byte, OpenElements, lowest, above, at_start, add, any_element, Runs, IsBalanced, is_event, name_of, run, spell_event, step}
+use Rattle.latex2mathml_trees.specs.MathSchema.{child_table}
+use Rattle.latex2mathml_trees.specs.Print.{print, prints, member_print, members_print, slashed_print, style_open}
+use Rattle.latex2mathml_trees.specs.Tree.{Tree, Trees, number, letter, operator, function, applied, space, subscript, superscript, sub_sup, over_op, under_op, overset, underset, under, under_over, root, sqrt, frac, row, fenced, stretched, other_operator, sized_paren, words, matrix, ampersand, new_line, slashed, style, undefined, no_trees, more_trees}
 use Rattle.latex2mathml_tokens.specs.declared.attribute.Accent.{Accent}
 use Rattle.latex2mathml_tokens.specs.declared.attribute.ColumnAlign.{ColumnAlign}
 use Rattle.latex2mathml_tokens.specs.declared.attribute.LineThickness.{LineThickness}
-use Rattle.latex2mathml_nodes.proofs.Cells.{table_opened}
-use Rattle.latex2mathml_nodes.proofs.Elements.{frac_opened, style_opened}
-use Rattle.latex2mathml_nodes.proofs.Runs.{closed, ending_as, joined, opened, spelled_as, staying}
-use Rattle.latex2mathml_nodes.proofs.Leaves.{IsChild, accent_is_child, accent_last, error_is_child, fence, identifier, letter_is_child, numeral, operator_is_child, sign, sized_is_child, slashed_identifier, slashed_sign, space_is_child, stretched_is_child, wording}
+use Rattle.latex2mathml_trees.proofs.Cells.{table_opened}
+use Rattle.latex2mathml_trees.proofs.Elements.{frac_opened, style_opened}
+use Rattle.latex2mathml_trees.proofs.Runs.{closed, ending_as, joined, opened, spelled_as, staying}
+use Rattle.latex2mathml_trees.proofs.Leaves.{IsChild, accent_is_child, accent_last, error_is_child, fence, identifier, letter_is_child, numeral, operator_is_child, sign, sized_is_child, slashed_identifier, slashed_sign, space_is_child, stretched_is_child, wording}
 
 -- more children of the highest level, the last one first
 abbrev pub more : List Name → OpenElements → OpenElements

@@ -1,8 +1,9 @@
 -- How many nodes and lists are in lists of nodes.
 use Rattle.std.proofs.Common.{◌≡◌, ℕ, zero, suc, ◌+◌, ◌<◌, List, [], ◌∷◌, ◌++◌, length, get_or, ap, arith}
 use Rattle.latex2mathml_nodes.specs.declared.ast.Node.{Node}
-use Rattle.latex2mathml_nodes.specs.Tree.{tree, trees}
-use Rattle.latex2mathml_nodes.specs.Weight.{weight, weights, hung_in}
+use Rattle.latex2mathml_nodes.specs.Nodes.{tree, trees}
+use Rattle.latex2mathml_nodes.specs.Chains.{hung_in}
+use Rattle.latex2mathml_trees.specs.Weight.{weight, weights}
 
 weights-push : (xs : List Node) (x : Node) → weights (trees (xs ++ x ∷ [])) ≡ weights (trees xs) + weight (tree x) + 1
 weights-push [] x = omega arith

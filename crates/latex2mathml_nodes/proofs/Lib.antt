@@ -1,12 +1,6 @@
 pub mod Balance
-pub mod Cells
 pub mod Chains
-pub mod Elements
-pub mod Leaves
+pub mod Layers
 pub mod Members
-pub mod Pages
 pub mod Prints
-pub mod Runs
 pub mod Styles
-pub mod ValueTexts
-pub mod Widths

@@ -2,7 +2,7 @@
 use Rattle.std.proofs.Common.{◌≡◌, ℕ, zero, suc, ◌+◌, ◌<◌, List, [], ◌∷◌, ◌++◌, length, get_or, take, sym, ap, ◌∙◌, arith}
 use Rattle.std.proofs.lemmas.List.{take_more}
 use Rattle.latex2mathml_nodes.specs.declared.ast.Node.{Node}
-use Rattle.latex2mathml_nodes.specs.Tree.{tree, trees}
+use Rattle.latex2mathml_nodes.specs.Nodes.{tree, trees}
 
 pub same_lengths : (xs ys : List Node) → trees xs ≡ trees ys → length xs ≡ length ys
 same_lengths [] [] e = cc

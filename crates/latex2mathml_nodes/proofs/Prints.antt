@@ -1,10 +1,9 @@
--- The prints of nodes, one after another, and what is appended to a text.
+-- The prints of nodes, one after another.
 use Rattle.std.proofs.Common.{◌≡◌, ℕ, ◌+◌, ◌<◌, List, [], ◌∷◌, ◌++◌, length, get_or, take, sym, ap, ◌∙◌, append_assoc, append-nil}
 use Rattle.std.proofs.lemmas.List.{take_more}
-use Rattle.std.specs.Prelude.{Result, Ok, Err, OnOk, is_ok, if◌then◌else◌}
 use Rattle.latex2mathml_nodes.specs.declared.ast.Node.{Node}
-use Rattle.latex2mathml_nodes.specs.Print.{member_print, members_print, print, prints}
-use Rattle.latex2mathml_nodes.specs.Tree.{tree, trees}
+use Rattle.latex2mathml_trees.specs.Print.{member_print, members_print, print, prints}
+use Rattle.latex2mathml_nodes.specs.Nodes.{tree, trees}
 
 prints-push : (xs : List Node) (x : Node) → prints (trees (xs ++ x ∷ [])) ≡ prints (trees xs) ++ print (tree x)
 prints-push [] x = append-nil (print (tree x))
@@ -23,8 +22,3 @@ members-push (y ∷ ys) x =
 -- one more member of a matrix at index i
 pub members-more : (all : List Node) (i : ℕ) (x : Node) → i < length all → x ≡ get_or all i x → members_print (trees (take i all)) ++ member_print (tree x) (print (tree x)) ≡ members_print (trees (take (i + 1) all))
 members-more all i x h e = sym (members-push (take i all) x) ∙ ap (λ l. members_print (trees l)) (sym (take_more all i x h ∙ ap (λ y. take i all ++ y ∷ []) (sym e)))
-
--- a text is pushed, which is the one to be appended
-pub appended : {T E : Type 0} (r : Result T E) (new old a b : List ℕ) → a ≡ b → new ≡ (if is_ok r then old ++ a else old) → OnOk r (new ≡ old ++ b)
-appended (Ok x) new old a b e h = h ∙ ap (λ l. old ++ l) e
-appended (Err x) new old a b e h = tt

@@ -3,8 +3,9 @@ use Rattle.std.proofs.Common.{◌≡◌, ℕ, ◌+◌, ◌<◌, List, [], ◌∷
 use Rattle.std.proofs.lemmas.List.{take_more, take_more_set}
 use Rattle.latex2mathml_nodes.specs.declared.ast.Node.{Node}
 use Rattle.latex2mathml_tokens.specs.declared.attribute.Variant.{Variant}
-use Rattle.latex2mathml_nodes.specs.Style.{all_styled, styled}
-use Rattle.latex2mathml_nodes.specs.Tree.{Tree, Trees, tree, trees, no_trees, more_trees, letter, row, number, operator, function, applied, space, subscript, superscript, sub_sup, over_op, under_op, overset, underset, under, under_over, root, sqrt, frac, fenced, stretched, other_operator, sized_paren, words, matrix, ampersand, new_line, slashed, style, undefined}
+use Rattle.latex2mathml_trees.specs.Style.{all_styled, styled}
+use Rattle.latex2mathml_nodes.specs.Nodes.{tree, trees}
+use Rattle.latex2mathml_trees.specs.Tree.{Tree, Trees, no_trees, more_trees, letter, row, number, operator, function, applied, space, subscript, superscript, sub_sup, over_op, under_op, overset, underset, under, under_over, root, sqrt, frac, fenced, stretched, other_operator, sized_paren, words, matrix, ampersand, new_line, slashed, style, undefined}
 
 pub styled-push : (v : Variant) (xs ys : List Node) (x y : Node) → trees xs ≡ all_styled v (trees ys) → tree x ≡ styled v (tree y) → trees (xs ++ x ∷ []) ≡ all_styled v (trees (ys ++ y ∷ []))
 styled-push v [] [] x y e f = cc

@@ -7,7 +7,7 @@ use native.Mathlib.Decide.{ℕ_discrete}
 use lib.IntN.{ℤ_discrete}
 use Rattle.latex2mathml_tokens.specs.Discreteness.{variant-discrete, accent-discrete, thickness-discrete, align-discrete, display-discrete}
 use Rattle.latex2mathml_tokens.specs.Same.{optional, same}
-use Rattle.latex2mathml_nodes.specs.Tree.{Tree, Tree-discrete}
+use Rattle.latex2mathml_trees.specs.Tree.{Tree, Tree-discrete}
 
 pub tree-discrete : Discrete Tree
 tree-discrete = Tree-discrete (List-discrete ℕ_discrete) ℕ_discrete variant-discrete ℤ_discrete accent-discrete thickness-discrete Bool-discrete align-discrete (optional display-discrete)

@@ -2,8 +2,9 @@
 use Rattle.std.specs.Prelude.{ℕ, ◌+◌}
 use Rattle.latex2mathml_nodes.specs.declared.ast.dismantle.Parts.{Parts}
 use Rattle.latex2mathml_nodes.specs.declared.ast.dismantle.Parts.TheVariants.{None, One, Two, Three, All}
-use Rattle.latex2mathml_nodes.specs.Tree.{tree, trees}
-use Rattle.latex2mathml_nodes.specs.Weight.{weight, weights, hung, hung_in}
+use Rattle.latex2mathml_nodes.specs.Nodes.{tree, trees}
+use Rattle.latex2mathml_nodes.specs.Chains.{hung, hung_in}
+use Rattle.latex2mathml_trees.specs.Weight.{weight, weights}
 
 -- where they are whole
 abbrev pub weight_of_parts : Parts → ℕ

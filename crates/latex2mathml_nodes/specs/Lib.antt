@@ -1,12 +1,5 @@
-pub mod Arguments
+pub mod Chains
 pub mod Discreteness
 pub mod Held
-pub mod Markup
-pub mod MathSchema
-pub mod Pages
-pub mod Print
-pub mod Productions
-pub mod Style
-pub mod Tree
-pub mod Weight
-pub mod Width
+pub mod Layers
+pub mod Nodes

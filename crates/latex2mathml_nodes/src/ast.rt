@@ -1,9 +1,10 @@
 //! The trees of formulas.
 ghost use Rattle.std.specs.Prelude.{◌≡◌, IfOk, map};
-ghost use Rattle.latex2mathml_nodes.specs.Tree.{optional_tree, tree};
+ghost use Rattle.latex2mathml_nodes.specs.Nodes.{optional_tree, tree};
 
 mod dismantle;
 mod equality;
+mod layer;
 pub mod print;
 mod style;
 

@@ -1,13 +1,11 @@
-//! Laws of nodes: of styles, widths and markup.
+//! Laws of nodes: of styles and markup.
 ghost use Rattle.std.specs.Prelude.{◌≡◌};
-ghost use Rattle.latex2mathml_nodes.specs.Arguments.{HasNoArgument};
-ghost use Rattle.latex2mathml_nodes.specs.Markup.{IsBalanced};
-ghost use Rattle.latex2mathml_nodes.specs.MathSchema.{IsOneElement};
-ghost use Rattle.latex2mathml_nodes.specs.Pages.{JoinsMarkup};
-ghost use Rattle.latex2mathml_nodes.specs.Print.{print};
-ghost use Rattle.latex2mathml_nodes.specs.Style.{styled};
-ghost use Rattle.latex2mathml_nodes.specs.Tree.{tree};
-ghost use Rattle.latex2mathml_nodes.specs.Width.{WidthsAreNearest};
+ghost use Rattle.latex2mathml_trees.specs.Arguments.{HasNoArgument};
+ghost use Rattle.latex2mathml_trees.specs.Markup.{IsBalanced};
+ghost use Rattle.latex2mathml_trees.specs.MathSchema.{IsOneElement};
+ghost use Rattle.latex2mathml_trees.specs.Print.{print};
+ghost use Rattle.latex2mathml_trees.specs.Style.{styled};
+ghost use Rattle.latex2mathml_nodes.specs.Nodes.{tree};
 
 use crate::ast::Node;
 use latex2mathml_tokens::attribute::Variant;
@@ -20,11 +18,6 @@ pub fn restyled(node: &Node, first: Variant, later: Variant)
     let _ = first;
     let _ = later;
 }
-
-/// The width of a space is the thousandth of an em that is nearest to it.
-pub fn widths_are_nearest()
-    ensures { WidthsAreNearest }
-{}
 
 /// The print of a node is balanced markup, whatever texts and characters the node holds.
 pub fn balanced(node: &Node)
@@ -39,9 +32,3 @@ pub fn one_element(node: &Node)
 {
     let _ = node;
 }
-
-/// Balanced markup stays balanced, one behind the other and within an element, and so do pages: markup in which each
-/// element that the child table names obeys it. A `math` element may stand in either.
-pub fn joined_markup()
-    ensures { JoinsMarkup }
-{}

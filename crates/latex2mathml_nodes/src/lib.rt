@@ -1,4 +1,4 @@
-//! The trees of formulas and their markup.
+//! Nodes: trees of formulas that are made by hand.
 //!
 //! The crate `latex2mathml` re-exports what its callers need from this one.
 #![tactic(auto)]

@@ -2,8 +2,8 @@
 use Rattle.std.proofs.Common.{◌≡◌, ◌≢◌, ℕ, ◌-◌, ◌<◌, ◌≤◌, List, [], ◌∷◌, Option, None, length, length-drop, take, drop, reverse, suc, zero, refl, sym, ap, ◌∙◌, arith, ◌⊎◌, inl, inr}
 use Rattle.std.proofs.lemmas.List.{length-reverse, length-take-le}
 use Rattle.std.proofs.Math.Nat.{eq-or-lt_of_le}
-use Rattle.latex2mathml_nodes.specs.Productions.{group_tree, matrix_of, matrix_members}
-use Rattle.latex2mathml_nodes.specs.Tree.{Tree, matrix, row, no_trees, more_trees, trees_of}
+use Rattle.latex2mathml_trees.specs.Productions.{group_tree, matrix_of, matrix_members}
+use Rattle.latex2mathml_trees.specs.Tree.{Tree, matrix, row, no_trees, more_trees, trees_of}
 use Rattle.latex2mathml_tokens.specs.declared.attribute.ColumnAlign.{ColumnAlign}
 use Rattle.latex2mathml_tokens.specs.declared.attribute.Variant.{Variant}
 use Rattle.latex2mathml_parts.specs.Forms.{Stands, all_in, forest, put_form}

@@ -5,7 +5,7 @@ use Rattle.std.proofs.lemmas.Grind.{take-set_at}
 use Rattle.std.proofs.Math.Seq.{take-suc, take-length, get_or-append_seam}
 use Rattle.std.proofs.Math.Nat.{eq-or-lt_of_le}
 use Rattle.std.proofs.Math.ListN.{get_or-append}
-use Rattle.latex2mathml_nodes.specs.Tree.{Tree, function, undefined, words}
+use Rattle.latex2mathml_trees.specs.Tree.{Tree, function, undefined, words}
 use Rattle.latex2mathml_parts.specs.Forms.{AreWhole, HasText, Stands, arity_of, forest, forest_on, put_form}
 use Rattle.latex2mathml_parts.specs.declared.form.Form.{Form}
 use Rattle.latex2mathml_parts.specs.declared.form.Form.TheVariants as form

@@ -3,9 +3,9 @@ use Rattle.std.proofs.Common.{◌≡◌, ℕ, List, [], ◌∷◌, ◌++◌, ap,
 use Rattle.std.specs.Char.{encode_utf8}
 use Rattle.std.specs.Fmt.{digits}
 use Rattle.std.specs.Prelude.{OnOk, Ok, Err, Result}
-use Rattle.latex2mathml_nodes.specs.Print.{print}
-use Rattle.latex2mathml_nodes.specs.Productions.{binomial_tree, coefficient, labelled_overbrace_tree, prime_mark, labelled_underbrace_tree}
-use Rattle.latex2mathml_nodes.specs.Tree.{Tree, operator, superscript}
+use Rattle.latex2mathml_trees.specs.Print.{print}
+use Rattle.latex2mathml_trees.specs.Productions.{binomial_tree, coefficient, labelled_overbrace_tree, prime_mark, labelled_underbrace_tree}
+use Rattle.latex2mathml_trees.specs.Tree.{Tree, operator, superscript}
 use Rattle.latex2mathml_parts.specs.Forms.{in_style}
 use Rattle.latex2mathml_tokens.specs.declared.attribute.Variant.{Variant}
 use Rattle.latex2mathml_parts.specs.Works.{binomial_close, binomial_open}

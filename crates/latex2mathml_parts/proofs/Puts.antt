@@ -1,6 +1,6 @@
 -- What parts leave of the trees before them.
 use Rattle.std.proofs.Common.{◌≡◌, ℕ, ◌+◌, ◌≤◌, List, length, length-drop, drop, refl, ap, arith}
-use Rattle.latex2mathml_nodes.specs.Tree.{Tree}
+use Rattle.latex2mathml_trees.specs.Tree.{Tree}
 use Rattle.latex2mathml_parts.specs.Parts.{arity, put}
 use Rattle.latex2mathml_parts.specs.Forms.{arity_of, put_form}
 use Rattle.latex2mathml_parts.specs.declared.kind.Kind.{Kind}

@@ -1,8 +1,8 @@
 -- Trees in a style.
 use Rattle.std.proofs.Common.{◌≡◌, ℕ, ◌+◌, Option, None, Some, refl, sym, ap, ◌∙◌}
-use Rattle.latex2mathml_nodes.specs.Style.{all_styled, styled}
-use Rattle.latex2mathml_nodes.specs.Tree.{Tree, Trees, no_trees, more_trees, letter, row, ampersand, applied, fenced, frac, function, matrix, new_line, number, operator, other_operator, over_op, overset, root, sized_paren, slashed, space, sqrt, stretched, style, sub_sup, subscript, superscript, undefined, under, under_op, under_over, underset, words}
-use Rattle.latex2mathml_nodes.specs.Weight.{weight, weights}
+use Rattle.latex2mathml_trees.specs.Style.{all_styled, styled}
+use Rattle.latex2mathml_trees.specs.Tree.{Tree, Trees, no_trees, more_trees, letter, row, ampersand, applied, fenced, frac, function, matrix, new_line, number, operator, other_operator, over_op, overset, root, sized_paren, slashed, space, sqrt, stretched, style, sub_sup, subscript, superscript, undefined, under, under_op, under_over, underset, words}
+use Rattle.latex2mathml_trees.specs.Weight.{weight, weights}
 use Rattle.latex2mathml_tokens.specs.declared.attribute.Variant.{Variant}
 use Rattle.latex2mathml_parts.specs.Forms.{all_in, given, in_style, outer}
 

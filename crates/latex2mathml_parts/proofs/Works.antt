@@ -4,9 +4,9 @@ use Rattle.std.proofs.lemmas.List.{reverse-append}
 use Rattle.std.proofs.lemmas.Grind.{flat_map-append}
 use Rattle.std.proofs.lemmas.List.Sums.{sum_by-append}
 use Rattle.std.specs.List.{flat_map}
-use Rattle.latex2mathml_nodes.specs.Print.{member_print, members_print, print, prints}
-use Rattle.latex2mathml_nodes.specs.Tree.{Tree, Trees, trees_of}
-use Rattle.latex2mathml_nodes.specs.Weight.{weights}
+use Rattle.latex2mathml_trees.specs.Print.{member_print, members_print, print, prints}
+use Rattle.latex2mathml_trees.specs.Tree.{Tree, Trees, trees_of}
+use Rattle.latex2mathml_trees.specs.Weight.{weights}
 use Rattle.latex2mathml_tokens.specs.declared.attribute.Variant.{Variant}
 use Rattle.latex2mathml_parts.specs.Forms.{all_in, in_style}
 use Rattle.latex2mathml_parts.specs.Parts.{top}

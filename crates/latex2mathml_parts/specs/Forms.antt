@@ -2,7 +2,7 @@
 use Rattle.std.specs.Prelude.{◌≡◌, ℕ, ◌+◌, ◌-◌, ◌<◌, ◌≤◌, List, [], ◌∷◌, Option, Some, None, true, drop, length, reverse, map, slice_index_or, string_bytes, suc, take, String}
 use Rattle.std.specs.Char.{encode_utf8}
 use Rattle.std.specs.declared.alloc.Global.{Global}
-use Rattle.latex2mathml_nodes.specs.Tree.{Tree, Trees, function, letter, matrix, row, slashed, stretched, undefined, words, no_trees, more_trees, trees_of}
+use Rattle.latex2mathml_trees.specs.Tree.{Tree, Trees, function, letter, matrix, row, slashed, stretched, undefined, words, no_trees, more_trees, trees_of}
 use Rattle.latex2mathml_tokens.specs.Names.{paren_text}
 use Rattle.latex2mathml_tokens.specs.declared.attribute.Variant.{Variant}
 use Rattle.latex2mathml_parts.specs.Parts.{arity, put, top}

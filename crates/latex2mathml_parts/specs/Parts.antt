@@ -1,7 +1,7 @@
 -- What a part makes of the trees before it. The last tree stands first in a list of trees.
 use Rattle.std.specs.Prelude.{ℕ, List, [], ◌∷◌, Option, Some, None, drop}
-use Rattle.latex2mathml_nodes.specs.Productions.{binomial_tree, overbrace_tree, labelled_overbrace_tree, prime_mark, underbrace_tree, labelled_underbrace_tree}
-use Rattle.latex2mathml_nodes.specs.Tree.{Tree, ampersand, fenced, frac, function, letter, new_line, number, operator, other_operator, over_op, overset, root, sized_paren, space, sqrt, sub_sup, subscript, superscript, under, under_op, under_over, underset, words}
+use Rattle.latex2mathml_trees.specs.Productions.{binomial_tree, overbrace_tree, labelled_overbrace_tree, prime_mark, underbrace_tree, labelled_underbrace_tree}
+use Rattle.latex2mathml_trees.specs.Tree.{Tree, ampersand, fenced, frac, function, letter, new_line, number, operator, other_operator, over_op, overset, root, sized_paren, space, sqrt, sub_sup, subscript, superscript, under, under_op, under_over, underset, words}
 use Rattle.latex2mathml_tokens.specs.Names.{function_text, limit_text, paren_text, size_text}
 use Rattle.latex2mathml_tokens.specs.declared.attribute.LineThickness.TheVariants.{Medium}
 use Rattle.latex2mathml_tokens.specs.declared.names.Paren.{Paren}

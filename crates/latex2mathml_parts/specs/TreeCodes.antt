@@ -5,7 +5,7 @@ use mathlib.Core.Path.{ap, sym, ◌∙◌}
 use Rattle.std.specs.Coded.{Coded, coded_list}
 use base.Stored.{Gv, gnil, gnum, gcons}
 use lib.IntN.{pos, negsuc}
-use Rattle.latex2mathml_nodes.specs.Tree.{Tree, Trees, no_trees, more_trees, ampersand, applied, fenced, frac, function, letter, matrix, new_line, number, operator, other_operator, over_op, overset, root, row, sized_paren, slashed, space, sqrt, stretched, style, sub_sup, subscript, superscript, undefined, under, under_op, under_over, underset, words}
+use Rattle.latex2mathml_trees.specs.Tree.{Tree, Trees, no_trees, more_trees, ampersand, applied, fenced, frac, function, letter, matrix, new_line, number, operator, other_operator, over_op, overset, root, row, sized_paren, slashed, space, sqrt, stretched, style, sub_sup, subscript, superscript, undefined, under, under_op, under_over, underset, words}
 use Rattle.latex2mathml_tokens.specs.declared.DisplayStyle.{DisplayStyle}
 use Rattle.latex2mathml_tokens.specs.declared.DisplayStyle.TheVariants.{Block, Inline}
 use Rattle.latex2mathml_tokens.specs.declared.attribute.Accent.{Accent}

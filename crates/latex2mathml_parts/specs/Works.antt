@@ -1,9 +1,9 @@
 -- What is still to be written of a list of parts, as markup. The work that was put last is done first.
 use Rattle.std.specs.Prelude.{◌≡◌, ℕ, ◌+◌, ◌*◌, ◌<◌, ◌≤◌, List, [], ◌∷◌, ◌++◌, Option, Some, None, codes, drop, length, reverse, sum_by, take}
 use Rattle.std.specs.List.{flat_map}
-use Rattle.latex2mathml_nodes.specs.Print.{member_print, print}
-use Rattle.latex2mathml_nodes.specs.Tree.{Tree, operator}
-use Rattle.latex2mathml_nodes.specs.Weight.{weight}
+use Rattle.latex2mathml_trees.specs.Print.{member_print, print}
+use Rattle.latex2mathml_trees.specs.Tree.{Tree, operator}
+use Rattle.latex2mathml_trees.specs.Weight.{weight}
 use Rattle.latex2mathml_tokens.specs.Attributes.{accent_text}
 use Rattle.latex2mathml_tokens.specs.Escape.{content_char}
 use Rattle.latex2mathml_tokens.specs.declared.DisplayStyle.{DisplayStyle}

@@ -1,8 +1,8 @@
 //! What is done to the last trees of the list.
 ghost use Rattle.std.specs.Prelude.{◌≡◌, ◌-◌, ◌<◌, ◌≤◌, ◌∷◌, Some, None, suc, IfOk, MatchBool, OnOk, drop, length, reverse, take};
-ghost use Rattle.latex2mathml_nodes.specs.Productions.{environment_tree, group_tree, matrix_of, stretched_operator};
-ghost use Rattle.latex2mathml_nodes.specs.Style.{styled};
-ghost use Rattle.latex2mathml_nodes.specs.Tree.{Tree};
+ghost use Rattle.latex2mathml_trees.specs.Productions.{environment_tree, group_tree, matrix_of, stretched_operator};
+ghost use Rattle.latex2mathml_trees.specs.Style.{styled};
+ghost use Rattle.latex2mathml_trees.specs.Tree.{Tree};
 ghost use Rattle.latex2mathml_parts.specs.Forms.{AreWhole, aside, forest, put_form};
 ghost use Rattle.latex2mathml_parts.specs.Parts.{top, words_of};
 ghost use Rattle.latex2mathml_parts.specs.declared.form.Form.{Form};

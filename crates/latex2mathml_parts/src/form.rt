@@ -1,8 +1,8 @@
 //! What the list of parts holds.
 ghost use Rattle.std.specs.Prelude.{◌≡◌, ◌∷◌, ℕ, List, Some, None, MatchOption, drop};
-ghost use Rattle.latex2mathml_nodes.specs.Productions.{matrix_members, stretched_operator};
-ghost use Rattle.latex2mathml_nodes.specs.Style.{styled};
-ghost use Rattle.latex2mathml_nodes.specs.Tree.{Tree, more_trees, no_trees};
+ghost use Rattle.latex2mathml_trees.specs.Productions.{matrix_members, stretched_operator};
+ghost use Rattle.latex2mathml_trees.specs.Style.{styled};
+ghost use Rattle.latex2mathml_trees.specs.Tree.{Tree, more_trees, no_trees};
 ghost use Rattle.latex2mathml_parts.specs.Forms.{HasText, arity_of, put_form};
 ghost use Rattle.latex2mathml_parts.specs.Parts.{top};
 ghost use Rattle.latex2mathml_parts.specs.declared.form.Form.{Form};

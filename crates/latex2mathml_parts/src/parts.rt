@@ -1,8 +1,8 @@
 //! The list of the parts, and what is done to its last trees.
 ghost use Rattle.std.specs.Prelude.{◌≡◌, ◌<◌, ◌≤◌, ◌∷◌, [], Some, None, suc, IfOk, MatchBool, OnOk, drop, length, reverse, string_bytes, take};
-ghost use Rattle.latex2mathml_nodes.specs.Productions.{environment_tree, group_tree, stretched_operator};
-ghost use Rattle.latex2mathml_nodes.specs.Style.{styled};
-ghost use Rattle.latex2mathml_nodes.specs.Tree.{Tree, function, slashed, undefined, words};
+ghost use Rattle.latex2mathml_trees.specs.Productions.{environment_tree, group_tree, stretched_operator};
+ghost use Rattle.latex2mathml_trees.specs.Style.{styled};
+ghost use Rattle.latex2mathml_trees.specs.Tree.{Tree, function, slashed, undefined, words};
 ghost use Rattle.latex2mathml_tokens.specs.Lexemes.{lexeme_tok};
 ghost use Rattle.latex2mathml_tokens.specs.TokenText.{token_text};
 ghost use Rattle.latex2mathml_parts.specs.Parts.{arity, put, top, words_of};
@@ -32,7 +32,7 @@ pub struct Parts<'a> {
 
 impl<'a> Model for Parts<'a> {
     ghost use Rattle.std.specs.Prelude.{List, map, string_bytes};
-    ghost use Rattle.latex2mathml_nodes.specs.Tree.{Tree};
+    ghost use Rattle.latex2mathml_trees.specs.Tree.{Tree};
 
     ghost Value = { List Tree };
 

@@ -1,7 +1,7 @@
 //! From parts to markup.
 ghost use Rattle.std.specs.Prelude.{◌≡◌, ◌+◌, ◌<◌, ◌≤◌, ◌++◌, [], IfOk, OnOk, length, string_bytes, take, None};
-ghost use Rattle.latex2mathml_nodes.specs.Print.{print};
-ghost use Rattle.latex2mathml_nodes.specs.Tree.{slashed};
+ghost use Rattle.latex2mathml_trees.specs.Print.{print};
+ghost use Rattle.latex2mathml_trees.specs.Tree.{slashed};
 ghost use Rattle.latex2mathml_parts.specs.Forms.{AreWhole, HasText, arity_of, aside, forest, in_style, put_form};
 ghost use Rattle.latex2mathml_parts.specs.Parts.{arity, put, top};
 ghost use Rattle.latex2mathml_parts.specs.Works.{AreIn, IsIn, IsNext, next_weight, print_weight, tree_at, work_print, work_weight, Writes, load};
@@ -31,27 +31,26 @@ use crate::write::shapes::{
 };
 use crate::write::tables::{binomial_close, binomial_open};
 use crate::write::works::push;
-use latex2mathml_nodes::ast::print::append::append_undefined;
 use latex2mathml_tokens::attribute::Variant;
+use latex2mathml_trees::append::append_undefined;
 pub use leaves::write_leaf;
-use std::alloc::{AllocError, Global};
+use std::alloc::AllocError;
 
 impl Parts<'_> {
     /// Writes the markup of the last tree behind the text. It does not recurse: what is still to be written stands in a
     /// list. The only `Err` is out of memory, for the list or for the text.
-    pub fn write(&mut self, alloc: Global, out: &mut String) -> Result<(), AllocError>
+    pub fn write(&mut self, out: &mut String) -> Result<(), AllocError>
         requires { 0 < length self.old }
         ensures trees { self.new ≡ self.old }
         ensures print { OnOk result (string_bytes out.new ≡ string_bytes out.old ++ print (top self.old)) }
     {
         self.works.clear();
-        write_last(alloc, &self.texts, &self.list, &mut self.works, out)
+        write_last(&self.texts, &self.list, &mut self.works, out)
     }
 }
 
 /// Writes the last tree of the list.
 fn write_last(
-    alloc: Global,
     texts: &[String],
     list: &[Part],
     works: &mut Vec<Work>,
@@ -64,7 +63,7 @@ fn write_last(
 {
     push(Work::Tree(list.len(), None), texts, list, works)?;
     'works: while let Some(work) = works.pop() {
-        write_work(alloc, work, texts, list, works, out)?;
+        write_work(work, texts, list, works, out)?;
     }
     Ok(())
 }
@@ -72,7 +71,6 @@ fn write_last(
 /// Does a work.
 #[inline(always)]
 fn write_work(
-    alloc: Global,
     work: Work,
     texts: &[String],
     list: &[Part],
@@ -88,7 +86,7 @@ fn write_work(
     ensures weight { OnOk result (load (aside texts.now) list.now works.new.items < load (aside texts.now) list.now works.old.items + work_weight (aside texts.now) list.now work) }
 {
     match work {
-        Work::Tree(end, style) => write_down(alloc, end, style, texts, list, works, out),
+        Work::Tree(end, style) => write_down(end, style, texts, list, works, out),
         Work::Markup(markup) => out.push_str(markup),
         Work::Operator(c) => write_operator(c, out),
         Work::SignOver(c, accent) => write_sign(c, accent, "</mo></mover>", out),
@@ -98,7 +96,6 @@ fn write_work(
 
 /// Writes the last tree of so many parts down to its first leaf, and puts what follows on the list.
 fn write_down(
-    alloc: Global,
     end: usize,
     style: Option<Variant>,
     texts: &[String],
@@ -115,9 +112,9 @@ fn write_down(
         (print (in_style style (tree_at (aside texts.now) list.now end))) (string_bytes out.new) works.new.items None) }
     ensures weight { OnOk result (load (aside texts.now) list.now works.new.items < load (aside texts.now) list.now works.old.items + print_weight (tree_at (aside texts.now) list.now end)) }
 {
-    let mut next = write_at(alloc, end, style, texts, list, works, out)?;
+    let mut next = write_at(end, style, texts, list, works, out)?;
     'down: while let Some(place) = next {
-        next = write_at(alloc, place, None, texts, list, works, out)?;
+        next = write_at(place, None, texts, list, works, out)?;
     }
     Ok(())
 }
@@ -125,7 +122,6 @@ fn write_down(
 /// Writes what stands first of a tree, and puts what follows on the list. Returns the tree that is next, if one is.
 #[inline(always)]
 fn write_at(
-    alloc: Global,
     end: usize,
     style: Option<Variant>,
     texts: &[String],
@@ -145,13 +141,12 @@ fn write_at(
         < load (aside texts.now) list.now works.old.items + print_weight (tree_at (aside texts.now) list.now end)) }
 {
     let part = part_at(end, texts, list);
-    write_form(alloc, part.form, style, end - 1, texts, list, works, out)
+    write_form(part.form, style, end - 1, texts, list, works, out)
 }
 
 /// Writes what stands first of the tree of a part, behind so many parts, and puts what follows on the list.
 #[inline(always)]
 fn write_form(
-    alloc: Global,
     form: Form,
     style: Option<Variant>,
     end: usize,
@@ -173,7 +168,7 @@ fn write_form(
         < load (aside texts.now) list.now works.old.items + print_weight (top (put_form (aside texts.now) form.entry (forest (aside texts.now) (take end list.now))))) }
 {
     match form {
-        Form::Of(kind) => write_kind(alloc, kind, style, end, texts, list, works, out),
+        Form::Of(kind) => write_kind(kind, style, end, texts, list, works, out),
         Form::Row(count, own) => {
             write_row(count, outer(style, own), end, texts, list, works, out)?;
             Ok(None)
@@ -234,7 +229,6 @@ fn write_under_slash(
 /// Writes what stands first of the tree of a part of this kind, behind so many parts, and puts what follows on the list.
 #[inline(always)]
 fn write_kind(
-    alloc: Global,
     kind: Kind,
     style: Option<Variant>,
     end: usize,
@@ -260,11 +254,11 @@ fn write_kind(
             Ok(None)
         }
         Kind::Number(_) | Kind::Operator(_) | Kind::Paren(_) | Kind::Ampersand | Kind::NewLine => {
-            write_leaf(alloc, kind, out)?;
+            write_leaf(kind, out)?;
             Ok(None)
         }
         Kind::Space(_) | Kind::Function(_) | Kind::Limit(_) | Kind::SizedParen(_, _) => {
-            write_leaf(alloc, kind, out)?;
+            write_leaf(kind, out)?;
             Ok(None)
         }
         Kind::Sub => Ok(Some(write_two("<msub>", "</msub>", end, texts, list, works, out)?)),

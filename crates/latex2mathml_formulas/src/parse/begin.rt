@@ -6,8 +6,8 @@ ghost use Rattle.latex2mathml_formulas.specs.Grammar.{Read, a_root, core as a_co
 ghost use Rattle.latex2mathml_formulas.specs.Levels.{Made};
 ghost use Rattle.latex2mathml_formulas.specs.Openers.{opens};
 ghost use Rattle.latex2mathml_formulas.specs.Steps.{Counted, Follows, GoesOnBy, HasTrees, Holds, IsStretched, level, to_do};
-ghost use Rattle.latex2mathml_nodes.specs.Productions.{fence_of};
-ghost use Rattle.latex2mathml_nodes.specs.Tree.{undefined};
+ghost use Rattle.latex2mathml_trees.specs.Productions.{fence_of};
+ghost use Rattle.latex2mathml_trees.specs.Tree.{undefined};
 ghost use Rattle.latex2mathml_parts.specs.Parts.{arity, fence_text, put, top, trees_in};
 ghost use Rattle.latex2mathml_tokens.specs.Lexemes.{lexeme_tok};
 ghost use Rattle.latex2mathml_tokens.specs.Names.{limit_text, size_text};

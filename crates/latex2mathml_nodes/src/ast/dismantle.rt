@@ -1,7 +1,8 @@
 //! Dropping nodes of any depth.
 ghost use Rattle.std.specs.Prelude.{◌≡◌, ◌+◌, ◌<◌, IfSome, IsTrue};
-ghost use Rattle.latex2mathml_nodes.specs.Tree.{tree, trees};
-ghost use Rattle.latex2mathml_nodes.specs.Weight.{hung, hung_in, weight, weights};
+ghost use Rattle.latex2mathml_nodes.specs.Nodes.{tree, trees};
+ghost use Rattle.latex2mathml_nodes.specs.Chains.{hung, hung_in};
+ghost use Rattle.latex2mathml_trees.specs.Weight.{weight, weights};
 ghost use Rattle.latex2mathml_nodes.specs.Held.{weight_of_parts, chain_weight_of_parts};
 
 use crate::ast::Node;

@@ -1,20 +1,17 @@
 //! Nodes to markup. Each part is written directly to the output, without a text in between.
-ghost use Rattle.std.specs.Prelude.{◌≡◌, Some, OnOk, ◌++◌, codes, string_bytes, unsigned_abs};
-ghost use Rattle.std.specs.Char.{encode_utf8};
+ghost use Rattle.std.specs.Prelude.{Some, ◌++◌, codes};
 ghost use Rattle.std.specs.Fmt.{WritesOnOk};
-ghost use Rattle.std.specs.List.{flat_map};
+ghost use Rattle.latex2mathml_nodes.specs.Nodes.{tree, trees};
 ghost use Rattle.latex2mathml_tokens.specs.Attributes.{accent_text, variant_text};
-ghost use Rattle.latex2mathml_tokens.specs.Escape.{content, content_char, is_escaped, quoted, quoted_byte, value};
-ghost use Rattle.latex2mathml_nodes.specs.Print.{error_print, member_print, members_print, print, prints};
-ghost use Rattle.latex2mathml_nodes.specs.Tree.{applied, fenced, frac, matrix, row, sized_paren, slashed, tree, trees};
-ghost use Rattle.latex2mathml_nodes.specs.Width.{thousandths, thousandths_text, width_text};
-
-pub mod append;
+ghost use Rattle.latex2mathml_tokens.specs.Escape.{content, content_char};
+ghost use Rattle.latex2mathml_trees.specs.Print.{member_print, members_print, print, prints};
+ghost use Rattle.latex2mathml_trees.specs.Tree.{applied, fenced, frac, matrix, row, sized_paren, slashed};
 
 use crate::ast::Node;
 use latex2mathml_tokens::DisplayStyle;
 use latex2mathml_tokens::attribute::{Accent, ColumnAlign, LineThickness, Variant};
-use std::alloc::AllocError;
+use latex2mathml_trees::text::{write_content, write_content_char, write_undefined, write_value};
+use latex2mathml_trees::width::write_space;
 use std::fmt;
 use std::fmt::Display;
 
@@ -283,46 +280,6 @@ fn write_member<W: fmt::Write>(node: &Node, f: &mut fmt::Formatter<W>) -> fmt::R
     }
 }
 
-/// Writes a space whose width is in eighteenths of an em.
-fn write_space<W: fmt::Write>(width: i32, f: &mut fmt::Formatter<W>) -> fmt::Result
-    ensures { WritesOnOk W.write_str_gives f.old result
-        (codes "<mspace width=\"" ++ (width_text width ++ codes "em\"/>")) f.new }
-{
-    f.write_str("<mspace width=\"")?;
-    if width < 0 {
-        f.write_str("-")?;
-    }
-    write_thousandths(thousandths_of(width), f)?;
-    f.write_str("em\"/>")
-}
-
-/// The thousandths that are nearest to a number of eighteenths, without its sign.
-fn thousandths_of(width: i32) -> u64
-    ensures { result ≡ thousandths (unsigned_abs width) }
-{
-    (u64::from(width.unsigned_abs()) * 1000 + 9) / 18
-}
-
-/// Writes a number of thousandths as a decimal fraction, without zeros at its end.
-fn write_thousandths<W: fmt::Write>(number: u64, f: &mut fmt::Formatter<W>) -> fmt::Result
-    ensures { WritesOnOk W.write_str_gives f.old result (thousandths_text number) f.new }
-{
-    let whole = number / 1000;
-    write!(f, "{whole}")?;
-    let a = number % 1000 / 100 % 10;
-    let b = number % 1000 / 10 % 10;
-    let c = number % 1000 % 10;
-    if c != 0 {
-        write!(f, ".{a}{b}{c}")
-    } else if b != 0 {
-        write!(f, ".{a}{b}")
-    } else if a != 0 {
-        write!(f, ".{a}")
-    } else {
-        Ok(())
-    }
-}
-
 /// Writes a text as contents, between two tags.
 fn write_text<W: fmt::Write>(
     before: &str,
@@ -395,105 +352,4 @@ fn write_sized<W: fmt::Write>(size: &str, paren: &str, f: &mut fmt::Formatter<W>
     f.write_str("\" minsize=\"")?;
     write_value(size, f)?;
     write_text("\">", paren, "</mo></mrow>", f)
-}
-
-pub(crate) fn write_undefined<W: fmt::Write>(text: &str, f: &mut fmt::Formatter<W>) -> fmt::Result
-    ensures { WritesOnOk W.write_str_gives f.old result
-        (error_print (codes "Undefined(" ++ (quoted text.now ++ codes ")"))) f.new }
-{
-    f.write_str("<mtext>[PARSE ERROR: Undefined(\"")?;
-    write_quoted(text, f)?;
-    f.write_str("\")]</mtext>")
-}
-
-/// Writes what stands between the quotation marks of a text in quotes, as contents.
-fn write_quoted<W: fmt::Write>(text: &str, f: &mut fmt::Formatter<W>) -> fmt::Result
-    ensures { WritesOnOk W.write_str_gives f.old result
-        (content (flat_map quoted_byte text.now)) f.new }
-{
-    for c in text.chars() {
-        write_quoted_char(c, f)?;
-    }
-    Ok(())
-}
-
-fn write_quoted_char<W: fmt::Write>(c: char, f: &mut fmt::Formatter<W>) -> fmt::Result
-    ensures { WritesOnOk W.write_str_gives f.old result
-        (content (flat_map quoted_byte (encode_utf8 c))) f.new }
-{
-    match c {
-        '"' => f.write_str("\\\""),
-        '\\' => f.write_str("\\\\"),
-        _ => write_content_char(c, f),
-    }
-}
-
-/// Writes a text as contents. A text in which nothing is escaped is written whole.
-fn write_content<W: fmt::Write>(text: &str, f: &mut fmt::Formatter<W>) -> fmt::Result
-    ensures { WritesOnOk W.write_str_gives f.old result (content text.now) f.new }
-{
-    match text.find(|c: char| needs_escape(c)) {
-        Some(_) => write_escaped(text, f),
-        None => f.write_str(text),
-    }
-}
-
-pub(crate) fn needs_escape(c: char) -> bool
-    ensures { result ≡ is_escaped c }
-{
-    c == '&' || c == '<' || c == '>' || c == '$'
-}
-
-/// Writes a text as contents, character by character.
-pub(crate) fn write_escaped<W: fmt::Write>(text: &str, f: &mut fmt::Formatter<W>) -> fmt::Result
-    ensures { WritesOnOk W.write_str_gives f.old result (content text.now) f.new }
-{
-    for c in text.chars() {
-        write_content_char(c, f)?;
-    }
-    Ok(())
-}
-
-fn write_content_char<W: fmt::Write>(c: char, f: &mut fmt::Formatter<W>) -> fmt::Result
-    ensures { WritesOnOk W.write_str_gives f.old result (content_char c) f.new }
-{
-    match c {
-        '&' => f.write_str("&amp;"),
-        '<' => f.write_str("&lt;"),
-        '>' => f.write_str("&gt;"),
-        '$' => f.write_str("&#x24;"),
-        _ => f.write_char(c),
-    }
-}
-
-fn write_value<W: fmt::Write>(text: &str, f: &mut fmt::Formatter<W>) -> fmt::Result
-    ensures { WritesOnOk W.write_str_gives f.old result (value text.now) f.new }
-{
-    for c in text.chars() {
-        write_value_char(c, f)?;
-    }
-    Ok(())
-}
-
-fn write_value_char<W: fmt::Write>(c: char, f: &mut fmt::Formatter<W>) -> fmt::Result
-    ensures { WritesOnOk W.write_str_gives f.old result (value (encode_utf8 c)) f.new }
-{
-    match c {
-        '"' => f.write_str("&quot;"),
-        '$' => f.write_str("$"),
-        _ => write_content_char(c, f),
-    }
-}
-
-/// Appends a character as contents to the text.
-pub fn append_content_char(c: char, text: &mut String) -> Result<(), AllocError>
-    ensures { OnOk result (string_bytes text.new ≡ string_bytes text.old ++ content_char c) }
-{
-    match c {
-        '&' => text.push_str("&amp;"),
-        '<' => text.push_str("&lt;"),
-        '>' => text.push_str("&gt;"),
-        '$' => text.push_str("&#x24;"),
-        _ => text.push(c),
-    }
 }

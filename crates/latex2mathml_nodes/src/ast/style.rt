@@ -1,7 +1,7 @@
 //! The style of letters.
 ghost use Rattle.std.specs.Prelude.{◌≡◌};
-ghost use Rattle.latex2mathml_nodes.specs.Style.{all_styled, styled};
-ghost use Rattle.latex2mathml_nodes.specs.Tree.{tree, trees};
+ghost use Rattle.latex2mathml_trees.specs.Style.{all_styled, styled};
+ghost use Rattle.latex2mathml_nodes.specs.Nodes.{tree, trees};
 
 use crate::ast::Node;
 use latex2mathml_tokens::attribute::Variant;

@@ -1,7 +1,7 @@
 //! Markup of parentheses and fences, as it is written.
 ghost use Rattle.std.specs.Prelude.{◌≡◌, ◌++◌, true, codes};
-ghost use Rattle.latex2mathml_nodes.specs.Print.{print};
-ghost use Rattle.latex2mathml_nodes.specs.Tree.{other_operator, stretched};
+ghost use Rattle.latex2mathml_trees.specs.Print.{print};
+ghost use Rattle.latex2mathml_trees.specs.Tree.{other_operator, stretched};
 ghost use Rattle.latex2mathml_parts.specs.Parts.{fence_text};
 ghost use Rattle.latex2mathml_tokens.specs.Escape.{content};
 ghost use Rattle.latex2mathml_tokens.specs.Names.{paren_text};

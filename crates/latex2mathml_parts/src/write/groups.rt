@@ -1,7 +1,7 @@
 //! Groups of trees: rows and matrices.
 ghost use Rattle.std.specs.Prelude.{◌≡◌, ◌+◌, ◌<◌, ◌≤◌, ◌++◌, OnOk, codes, length, reverse, string_bytes, take, None};
-ghost use Rattle.latex2mathml_nodes.specs.Print.{print};
-ghost use Rattle.latex2mathml_nodes.specs.Tree.{matrix, row, trees_of};
+ghost use Rattle.latex2mathml_trees.specs.Print.{print};
+ghost use Rattle.latex2mathml_trees.specs.Tree.{matrix, row, trees_of};
 ghost use Rattle.latex2mathml_parts.specs.Forms.{AreWhole, all_in, aside, forest, outer};
 ghost use Rattle.latex2mathml_parts.specs.Works.{AreIn, print_weight, Writes, load};
 ghost use Rattle.latex2mathml_tokens.specs.Attributes.{align_text};

@@ -1,7 +1,7 @@
 //! Leaves, each as one element.
 ghost use Rattle.std.specs.Prelude.{◌≡◌, ◌++◌, ℕ, List, [], IfOk, MatchBool, OnOk, codes, string_bytes};
-ghost use Rattle.latex2mathml_nodes.specs.Print.{print};
-ghost use Rattle.latex2mathml_nodes.specs.Tree.{Tree, letter, number, operator, sized_paren, slashed, space};
+ghost use Rattle.latex2mathml_trees.specs.Print.{print};
+ghost use Rattle.latex2mathml_trees.specs.Tree.{Tree, letter, number, operator, sized_paren, slashed, space};
 ghost use Rattle.latex2mathml_parts.specs.Forms.{given, put_form};
 ghost use Rattle.latex2mathml_parts.specs.Parts.{arity, put, top};
 ghost use Rattle.latex2mathml_parts.specs.Works.{sign_print};
@@ -15,16 +15,14 @@ use crate::write::names::{function_markup, limit_markup};
 use crate::write::tables::{
     digit_markup, letter_markup, letter_open, operator_markup, size_open, space_markup,
 };
-use latex2mathml_nodes::ast::Node;
-use latex2mathml_nodes::ast::print::append::append_content;
-use latex2mathml_nodes::ast::print::append_content_char;
 use latex2mathml_tokens::attribute::{Accent, Variant};
 use latex2mathml_tokens::names::{Paren, Size};
-use std::alloc::{AllocError, Global};
+use latex2mathml_trees::append::{append_content, append_content_char, append_space};
+use std::alloc::AllocError;
 
 /// Writes a part that has no operands, and that stands in no list.
 #[inline(always)]
-pub fn write_leaf(alloc: Global, kind: Kind, out: &mut String) -> Result<(), AllocError>
+pub fn write_leaf(kind: Kind, out: &mut String) -> Result<(), AllocError>
     requires { arity kind ≡ 0 }
     ensures { OnOk result (string_bytes out.new ≡ string_bytes out.old ++ print (top (put kind.entry []))) }
 {
@@ -35,7 +33,7 @@ pub fn write_leaf(alloc: Global, kind: Kind, out: &mut String) -> Result<(), All
         Kind::Paren(paren) => out.push_str(paren_markup(paren)),
         Kind::Ampersand => out.push_str("<mtext>[PARSE ERROR: Ampersand]</mtext>"),
         Kind::NewLine => out.push_str("<mtext>[PARSE ERROR: NewLine]</mtext>"),
-        Kind::Space(width) => write_space(alloc, width, out),
+        Kind::Space(width) => write_space(width, out),
         Kind::Function(name) => out.push_str(function_markup(name)),
         Kind::Limit(name) => out.push_str(limit_markup(name)),
         Kind::SizedParen(size, paren) => write_sized(size, paren, out),
@@ -134,12 +132,12 @@ pub(crate) fn write_sign(
 }
 
 /// Writes a space, in eighteenths of an em.
-fn write_space(alloc: Global, width: i32, out: &mut String) -> Result<(), AllocError>
+fn write_space(width: i32, out: &mut String) -> Result<(), AllocError>
     ensures { OnOk result (string_bytes out.new ≡ string_bytes out.old ++ print (space width)) }
 {
     match space_markup(width) {
         Some(markup) => out.push_str(markup),
-        None => write!(out, "{}", Node::Space(width)),
+        None => append_space(width, out),
     }
 }
 

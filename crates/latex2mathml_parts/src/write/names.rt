@@ -1,7 +1,7 @@
 //! Markup of names, as it is written.
 ghost use Rattle.std.specs.Prelude.{◌≡◌, ◌++◌, codes};
-ghost use Rattle.latex2mathml_nodes.specs.Print.{print};
-ghost use Rattle.latex2mathml_nodes.specs.Tree.{function};
+ghost use Rattle.latex2mathml_trees.specs.Print.{print};
+ghost use Rattle.latex2mathml_trees.specs.Tree.{function};
 ghost use Rattle.latex2mathml_tokens.specs.Names.{function_text, limit_text};
 
 use latex2mathml_tokens::names::{FunctionName, LimitName};

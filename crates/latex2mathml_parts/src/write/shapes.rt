@@ -1,7 +1,7 @@
 //! What stands first of a tree of one operand or two, by where the operands stand in it. The rest is put on the list.
 ghost use Rattle.std.specs.Prelude.{◌≡◌, ◌+◌, ◌<◌, ◌≤◌, ◌++◌, IfOk, OnOk, length, string_bytes, take, Some};
-ghost use Rattle.latex2mathml_nodes.specs.Print.{print};
-ghost use Rattle.latex2mathml_nodes.specs.Tree.{operator};
+ghost use Rattle.latex2mathml_trees.specs.Print.{print};
+ghost use Rattle.latex2mathml_trees.specs.Tree.{operator};
 ghost use Rattle.latex2mathml_parts.specs.Forms.{AreWhole, aside, forest};
 ghost use Rattle.latex2mathml_parts.specs.Works.{AreIn, IsIn, due, print_weight, tree_at, work_print, work_weight, Writes, load, earlier};
 

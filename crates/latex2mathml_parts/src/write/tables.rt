@@ -1,7 +1,7 @@
 //! Markup of characters, as it is written.
 ghost use Rattle.std.specs.Prelude.{◌≡◌, ◌++◌, IfSome, codes};
-ghost use Rattle.latex2mathml_nodes.specs.Print.{print};
-ghost use Rattle.latex2mathml_nodes.specs.Tree.{letter, number, operator, space};
+ghost use Rattle.latex2mathml_trees.specs.Print.{print};
+ghost use Rattle.latex2mathml_trees.specs.Tree.{letter, number, operator, space};
 ghost use Rattle.latex2mathml_tokens.specs.Attributes.{variant_text};
 ghost use Rattle.latex2mathml_tokens.specs.Escape.{value};
 ghost use Rattle.latex2mathml_tokens.specs.Names.{size_text};

@@ -1,6 +1,6 @@
 //! The list of what is still to be written.
 ghost use Rattle.std.specs.Prelude.{◌≡◌, ◌+◌, ◌<◌, ◌≤◌, ◌++◌, OnOk, length, reverse, sum_by, take};
-ghost use Rattle.latex2mathml_nodes.specs.Print.{member_print, print};
+ghost use Rattle.latex2mathml_trees.specs.Print.{member_print, print};
 ghost use Rattle.latex2mathml_parts.specs.Forms.{AreWhole, aside, forest, in_style};
 ghost use Rattle.latex2mathml_parts.specs.Works.{AreIn, IsIn, cells_in, due, print_weight, prints_in, tree_at, work_print, work_weight, load};
 

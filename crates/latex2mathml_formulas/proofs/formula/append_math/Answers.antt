@@ -1,7 +1,7 @@
 use Rattle.std.proofs.Common.{◌++◌, append_assoc, arith, length, refl, ap, ◌∙◌}
 use Rattle.std.specs.Prelude.{codes, string_bytes}
-use Rattle.latex2mathml_nodes.specs.Print.{prints}
-use Rattle.latex2mathml_nodes.specs.Tree.{trees_of}
+use Rattle.latex2mathml_trees.specs.Print.{prints}
+use Rattle.latex2mathml_trees.specs.Tree.{trees_of}
 use Rattle.latex2mathml_tokens.specs.Lexemes.{lexeme_tok}
 use Rattle.latex2mathml_formulas.proofs.Appending.{appended, finished, formula_refused, no_nodes, node_shortens, not_appended, one_node, some_stands, within_node}
 use Rattle.latex2mathml_formulas.proofs.Beginning.{stood}

@@ -1,6 +1,6 @@
 -- The copies so far are those of the nodes so far.
 use Rattle.std.proofs.Common.{◌≡◌, map, take}
-use Rattle.latex2mathml_nodes.specs.Tree.{tree}
+use Rattle.latex2mathml_nodes.specs.Nodes.{tree}
 use Rattle.latex2mathml_nodes.proofs.ast.+clone.Given as goal
 
 abbrev pub invariant-clone_all-loop-node : goal.invariant-clone_all-loop-node

@@ -1,6 +1,6 @@
 use Rattle.std.proofs.Common.{rules, arith, ◌∙◌, ap, sym}
-use Rattle.latex2mathml_nodes.specs.Style.{styled}
-use Rattle.latex2mathml_nodes.specs.Tree.{tree}
+use Rattle.latex2mathml_trees.specs.Style.{styled}
+use Rattle.latex2mathml_nodes.specs.Nodes.{tree}
 use Rattle.latex2mathml_nodes.proofs.Styles.{styled_more}
 use Rattle.latex2mathml_nodes.proofs.ast.+style.Goals as goal
 

@@ -1,7 +1,7 @@
 -- The members before the index have the style, and those from it on are as they were.
 use Rattle.std.proofs.Common.{◌≡◌, take}
-use Rattle.latex2mathml_nodes.specs.Style.{all_styled}
-use Rattle.latex2mathml_nodes.specs.Tree.{trees}
+use Rattle.latex2mathml_trees.specs.Style.{all_styled}
+use Rattle.latex2mathml_nodes.specs.Nodes.{trees}
 use Rattle.latex2mathml_nodes.proofs.ast.+style.Given as goal
 
 abbrev pub invariant-style::set_all-loop-node : goal.invariant-style::set_all-loop-node

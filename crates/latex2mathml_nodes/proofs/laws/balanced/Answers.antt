@@ -1,4 +1,4 @@
-use Rattle.latex2mathml_nodes.specs.Tree.{tree}
+use Rattle.latex2mathml_nodes.specs.Nodes.{tree}
 use Rattle.latex2mathml_nodes.proofs.Balance.{print_is_balanced}
 use Rattle.latex2mathml_nodes.proofs.laws.balanced.Goals as goal
 

@@ -1,6 +1,6 @@
-use Rattle.latex2mathml_nodes.specs.Markup.{at_start}
-use Rattle.latex2mathml_nodes.specs.Tree.{tree}
-use Rattle.latex2mathml_nodes.proofs.Elements.{one_element}
+use Rattle.latex2mathml_trees.specs.Markup.{at_start}
+use Rattle.latex2mathml_nodes.specs.Nodes.{tree}
+use Rattle.latex2mathml_trees.proofs.Elements.{one_element}
 use Rattle.latex2mathml_nodes.proofs.laws.one_element.Goals as goal
 
 pub returns : goal.returns

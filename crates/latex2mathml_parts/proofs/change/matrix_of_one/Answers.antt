@@ -1,6 +1,6 @@
 use Rattle.std.proofs.Common.{◌≡◌, ◌<◌, ◌-◌, ◌∙◌, ap, length, subst, sym, take, arith}
-use Rattle.latex2mathml_nodes.specs.Productions.{matrix_members}
-use Rattle.latex2mathml_nodes.specs.Tree.{more_trees, no_trees}
+use Rattle.latex2mathml_trees.specs.Productions.{matrix_members}
+use Rattle.latex2mathml_trees.specs.Tree.{more_trees, no_trees}
 use Rattle.latex2mathml_parts.specs.Forms.{aside, forest, put_form}
 use Rattle.latex2mathml_parts.specs.Parts.{top}
 use Rattle.latex2mathml_parts.proofs.Changes.{matrix_one}

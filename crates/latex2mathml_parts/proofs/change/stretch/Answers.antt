@@ -1,5 +1,5 @@
 use Rattle.std.proofs.Common.{◌≡◌, ◌∷◌, ◌-◌, ap, drop, length, sym, take, ◌∙◌}
-use Rattle.latex2mathml_nodes.specs.Productions.{stretched_operator}
+use Rattle.latex2mathml_trees.specs.Productions.{stretched_operator}
 use Rattle.latex2mathml_parts.specs.Forms.{aside, forest, put_form}
 use Rattle.latex2mathml_parts.specs.Parts.{top}
 use Rattle.latex2mathml_parts.proofs.Forests.{all_taken}

@@ -1,5 +1,5 @@
 use Rattle.std.proofs.Common.{◌≡◌, ◌++◌, ◌∙◌, ap, sym, arith, string_bytes}
-use Rattle.latex2mathml_nodes.specs.Print.{print}
+use Rattle.latex2mathml_trees.specs.Print.{print}
 use Rattle.latex2mathml_parts.specs.Forms.{aside}
 use Rattle.latex2mathml_parts.specs.Works.{due, next_print, next_weight, print_weight, tree_at}
 use Rattle.latex2mathml_parts.proofs.Styles.{plain}

@@ -1,5 +1,5 @@
 use Rattle.std.proofs.Common.{◌≡◌, ◌+◌, ◌<◌, ◌++◌, ℕ, List, string_bytes, sum_by}
-use Rattle.latex2mathml_nodes.specs.Print.{print}
+use Rattle.latex2mathml_trees.specs.Print.{print}
 use Rattle.latex2mathml_parts.specs.Forms.{aside, in_style}
 use Rattle.latex2mathml_parts.specs.Works.{AreIn, IsNext, due, next_print, next_weight, print_weight, tree_at, work_weight}
 use Rattle.latex2mathml_parts.proofs.write.write_down.Given as goal

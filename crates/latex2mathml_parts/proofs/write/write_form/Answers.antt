@@ -1,6 +1,6 @@
 use Rattle.std.proofs.Common.{◌≡◌, ◌<◌, ◌+◌, ◌++◌, ap, append_assoc, arith, codes, reverse, string_bytes, sum_by, sym, take, ◌∙◌}
-use Rattle.latex2mathml_nodes.specs.Print.{print}
-use Rattle.latex2mathml_nodes.specs.Tree.{row, trees_of}
+use Rattle.latex2mathml_trees.specs.Print.{print}
+use Rattle.latex2mathml_trees.specs.Tree.{row, trees_of}
 use Rattle.latex2mathml_tokens.specs.Escape.{content_char}
 use Rattle.latex2mathml_parts.specs.Forms.{all_in, aside, forest, in_style, put_form}
 use Rattle.latex2mathml_parts.specs.Parts.{top}

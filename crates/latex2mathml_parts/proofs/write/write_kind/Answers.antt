@@ -1,6 +1,6 @@
 use Rattle.std.proofs.Common.{◌≡◌, ◌++◌, ap, codes, drop, string_bytes, sym, take, ◌∙◌}
 use Rattle.std.specs.Prelude.{None, Some}
-use Rattle.latex2mathml_nodes.specs.Print.{print}
+use Rattle.latex2mathml_trees.specs.Print.{print}
 use Rattle.latex2mathml_parts.specs.Forms.{aside, forest, in_style}
 use Rattle.latex2mathml_parts.specs.Parts.{fence_text, put, top}
 use Rattle.latex2mathml_parts.specs.Works.{binomial_open, due}

@@ -1,5 +1,5 @@
 use Rattle.std.proofs.Common.{◌≡◌, ◌++◌, ℕ, List, string_bytes, sum_by}
-use Rattle.latex2mathml_nodes.specs.Print.{print}
+use Rattle.latex2mathml_trees.specs.Print.{print}
 use Rattle.latex2mathml_parts.specs.Forms.{aside, forest}
 use Rattle.latex2mathml_parts.specs.Parts.{top}
 use Rattle.latex2mathml_parts.specs.Works.{AreIn, due, work_weight}

@@ -1,6 +1,6 @@
 use Rattle.std.proofs.Common.{drop, refl, ◌∙◌}
-use Rattle.latex2mathml_nodes.specs.Productions.{prime_mark}
-use Rattle.latex2mathml_nodes.specs.Tree.{superscript}
+use Rattle.latex2mathml_trees.specs.Productions.{prime_mark}
+use Rattle.latex2mathml_trees.specs.Tree.{superscript}
 use Rattle.latex2mathml_formulas.specs.Grammar.{single}
 use Rattle.latex2mathml_formulas.specs.Steps.{level}
 use Rattle.latex2mathml_parts.specs.Parts.{top, trees_in}

@@ -4,7 +4,7 @@ use Rattle.latex2mathml_formulas.specs.Frames.{inside, within}
 use Rattle.latex2mathml_formulas.specs.Grammar.{core, after_environment_members, reads_members}
 use Rattle.latex2mathml_formulas.specs.Levels.{Leads, Made}
 use Rattle.latex2mathml_formulas.specs.Steps.{level}
-use Rattle.latex2mathml_nodes.specs.Tree.{words}
+use Rattle.latex2mathml_trees.specs.Tree.{words}
 use Rattle.latex2mathml_parts.specs.Parts.{trees_in}
 use Rattle.latex2mathml_tokens.specs.Tok.{End}
 use Rattle.latex2mathml_formulas.specs.declared.parse.frames.Frame.TheVariants.{Members}

@@ -4,9 +4,9 @@ use mir.Val.{of_z, to_z}
 use Rattle.latex2mathml_formulas.specs.Grammar.{Read, core, gives, of_one, rule, single, with_second}
 use Rattle.latex2mathml_formulas.specs.Levels.{Made}
 use Rattle.latex2mathml_formulas.specs.Steps.{level}
-use Rattle.latex2mathml_nodes.specs.Productions.{binomial_tree, group_tree, overbrace_tree, labelled_overbrace_tree, underbrace_tree, labelled_underbrace_tree}
-use Rattle.latex2mathml_nodes.specs.Style.{styled}
-use Rattle.latex2mathml_nodes.specs.Tree.{frac, over_op, overset, space, under_op, underset, undefined}
+use Rattle.latex2mathml_trees.specs.Productions.{binomial_tree, group_tree, overbrace_tree, labelled_overbrace_tree, underbrace_tree, labelled_underbrace_tree}
+use Rattle.latex2mathml_trees.specs.Style.{styled}
+use Rattle.latex2mathml_trees.specs.Tree.{frac, over_op, overset, space, under_op, underset, undefined}
 use Rattle.latex2mathml_tokens.specs.Lexemes.{lexeme_tok}
 use Rattle.latex2mathml_tokens.specs.Tok.{Circumflex, Underscore}
 use Rattle.latex2mathml_tokens.specs.TokenText.{token_text}

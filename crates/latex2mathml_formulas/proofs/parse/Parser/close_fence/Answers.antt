@@ -2,8 +2,8 @@ use Rattle.std.proofs.Common.{drop, refl, reverse, take}
 use Rattle.latex2mathml_formulas.specs.Frames.{inside}
 use Rattle.latex2mathml_formulas.specs.Grammar.{core, gives, rule_gives}
 use Rattle.latex2mathml_formulas.specs.Levels.{Made}
-use Rattle.latex2mathml_nodes.specs.Productions.{group_tree}
-use Rattle.latex2mathml_nodes.specs.Tree.{fenced}
+use Rattle.latex2mathml_trees.specs.Productions.{group_tree}
+use Rattle.latex2mathml_trees.specs.Tree.{fenced}
 use Rattle.latex2mathml_parts.specs.Parts.{fence_text, trees_in}
 use Rattle.latex2mathml_tokens.specs.Tok.{Right}
 use Rattle.latex2mathml_formulas.proofs.Delivering.{fences_put}

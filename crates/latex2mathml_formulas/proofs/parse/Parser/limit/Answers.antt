@@ -1,7 +1,7 @@
 use Rattle.latex2mathml_formulas.specs.Grammar.{core, gives, single}
 use Rattle.latex2mathml_formulas.specs.Levels.{Made}
 use Rattle.latex2mathml_formulas.specs.Steps.{level}
-use Rattle.latex2mathml_nodes.specs.Tree.{function, under}
+use Rattle.latex2mathml_trees.specs.Tree.{function, under}
 use Rattle.latex2mathml_tokens.specs.Names.{limit_text}
 use Rattle.latex2mathml_tokens.specs.Tok.{Underscore}
 use Rattle.latex2mathml_formulas.proofs.Beginning.{giving}

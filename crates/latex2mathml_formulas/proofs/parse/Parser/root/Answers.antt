@@ -3,7 +3,7 @@ use Rattle.std.specs.Prelude.{codes}
 use Rattle.latex2mathml_formulas.specs.Grammar.{core, gives, of_degree, of_one, reads_members}
 use Rattle.latex2mathml_formulas.specs.Levels.{Made}
 use Rattle.latex2mathml_formulas.specs.Steps.{level}
-use Rattle.latex2mathml_nodes.specs.Tree.{sqrt}
+use Rattle.latex2mathml_trees.specs.Tree.{sqrt}
 use Rattle.latex2mathml_tokens.specs.Tok.{Paren}
 use Rattle.latex2mathml_formulas.specs.declared.parse.frames.GroupEnd.TheVariants as group_end
 use Rattle.latex2mathml_formulas.proofs.Levels.{group_begun, part_leads, signed, unsigned}

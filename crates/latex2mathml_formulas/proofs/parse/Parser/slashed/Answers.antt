@@ -2,7 +2,7 @@ use Rattle.std.proofs.Common.{drop}
 use Rattle.latex2mathml_formulas.specs.Frames.{inside}
 use Rattle.latex2mathml_formulas.specs.Grammar.{core, gives, rule_gives}
 use Rattle.latex2mathml_formulas.specs.Levels.{Made}
-use Rattle.latex2mathml_nodes.specs.Tree.{slashed}
+use Rattle.latex2mathml_trees.specs.Tree.{slashed}
 use Rattle.latex2mathml_parts.specs.Parts.{top, trees_in}
 use Rattle.latex2mathml_formulas.proofs.Combining.{core_put}
 use Rattle.latex2mathml_formulas.proofs.Levels.{skipped}

@@ -1,7 +1,7 @@
 use Rattle.latex2mathml_formulas.specs.Grammar.{core, gives}
 use Rattle.latex2mathml_formulas.specs.Levels.{Made}
 use Rattle.latex2mathml_formulas.specs.Steps.{level}
-use Rattle.latex2mathml_nodes.specs.Tree.{words}
+use Rattle.latex2mathml_trees.specs.Tree.{words}
 use Rattle.latex2mathml_parts.specs.Parts.{trees_in}
 use Rattle.latex2mathml_formulas.proofs.Beginning.{giving}
 use Rattle.latex2mathml_formulas.proofs.Combining.{core_put}

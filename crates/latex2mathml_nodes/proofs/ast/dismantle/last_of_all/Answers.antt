@@ -1,7 +1,8 @@
 use Rattle.std.proofs.Common.{arith, rules, ◌<◌, ◌≡◌, ◌++◌, ◌∷◌, [], length}
 use Rattle.latex2mathml_nodes.proofs.Chains.{hung_in-push}
 use Rattle.latex2mathml_nodes.specs.declared.ast.Node.{Row, the_lemmas}
-use Rattle.latex2mathml_nodes.specs.Tree.{row, tree, trees}
+use Rattle.latex2mathml_nodes.specs.Nodes.{tree, trees}
+use Rattle.latex2mathml_trees.specs.Tree.{row}
 use Rattle.latex2mathml_nodes.proofs.ast.dismantle.last_of_all.Goals as goal
 
 pub members-preserved : goal.members-preserved

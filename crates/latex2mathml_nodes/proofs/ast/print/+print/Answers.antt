@@ -2,8 +2,8 @@ use Rattle.std.proofs.Common.{◌<◌, rules, refl, append_assoc}
 use Rattle.std.proofs.Output.{has_written_append, has_written_of_eq}
 use Rattle.latex2mathml_nodes.proofs.Chains.{weights-at}
 use Rattle.latex2mathml_nodes.proofs.Prints.{prints-more, members-more}
-use Rattle.latex2mathml_nodes.specs.Tree.{tree, trees}
-use Rattle.latex2mathml_nodes.specs.Weight.{weight, weights}
+use Rattle.latex2mathml_nodes.specs.Nodes.{tree, trees}
+use Rattle.latex2mathml_trees.specs.Weight.{weight, weights}
 use Rattle.latex2mathml_nodes.proofs.ast.print.+print.Goals as goal
 
 pub write_all-loop-node-preserved : goal.write_all-loop-node-preserved

@@ -1,6 +1,6 @@
 use Rattle.std.proofs.Common.{◌∷◌, ap, sym, ◌∙◌, drop, take, reverse}
-use Rattle.latex2mathml_nodes.specs.Style.{styled}
-use Rattle.latex2mathml_nodes.specs.Tree.{row, trees_of}
+use Rattle.latex2mathml_trees.specs.Style.{styled}
+use Rattle.latex2mathml_trees.specs.Tree.{row, trees_of}
 use Rattle.latex2mathml_parts.specs.Forms.{put_form}
 use Rattle.latex2mathml_parts.specs.Parts.{top}
 use Rattle.latex2mathml_parts.proofs.Styles.{restyled}

@@ -1,6 +1,6 @@
 use Rattle.std.proofs.Common.{◌≡◌, ◌++◌, ap, codes, drop, take, ◌∙◌}
-use Rattle.latex2mathml_nodes.specs.Print.{print}
-use Rattle.latex2mathml_nodes.specs.Tree.{operator}
+use Rattle.latex2mathml_trees.specs.Print.{print}
+use Rattle.latex2mathml_trees.specs.Tree.{operator}
 use Rattle.latex2mathml_parts.specs.Forms.{aside, forest}
 use Rattle.latex2mathml_parts.specs.Parts.{top}
 use Rattle.latex2mathml_parts.specs.Works.{due, tree_at, work_print}

@@ -3,8 +3,8 @@ use Rattle.std.proofs.Common.{ap, sym, w32, ◌∙◌}
 use Rattle.std.proofs.Math.Facts.{to_z-of_z}
 use Rattle.std.specs.Fmt.{digits}
 use mir.Val.{to_z}
-use Rattle.latex2mathml_nodes.specs.Print.{print}
-use Rattle.latex2mathml_nodes.specs.Tree.{space}
+use Rattle.latex2mathml_trees.specs.Print.{print}
+use Rattle.latex2mathml_trees.specs.Tree.{space}
 use Rattle.latex2mathml_parts.proofs.write.tables.space_markup.Goals as goal
 
 pub returns-then-width-eq3 : goal.returns-then-width-eq3

@@ -1,0 +1,8 @@
+pub mod Appended
+pub mod Cells
+pub mod Elements
+pub mod Leaves
+pub mod Pages
+pub mod Runs
+pub mod ValueTexts
+pub mod Widths

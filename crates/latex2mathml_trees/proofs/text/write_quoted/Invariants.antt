@@ -1,0 +1,9 @@
+use Rattle.std.specs.Char.{encode_utf8}
+use Rattle.std.specs.Fmt.{HasWritten, IsPlainFormatter}
+use Rattle.std.specs.List.{flat_map}
+use Rattle.latex2mathml_tokens.specs.Escape.{content, quoted_byte}
+use Rattle.latex2mathml_trees.proofs.text.write_quoted.Given as goal
+
+abbrev pub invariant-loop-c : goal.invariant-loop-c
+invariant-loop-c g l =
+    IsPlainFormatter l.initial.f → HasWritten g.W.Write.write_str_gives l.initial.f (flat_map (λ c. content (flat_map quoted_byte (encode_utf8 c))) l.yielded) l.f

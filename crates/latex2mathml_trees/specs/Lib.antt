@@ -1,0 +1,10 @@
+pub mod Arguments
+pub mod Markup
+pub mod MathSchema
+pub mod Pages
+pub mod Print
+pub mod Productions
+pub mod Style
+pub mod Tree
+pub mod Weight
+pub mod Width

@@ -1,0 +1,83 @@
+//! Markup that is appended to a text.
+ghost use Rattle.std.specs.Prelude.{◌≡◌, ◌++◌, OnOk, Some, string_bytes};
+ghost use Rattle.latex2mathml_tokens.specs.Escape.{content, content_char};
+ghost use Rattle.latex2mathml_trees.specs.Print.{print};
+ghost use Rattle.latex2mathml_trees.specs.Tree.{space, undefined};
+
+use crate::text::{needs_escape, write_escaped, write_undefined};
+use crate::width::write_space;
+use std::alloc::AllocError;
+use std::fmt;
+
+/// A text as contents, character by character.
+#[derive(Drop)]
+struct Contents<'a>(&'a str);
+
+impl fmt::Display for Contents<'_> {
+    ghost output = { λ text. Some (content text.0.now) };
+
+    fn fmt<W: fmt::Write>(&self, f: &mut fmt::Formatter<W>) -> fmt::Result {
+        write_escaped(self.0, f)
+    }
+}
+
+/// The text of a token that is marked as an error.
+#[derive(Drop)]
+struct Marked<'a>(&'a str);
+
+impl fmt::Display for Marked<'_> {
+    ghost output = { λ text. Some (print (undefined text.0.now)) };
+
+    fn fmt<W: fmt::Write>(&self, f: &mut fmt::Formatter<W>) -> fmt::Result {
+        write_undefined(self.0, f)
+    }
+}
+
+/// A space, in eighteenths of an em.
+#[derive(Drop)]
+struct Space(i32);
+
+impl fmt::Display for Space {
+    ghost output = { λ width. Some (print (space width.0)) };
+
+    fn fmt<W: fmt::Write>(&self, f: &mut fmt::Formatter<W>) -> fmt::Result {
+        write_space(self.0, f)
+    }
+}
+
+/// Appends a text as contents to another. A text in which nothing is escaped is appended whole.
+pub fn append_content(text: &str, out: &mut String) -> Result<(), AllocError>
+    ensures { OnOk result (string_bytes out.new ≡ string_bytes out.old ++ content text.now) }
+{
+    match text.find(|c: char| needs_escape(c)) {
+        Some(_) => write!(out, "{}", Contents(text)),
+        None => out.push_str(text),
+    }
+}
+
+/// Appends the text of a token that has no meaning where it stands, marked as an error.
+pub fn append_undefined(text: &str, out: &mut String) -> Result<(), AllocError>
+    ensures { OnOk result (string_bytes out.new ≡ string_bytes out.old ++ print (undefined text.now)) }
+{
+    write!(out, "{}", Marked(text))
+}
+
+/// Appends a character as contents to the text.
+pub fn append_content_char(c: char, text: &mut String) -> Result<(), AllocError>
+    ensures { OnOk result (string_bytes text.new ≡ string_bytes text.old ++ content_char c) }
+{
+    match c {
+        '&' => text.push_str("&amp;"),
+        '<' => text.push_str("&lt;"),
+        '>' => text.push_str("&gt;"),
+        '$' => text.push_str("&#x24;"),
+        _ => text.push(c),
+    }
+}
+
+/// Appends a space, in eighteenths of an em.
+pub fn append_space(width: i32, out: &mut String) -> Result<(), AllocError>
+    ensures { OnOk result (string_bytes out.new ≡ string_bytes out.old ++ print (space width)) }
+{
+    write!(out, "{}", Space(width))
+}

@@ -1,0 +1,14 @@
+//! Laws of widths and of markup.
+ghost use Rattle.latex2mathml_trees.specs.Pages.{JoinsMarkup};
+ghost use Rattle.latex2mathml_trees.specs.Width.{WidthsAreNearest};
+
+/// The width of a space is the thousandth of an em that is nearest to it.
+pub fn widths_are_nearest()
+    ensures { WidthsAreNearest }
+{}
+
+/// Balanced markup stays balanced, one behind the other and within an element, and so do pages: markup in which each
+/// element that the child table names obeys it. A `math` element may stand in either.
+pub fn joined_markup()
+    ensures { JoinsMarkup }
+{}

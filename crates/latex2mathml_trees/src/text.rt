@@ -1,0 +1,100 @@
+//! Texts in markup: as contents, as values of attributes, and marked as errors.
+ghost use Rattle.std.specs.Prelude.{◌≡◌, ◌++◌, codes};
+ghost use Rattle.std.specs.Char.{encode_utf8};
+ghost use Rattle.std.specs.Fmt.{WritesOnOk};
+ghost use Rattle.std.specs.List.{flat_map};
+ghost use Rattle.latex2mathml_tokens.specs.Escape.{content, content_char, is_escaped, quoted, quoted_byte, value};
+ghost use Rattle.latex2mathml_trees.specs.Print.{error_print};
+
+use std::fmt;
+
+/// Writes the text of a token that has no meaning where it stands, marked as an error.
+pub fn write_undefined<W: fmt::Write>(text: &str, f: &mut fmt::Formatter<W>) -> fmt::Result
+    ensures { WritesOnOk W.write_str_gives f.old result
+        (error_print (codes "Undefined(" ++ (quoted text.now ++ codes ")"))) f.new }
+{
+    f.write_str("<mtext>[PARSE ERROR: Undefined(\"")?;
+    write_quoted(text, f)?;
+    f.write_str("\")]</mtext>")
+}
+
+/// Writes what stands between the quotation marks of a text in quotes, as contents.
+fn write_quoted<W: fmt::Write>(text: &str, f: &mut fmt::Formatter<W>) -> fmt::Result
+    ensures { WritesOnOk W.write_str_gives f.old result
+        (content (flat_map quoted_byte text.now)) f.new }
+{
+    for c in text.chars() {
+        write_quoted_char(c, f)?;
+    }
+    Ok(())
+}
+
+fn write_quoted_char<W: fmt::Write>(c: char, f: &mut fmt::Formatter<W>) -> fmt::Result
+    ensures { WritesOnOk W.write_str_gives f.old result
+        (content (flat_map quoted_byte (encode_utf8 c))) f.new }
+{
+    match c {
+        '"' => f.write_str("\\\""),
+        '\\' => f.write_str("\\\\"),
+        _ => write_content_char(c, f),
+    }
+}
+
+/// Writes a text as contents. A text in which nothing is escaped is written whole.
+pub fn write_content<W: fmt::Write>(text: &str, f: &mut fmt::Formatter<W>) -> fmt::Result
+    ensures { WritesOnOk W.write_str_gives f.old result (content text.now) f.new }
+{
+    match text.find(|c: char| needs_escape(c)) {
+        Some(_) => write_escaped(text, f),
+        None => f.write_str(text),
+    }
+}
+
+pub(crate) fn needs_escape(c: char) -> bool
+    ensures { result ≡ is_escaped c }
+{
+    c == '&' || c == '<' || c == '>' || c == '$'
+}
+
+/// Writes a text as contents, character by character.
+pub(crate) fn write_escaped<W: fmt::Write>(text: &str, f: &mut fmt::Formatter<W>) -> fmt::Result
+    ensures { WritesOnOk W.write_str_gives f.old result (content text.now) f.new }
+{
+    for c in text.chars() {
+        write_content_char(c, f)?;
+    }
+    Ok(())
+}
+
+/// Writes a character as contents.
+pub fn write_content_char<W: fmt::Write>(c: char, f: &mut fmt::Formatter<W>) -> fmt::Result
+    ensures { WritesOnOk W.write_str_gives f.old result (content_char c) f.new }
+{
+    match c {
+        '&' => f.write_str("&amp;"),
+        '<' => f.write_str("&lt;"),
+        '>' => f.write_str("&gt;"),
+        '$' => f.write_str("&#x24;"),
+        _ => f.write_char(c),
+    }
+}
+
+/// Writes a text as the value of an attribute.
+pub fn write_value<W: fmt::Write>(text: &str, f: &mut fmt::Formatter<W>) -> fmt::Result
+    ensures { WritesOnOk W.write_str_gives f.old result (value text.now) f.new }
+{
+    for c in text.chars() {
+        write_value_char(c, f)?;
+    }
+    Ok(())
+}
+
+fn write_value_char<W: fmt::Write>(c: char, f: &mut fmt::Formatter<W>) -> fmt::Result
+    ensures { WritesOnOk W.write_str_gives f.old result (value (encode_utf8 c)) f.new }
+{
+    match c {
+        '"' => f.write_str("&quot;"),
+        '$' => f.write_str("$"),
+        _ => write_content_char(c, f),
+    }
+}
