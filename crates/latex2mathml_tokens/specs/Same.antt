@@ -3,6 +3,7 @@ use Rattle.std.specs.Prelude.{◌≡◌, Bool, true, false, Option, Some, None, 
 use Rattle.std.specs.Bool.{Decides}
 use Rattle.std.specs.Cmp.{IsPartialEquivalence}
 use Rattle.std.proofs.Common.{sym, ap, ◌∙◌, subst}
+use Rattle.std.proofs.lemmas.Bool.{false≢true}
 use mathlib.Core.HLevel.{Discrete}
 
 abbrev pub is_yes : {P : Type 0} → Dec P → Bool
@@ -15,11 +16,7 @@ same decide x y = is_yes (decide x y)
 
 is_yes-Decides : {P : Type 0} (d : Dec P) → Decides (is_yes d) P
 is_yes-Decides (yes p) = (λ h. p, λ h. refl)
-is_yes-Decides (no q) = (λ h. absurd (subst IsFalse h tt), λ p. absurd (q p))
-  where
-    IsFalse : Bool → Type 0
-    IsFalse false = Unit {0}
-    IsFalse true = ⊥
+is_yes-Decides (no q) = (λ h. absurd (false≢true h), λ p. absurd (q p))
 
 pub same-Decides : {A : Type 0} (decide : Discrete A) (x y : A) → Decides (same decide x y) (x ≡ y)
 same-Decides decide x y = is_yes-Decides (decide x y)
