@@ -1,5 +1,5 @@
 -- Texts as lists of characters. A character is its code point.
-use Rattle.std.specs.Prelude.{◌≡◌, ℕ, Bool, true, false, ◌||◌, ◌==◌, List, [], ◌∷◌, Option, Some, None, codes, ⊤}
+use Rattle.std.specs.Prelude.{ℕ, Bool, true, false, IsTrue, IsFalse, List, [], ◌∷◌, Option, Some, None, codes, ⊤}
 use Prim.Native.String.{String}
 use Rattle.latex2mathml_tokens.specs.Among.{is_among}
 
@@ -15,7 +15,7 @@ is_space c = c ∈ " \t\n\r"
 -- the text begins with a character that passes the test
 abbrev pub Begins : (ℕ → Bool) → List ℕ → Type 0
 Begins p [] = ⊥
-Begins p (c ∷ cs) = p c ≡ true
+Begins p (c ∷ cs) = IsTrue (p c)
 
 -- the first character, where there is one
 abbrev pub head : List ℕ → Option ℕ
@@ -25,7 +25,7 @@ head (c ∷ cs) = Some c
 -- the character fails the test, or there is none
 abbrev pub Stops : (ℕ → Bool) → Option ℕ → Type 0
 Stops p None = ⊤
-Stops p (Some c) = p c ≡ false
+Stops p (Some c) = IsFalse (p c)
 
 abbrev pub is_empty : List ℕ → Bool
 is_empty [] = true

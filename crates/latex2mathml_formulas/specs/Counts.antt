@@ -1,5 +1,5 @@
 -- What is counted of a text, over its slices.
-use Rattle.std.specs.Prelude.{◌≡◌, ℕ, ◌+◌, ◌*◌, ◌<◌, ◌≤◌, Bool, true, false, List, [], ◌∷◌, length, take, count_by, None, if◌then◌else◌}
+use Rattle.std.specs.Prelude.{◌≡◌, ℕ, ◌+◌, ◌*◌, ◌<◌, ◌≤◌, Bool, true, false, IsTrue, List, [], ◌∷◌, length, take, count_by, None, if◌then◌else◌}
 use Rattle.latex2mathml_formulas.specs.Characters.{◌∈◌}
 use Rattle.latex2mathml_formulas.specs.Grammar.{node, Read, Reads, Refused}
 use Rattle.latex2mathml_formulas.specs.Spelling.{Slice, HasSlices, HasTokens}
@@ -23,7 +23,7 @@ backslashes slices = count_by (λ s. begins_with_backslash s.text) slices
 -- at most n tokens of the text were taken, and all of them where `done` holds
 abbrev pub IsTokenCount : List ℕ → Bool → ℕ → Type 0
 IsTokenCount text done n =
-    (slices : List Slice) × HasSlices false text slices × (n ≤ length slices) × (done ≡ true → n ≡ length slices)
+    (slices : List Slice) × HasSlices false text slices × (n ≤ length slices) × (IsTrue done → n ≡ length slices)
 
 -- 1 to 9 comparisons for each slice that begins with a backslash, among those of the tokens that were taken, which are the
 -- first of the text

@@ -1,6 +1,6 @@
 -- Texts without a dollar sign. The sign is ASCII, so it is no byte of another character, and what is said of bytes here
 -- holds of characters.
-use Rattle.std.specs.Prelude.{◌≡◌, ◌≢◌, ℕ, Bool, true, not, ◌&&◌, ◌==◌, List, [], ◌∷◌, ◌++◌}
+use Rattle.std.specs.Prelude.{◌≢◌, ℕ, Bool, not, ◌&&◌, ◌==◌, IsTrue, List, [], ◌∷◌, ◌++◌}
 use Rattle.std.specs.List.{list_all}
 use Rattle.std.specs.Str.{byte}
 use Rattle.std.proofs.Common.{⊎_elim, refl, ap, ◌∙◌}
@@ -22,11 +22,11 @@ is_other c = not (c == dollar)
 
 -- the text holds no dollar sign
 abbrev pub IsDollarFree : List ℕ → Type 0
-IsDollarFree text = list_all is_other text ≡ true
+IsDollarFree text = IsTrue (list_all is_other text)
 
 -- Lemmas: texts put together.
 
-pub other : (c : ℕ) → c ≢ dollar → is_other c ≡ true
+pub other : (c : ℕ) → c ≢ dollar → IsTrue (is_other c)
 other c n = ⊎_elim (λ h. absurd (n h.1)) (λ h. ap not h.0) (eqb_tells c dollar)
 
 -- two texts side by side
@@ -34,14 +34,14 @@ pub free_both : (a b : List ℕ) → IsDollarFree a → IsDollarFree b → IsDol
 free_both a b x y = list_all-append is_other a b ∙ ap (λ q. q && list_all is_other b) x ∙ y
 
 -- a byte and a text behind it
-pub free_first : (c : ℕ) (cs : List ℕ) → IsDollarFree (c ∷ cs) → is_other c ≡ true
+pub free_first : (c : ℕ) (cs : List ℕ) → IsDollarFree (c ∷ cs) → IsTrue (is_other c)
 free_first c cs h = (and_parts (is_other c) (list_all is_other cs) h).0
 
 pub free_rest : (c : ℕ) (cs : List ℕ) → IsDollarFree (c ∷ cs) → IsDollarFree cs
 free_rest c cs h = (and_parts (is_other c) (list_all is_other cs) h).1
 
-pub free_more : (c : ℕ) (cs : List ℕ) → is_other c ≡ true → IsDollarFree cs → IsDollarFree (c ∷ cs)
+pub free_more : (c : ℕ) (cs : List ℕ) → IsTrue (is_other c) → IsDollarFree cs → IsDollarFree (c ∷ cs)
 free_more c cs h k = ap (λ q. q && list_all is_other cs) h ∙ k
 
-pub free_one : (c : ℕ) → is_other c ≡ true → IsDollarFree (c ∷ [])
+pub free_one : (c : ℕ) → IsTrue (is_other c) → IsDollarFree (c ∷ [])
 free_one c h = free_more c [] h refl

@@ -1,6 +1,6 @@
 -- Places in a text between two tokens, where white space may be put. A place is two texts, the one before it and the one
 -- behind it, and both are slices and white space: nothing scans.
-use Rattle.std.specs.Prelude.{◌≡◌, ◌↔◌, ℕ, Bool, true, false, ◌&&◌, List, [], ◌∷◌, ◌++◌, Some, None}
+use Rattle.std.specs.Prelude.{◌≡◌, ◌↔◌, ℕ, Bool, false, ◌&&◌, IsTrue, List, [], ◌∷◌, ◌++◌, Some, None}
 use Rattle.std.specs.Char.{is_ascii_digit}
 use Rattle.std.specs.List.{AllPass}
 use Rattle.std.specs.Str.{chars}
@@ -44,7 +44,7 @@ pub record IsBetweenTokens (before after : List ℕ) : Type 0 where
 -- with a digit
 pub record IsDigitPlace {before after : List ℕ} (place : IsBetweenTokens before after) : Type 0 where
   pub touching : place.left ++ place.right ≡ []
-  pub takes : takes_digit (Some place.last.token) ≡ true
+  pub takes : IsTrue (takes_digit (Some place.last.token))
   pub digit : Begins is_ascii_digit place.next.text
 
 -- the two texts have the same tokens, and so the same renderings and the same refusals. A text is its bytes here.

@@ -1,6 +1,6 @@
 -- How a text spells its tokens. Nothing here scans: a slice of the text, and the character that stands after it, are
 -- a token or are none.
-use Rattle.std.specs.Prelude.{◌≡◌, ℕ, ◌≤◌, Bool, true, false, ◌&&◌, ◌||◌, ◌==◌, List, [], ◌∷◌, ◌++◌, map, count_by, codes, Option, Some, None, if◌then◌else◌}
+use Rattle.std.specs.Prelude.{◌≡◌, ℕ, ◌≤◌, Bool, true, false, ◌&&◌, ◌||◌, ◌==◌, IsTrue, IsFalse, List, [], ◌∷◌, ◌++◌, map, count_by, codes, Option, Some, None, if◌then◌else◌}
 use Rattle.std.specs.Char.{is_ascii_digit, is_ascii_alphabetic}
 use Rattle.std.specs.List.{AllPass}
 use Rattle.std.specs.Str.{byte, encode_utf8_all}
@@ -66,8 +66,8 @@ takes_digit (Some t) = false
 pub data SpellsAt (alone : Bool) (w : List ℕ) (next : Option ℕ) (t : Tok) : Type 0 where
   -- a character that stands for itself
   character : (c : ℕ)
-      → begins_longer c ≡ false
-      → is_space c ≡ false
+      → IsFalse (begins_longer c)
+      → IsFalse (is_space c)
       → w ≡ c ∷ []
       → t ≡ character_token c
       → SpellsAt alone w next t
@@ -81,20 +81,20 @@ pub data SpellsAt (alone : Bool) (w : List ℕ) (next : Option ℕ) (t : Tok) : 
       → t ≡ Paren (codes ":=")
       → SpellsAt alone w next t
   -- a number, as long as can be
-  number : alone ≡ false
+  number : IsFalse alone
       → IsNumber w next
       → t ≡ Number (encode_utf8_all w)
       → SpellsAt alone w next t
   -- one digit, where a digit is a number of its own
   digit : (c : ℕ)
-      → alone ≡ true
-      → is_ascii_digit c ≡ true
+      → IsTrue alone
+      → IsTrue (is_ascii_digit c)
       → w ≡ c ∷ []
       → t ≡ Number (encode_utf8_all w)
       → SpellsAt alone w next t
   -- a backslash and one character that is no ASCII letter, whatever it is
   symbol_command : (c : ℕ)
-      → is_ascii_alphabetic c ≡ false
+      → IsFalse (is_ascii_alphabetic c)
       → w ≡ byte "\\" ∷ c ∷ []
       → t ≡ command_token (encode_utf8_all (c ∷ []))
       → SpellsAt alone w next t

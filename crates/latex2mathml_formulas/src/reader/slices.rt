@@ -1,5 +1,5 @@
 //! The slice at the start of a text, and the lexeme that it is.
-ghost use Rattle.std.specs.Prelude.{◌≡◌, ◌≢◌, ◌≤◌, ◌∷◌, ◌||◌, [], Bool, false, not, Some, MatchOption};
+ghost use Rattle.std.specs.Prelude.{◌≡◌, ◌≢◌, ◌≤◌, ◌∷◌, ◌||◌, [], Bool, false, not, IsFalse, Some, MatchOption};
 ghost use Rattle.std.specs.Char.{is_ascii_digit};
 ghost use Rattle.std.specs.Str.{byte, chars, IsUtf8};
 ghost use Rattle.latex2mathml_formulas.specs.Characters.{Begins, is_space};
@@ -72,10 +72,10 @@ pub(crate) fn slice_at<'a>(
     alone: bool,
 ) -> (Lexeme<'a>, &'a str)
     requires starts { chars text.now ≡ c ∷ chars after.now }
-    requires no_space { is_space c ≡ false }
+    requires no_space { IsFalse (is_space c) }
     requires no_backslash { c ≢ byte "\\" }
     ensures lexeme { BeginsWith alone (chars text.now) (lexeme_tok result.0) (chars result.1.now) }
-    ensures no_digit { Spelling.takes_digit (Some (lexeme_tok result.0)) ≡ false }
+    ensures no_digit { IsFalse (Spelling.takes_digit (Some (lexeme_tok result.0))) }
     ensures utf8 { IsUtf8 result.1.now }
 {
     if c.is_ascii_digit() {
@@ -94,7 +94,7 @@ pub(crate) fn slice_at<'a>(
 fn colon<'a>(text: &'a str) -> (Lexeme<'a>, &'a str)
     ensures lexeme { (alone : Bool) →
         BeginsWith alone (byte ":" ∷ chars text.now) (lexeme_tok result.0) (chars result.1.now) }
-    ensures no_digit { Spelling.takes_digit (Some (lexeme_tok result.0)) ≡ false }
+    ensures no_digit { IsFalse (Spelling.takes_digit (Some (lexeme_tok result.0))) }
     ensures utf8 { IsUtf8 result.1.now }
 {
     match after_char(text, '=') {
@@ -112,9 +112,9 @@ pub(crate) fn stands_alone(c: char) -> bool
 
 /// The lexeme of a character that stands for itself.
 pub(crate) fn character(c: char) -> Lexeme<'static>
-    requires { begins_longer c ≡ false }
+    requires { IsFalse (begins_longer c) }
     ensures lexeme { lexeme_tok result ≡ character_token c }
-    ensures no_digit { Spelling.takes_digit (Some (lexeme_tok result)) ≡ false }
+    ensures no_digit { IsFalse (Spelling.takes_digit (Some (lexeme_tok result))) }
 {
     if c.is_ascii_alphabetic() {
         return Lexeme::Letter(c, Variant::Italic);
@@ -141,7 +141,7 @@ pub(crate) fn character(c: char) -> Lexeme<'static>
 fn number<'a>(text: &'a str) -> (Lexeme<'a>, &'a str)
     requires { Begins is_ascii_digit (chars text.now) }
     ensures lexeme { BeginsWith false (chars text.now) (lexeme_tok result.0) (chars result.1.now) }
-    ensures no_digit { Spelling.takes_digit (Some (lexeme_tok result.0)) ≡ false }
+    ensures no_digit { IsFalse (Spelling.takes_digit (Some (lexeme_tok result.0))) }
     ensures utf8 { IsUtf8 result.1.now }
 {
     let rest = skip_number(text);
