@@ -1,5 +1,5 @@
 //! Plain text, as the cutter gives it.
-ghost use Rattle.std.specs.Prelude.{◌≡◌, false};
+ghost use Rattle.std.specs.Prelude.{IsFalse};
 ghost use Rattle.latex2mathml_formulas.specs.Dollars.{IsDollarFree};
 
 /// Text in which no formula begins or ends.
@@ -8,5 +8,5 @@ pub(crate) struct Plain<'a> {
     pub(crate) text: &'a str,
     /// Whether it may hold a dollar sign, behind a backslash. Text that holds none need not be searched again.
     pub(crate) may_hold_dollar: bool,
-    ghost free: { may_hold_dollar ≡ false → IsDollarFree text.now },
+    ghost free: { IsFalse may_hold_dollar → IsDollarFree text.now },
 }
