@@ -1,11 +1,14 @@
 -- The first character of a text, and what stands in it before its end, byte by byte.
-use Rattle.std.proofs.Common.{◌≡◌, ℕ, ◌+◌, ◌-◌, ◌<◌, ◌≤◌, List, [], ◌∷◌, ◌++◌, take, drop, length, Some, sym, ap, subst, ◌∙◌, arith}
+use Rattle.std.proofs.Common.{◌≡◌, ℕ, ◌+◌, ◌-◌, ◌<◌, ◌≤◌, List, [], ◌∷◌, ◌++◌, take, drop, eqb, length, false, inl, inr, true, true-eqb, None, Some, refl, sym, ap, subst, ◌∙◌, arith}
 use Rattle.std.proofs.Math.Seq.{take-append_seam}
 use Rattle.std.proofs.lemmas.List.{length-append}
 use Rattle.std.proofs.lemmas.Str.{chars_past_char, encode_ascii, encodes-append, encodes-chars, IsCharBoundary-after_ascii, IsCharBoundary-at_seam}
-use Rattle.std.specs.Char.{encode_utf8}
+use Rattle.std.proofs.lemmas.Bool.{cases_lt}
+use Rattle.std.proofs.lemmas.Bool.Decides.{nat_tests}
+use Rattle.std.specs.Char.{encode_utf8, is_ascii}
 use Rattle.std.specs.Prelude.{slice_get}
 use Rattle.std.specs.Str.{chars, encode_utf8_all, IsUtf8, IsCharBoundary}
+use Rattle.latex2mathml_formulas.specs.Characters.{Stops, head}
 
 some_same : {x y : ℕ} → Some x ≡ Some y → x ≡ y
 some_same e = cc
@@ -46,3 +49,33 @@ pub front_is : (text rest result : List ℕ) → IsUtf8 text → IsUtf8 rest →
 front_is text rest result u v f front e =
     let bytes : text ≡ encode_utf8_all front ++ rest = front_bytes text rest front u v e in
     f ∙ ap (λ n. take n text) (seam text (encode_utf8_all front) rest bytes) ∙ ap (take (length (encode_utf8_all front))) bytes ∙ take-append_seam (encode_utf8_all front) rest
+
+-- a text of no bytes is empty
+pub no_bytes : (text : List ℕ) → true ≡ eqb (length text) 0 → text ≡ []
+no_bytes [] e = refl
+no_bytes (b ∷ text) e = absurd (let k : length (b ∷ text) ≡ 0 = true-eqb _ _ e in cc)
+
+-- an empty text has no character
+pub no_characters : (text : List ℕ) → text ≡ [] → chars text ≡ []
+unfolding chars
+no_characters text e = rw e refl
+
+-- text without a first byte has no first character
+pub nothing_first : (text : List ℕ) → slice_get text 0 ≡ None → Stops is_ascii (head (chars text))
+nothing_first [] e = rw (no_characters [] refl) tt
+nothing_first (x ∷ xs) e = absurd cc
+
+no_ascii : (c : ℕ) → 128 ≤ c → is_ascii c ≡ false
+no_ascii c h = grind (arith, nat_tests)
+
+wide_of : (cs text : List ℕ) (b : ℕ) → encode_utf8_all cs ≡ text → slice_get text 0 ≡ Some b → 128 ≤ b → Stops is_ascii (head cs)
+wide_of [] text b e f l = tt
+wide_of (c ∷ cs) text b e f l = elim (cases_lt c 128) [
+  | inl h ↦ (let g : text ≡ c ∷ encode_utf8_all cs = sym e ∙ ap (λ bs. bs ++ encode_utf8_all cs) (encode_ascii c h) in
+      let same : b ≡ c = some_same (sym f ∙ ap (λ t. slice_get t 0) g) in absurd (omega arith))
+  | inr h ↦ no_ascii c h
+]
+
+-- text that begins with another byte begins with a character that is not ASCII
+pub wide_first : (text : List ℕ) (b : ℕ) → IsUtf8 text → slice_get text 0 ≡ Some b → 128 ≤ b → Stops is_ascii (head (chars text))
+wide_first text b u e l = wide_of (chars text) text b (encodes-chars text u) e l

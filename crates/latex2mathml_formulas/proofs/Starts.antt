@@ -1,9 +1,9 @@
 -- What the reader takes from the slices that are left of a text, and what it leaves where it only looks.
-use Rattle.std.proofs.Common.{◌≡◌, ◌≢◌, ℕ, ◌+◌, ◌*◌, ◌^◌, ◌<◌, ◌≤◌, Bool, true, false, not, ◌&&◌, ◌||◌, List, [], ◌∷◌, ◌++◌, drop, drop-drop, length, refl, sym, ap, subst, ◌∙◌, Some, inl, inr, arith}
+use Rattle.std.proofs.Common.{◌≡◌, ◌≢◌, ℕ, ◌+◌, ◌*◌, ◌^◌, ◌<◌, ◌≤◌, Bool, true, false, not, ◌&&◌, ◌||◌, List, [], ◌∷◌, ◌++◌, drop, drop-drop, eqb, length, refl, sym, ap, subst, ◌∙◌, Some, inl, inr, arith}
 use Rattle.std.proofs.lemmas.Bool.{cases_Bool}
 use Rattle.std.proofs.lemmas.Bool.Decides.{nat_tests}
 use Rattle.std.proofs.lemmas.List.Elements.{All-cons, All-nil}
-use Rattle.std.specs.Str.{byte}
+use Rattle.std.specs.Str.{byte, chars}
 use Rattle.latex2mathml_formulas.specs.Characters.{◌∈◌, head, is_space}
 use Rattle.latex2mathml_formulas.specs.Counts.{backslash_count, backslashes}
 use Rattle.latex2mathml_formulas.specs.Cutting.{slice, slices_of}
@@ -13,6 +13,7 @@ use Rattle.latex2mathml_formulas.specs.Marks.{rest_of}
 use Rattle.latex2mathml_formulas.specs.Spelling.{Slice, SpellsAt, IsStep, begins_longer, character_token, takes_digit}
 use Rattle.latex2mathml_formulas.specs.Unread.{GoesOn, unread_in, token_list}
 use Rattle.latex2mathml_tokens.specs.Tok.{Tok}
+use Rattle.latex2mathml_formulas.proofs.Fronts.{no_bytes, no_characters}
 use Rattle.latex2mathml_formulas.proofs.Numbers.{true_false}
 use Rattle.latex2mathml_formulas.proofs.OneList.{Begun, begun, cut_end, cut_step}
 use Rattle.latex2mathml_formulas.proofs.Spellings.{one_character, only_space}
@@ -53,6 +54,11 @@ same_slices takes alone text (c ∷ cs) (space, run, e) =
 
 pub none_left : (takes alone : Bool) (text start : List ℕ) → IsStart takes text start alone → start ≡ [] → slices_of takes text ≡ []
 none_left takes alone text start (space, run, e) f = cut_end takes text (only_space text space start run f)
+
+-- an empty text has no token
+pub none_of_nothing : (takes : Bool) (text : List ℕ) → true ≡ eqb (length text) 0 → token_list (slices_of takes (chars text)) ≡ []
+none_of_nothing takes text e =
+    ap token_list (cut_end takes (chars text) (rw (no_characters text (no_bytes text e)) (All-nil (λ x. is_space x ≡ true))))
 
 -- a slice is taken, and n names were compared for it
 abbrev pub IsTaken : Bool → List ℕ → Tok → ℕ → Bool → List ℕ → Type 0

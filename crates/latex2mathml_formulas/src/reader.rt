@@ -14,7 +14,7 @@ pub(crate) mod characters;
 pub(crate) mod mark;
 mod slices;
 
-use crate::reader::characters::first_ascii;
+use crate::reader::characters::{first_ascii, is_space};
 use crate::reader::mark::{Mark, Sign};
 use crate::reader::slices::{character, command, find_start, slice_at, stands_alone, takes_digit};
 use latex2mathml_tokens::lexeme::Lexeme;
@@ -72,6 +72,9 @@ impl<'a> Reader<'a> {
         ensures ended { lexeme_tok result ≡ EOF → self.old.list ≡ [] }
         ensures counts { GoesOn self.old self.new }
     {
+        if self.rest.is_empty() {
+            return Lexeme::EOF;
+        }
         // Most lexemes are one ASCII character that stands for itself.
         if let Some((c, after)) = first_ascii(self.rest) {
             if stands_alone(c) {
@@ -215,7 +218,26 @@ impl<'a> Reader<'a> {
     }
 
     /// Returns the first character of the next lexeme, if one is left, and skips the white space before it.
+    #[inline(always)]
     fn first_char(&mut self) -> Option<char>
+        ensures sight { IsSeen result self.old.list }
+        ensures same { self.new ≡ self.old }
+    {
+        if self.rest.is_empty() {
+            return None;
+        }
+        // Most often no white space stands before it.
+        if let Some((c, _)) = first_ascii(self.rest) {
+            if !is_space(c) {
+                return Some(c);
+            }
+        }
+        self.find_first_char()
+    }
+
+    /// The same, also where white space or a character that is not ASCII stands next.
+    #[inline(never)]
+    fn find_first_char(&mut self) -> Option<char>
         ensures sight { IsSeen result self.old.list }
         ensures same { self.new ≡ self.old }
     {

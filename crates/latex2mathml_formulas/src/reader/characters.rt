@@ -1,5 +1,6 @@
 //! A text, character by character and run by run.
-ghost use Rattle.std.specs.Prelude.{◌≡◌, ◌∷◌, ◌==◌, ◌++◌, ℕ, [], List, IfSome, MatchOption};
+ghost use Rattle.std.specs.Prelude.{◌≡◌, ◌∷◌, ◌==◌, ◌++◌, ℕ, [], List, IfNone, IfSome, MatchOption};
+ghost use Rattle.std.specs.Char.{is_ascii};
 ghost use Rattle.std.specs.Str.{chars, encode_utf8_all, IsUtf8};
 ghost use Rattle.latex2mathml_formulas.specs.Characters;
 ghost use Rattle.latex2mathml_formulas.specs.Characters.{Stops, head};
@@ -39,6 +40,7 @@ pub(crate) fn is_space(c: char) -> bool
 #[inline(always)]
 pub(crate) fn first_ascii(text: &str) -> Option<(char, &str)>
     ensures first { IfSome result (λ found. chars text.now ≡ found.0 ∷ chars found.1.now) }
+    ensures none { IfNone result (Stops is_ascii (head (chars text.now))) }
     ensures utf8 { IfSome result (λ found. IsUtf8 found.1.now) }
 {
     let Some(&byte) = text.as_bytes().first() else {
@@ -60,6 +62,7 @@ pub(crate) fn first_char(text: &str) -> Option<(char, &str)>
 {
     match first_ascii(text) {
         Some(found) => Some(found),
+        None if text.is_empty() => None,
         None => decode(text),
     }
 }
@@ -87,7 +90,8 @@ pub(crate) fn after_char(text: &str, c: char) -> Option<&str>
     if first == c { Some(rest) } else { None }
 }
 
-/// What stands behind the longest run of characters of a class at the start of the text.
+/// What stands behind the longest run of characters of a class at the start of the text. All classes are of ASCII
+/// characters.
 #[inline(always)]
 pub(crate) fn skip_run(class: Class, text: &str) -> &str
     ensures run { (front : List ℕ) ×
@@ -95,7 +99,7 @@ pub(crate) fn skip_run(class: Class, text: &str) -> &str
     ensures utf8 { IsUtf8 result.now }
 {
     let mut rest = text;
-    while let Some((c, after)) = first_char(rest) {
+    while let Some((c, after)) = first_ascii(rest) {
         if !class.contains(c) {
             return rest;
         }

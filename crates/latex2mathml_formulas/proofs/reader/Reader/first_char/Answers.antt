@@ -1,17 +1,9 @@
-use Rattle.std.proofs.Common.{◌∙◌, ap}
-use Rattle.latex2mathml_formulas.specs.Unread.{unread_in}
-use Rattle.latex2mathml_formulas.proofs.Sights.{seen, nothing_seen}
-use Rattle.latex2mathml_formulas.proofs.Starts.{same_slices}
+use Rattle.latex2mathml_formulas.proofs.Sights.{seen}
+use Rattle.latex2mathml_formulas.proofs.Starts.{none_of_nothing, starts_here}
 use Rattle.latex2mathml_formulas.proofs.reader.Reader.first_char.Goals as goal
 
-pub returns-in_default-clause-sight : goal.returns-in_default-clause-sight
-returns-in_default-clause-sight c = rw (← c.self.view_is) (nothing_seen _ _ _ _ c.find_start-start.ensures.start (rw c.in_default.is at c.find_start-start.ensures.first))
+pub returns-then-is_empty-clause-sight : goal.returns-then-is_empty-clause-sight
+returns-then-is_empty-clause-sight c = rw (← c.self.view_is) (none_of_nothing _ _ c.if-is_empty.ensures)
 
-pub returns-in_default-clause-same : goal.returns-in_default-clause-same
-returns-in_default-clause-same c = ap (λ ss. unread_in ss c.self.inside.tokens c.self.inside.comparisons) (same_slices _ _ _ _ c.find_start-start.ensures.start) ∙ c.self.view_is
-
-pub returns-clause-sight : goal.returns-clause-sight
-returns-clause-sight c = rw (← c.self.view_is) (seen _ _ _ _ _ _ c.find_start-start.ensures.start (rw c.in-Some.is at c.find_start-start.ensures.first))
-
-pub returns-clause-same : goal.returns-clause-same
-returns-clause-same c = ap (λ ss. unread_in ss c.self.inside.tokens c.self.inside.comparisons) (same_slices _ _ _ _ c.find_start-start.ensures.start) ∙ c.self.view_is
+pub returns-then-not-is_space-clause-sight : goal.returns-then-not-is_space-clause-sight
+returns-then-not-is_space-clause-sight c = rw (← c.self.view_is) (seen _ _ _ _ c.in-Some.c _ (starts_here _ _ c.in-Some.c _ c.in-Some.ensures.first (cc)) c.in-Some.ensures.first)
