@@ -143,7 +143,7 @@ impl<'a> Parser<'a> {
         if self.frames.due().ends_at(lexeme) {
             return self.close();
         }
-        self.begin(lexeme)
+        self.begin_any(lexeme)
     }
 
     /// What is due where no token is left: an open group is refused, and any other part is `EOF`, marked as an error.

@@ -26,6 +26,21 @@ use latex2mathml_tokens::token::Token;
 use std::alloc::AllocError;
 
 impl<'a> Parser<'a> {
+    /// Begins the rule of a lexeme that was taken where a core is due. Most are leaves, which need no look at the other
+    /// rules.
+    #[inline(always)]
+    pub(crate) fn begin_any(&mut self, lexeme: Lexeme<'a>) -> Result<State, AllocError>
+        requires { HasTrees 0 self.old }
+        ensures holds { (input : List Tok) → GoesOnBy (rule (lexeme_tok lexeme.entry)) 0 input self.old → IfOk result (Holds input self.new) }
+        ensures counted { Counted (opens (lexeme_tok lexeme.entry)) self.old self.new }
+        ensures follows { IfOk result (Follows (to_do self.old + 13) self.new) }
+    {
+        match symbol(lexeme) {
+            Some(leaf) => self.leaf(leaf),
+            None => self.begin(lexeme),
+        }
+    }
+
     /// Begins the rule of a lexeme that was taken where a core is due. An operator that is stretched begins with the lexeme
     /// behind `\middle`, which the frame keeps, because a refusal names it.
     pub(crate) fn begin(&mut self, lexeme: Lexeme<'a>) -> Result<State, AllocError>

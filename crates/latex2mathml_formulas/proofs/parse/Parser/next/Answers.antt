@@ -16,7 +16,7 @@ returns c =
     let found : p.reader.list ≡ lexeme_tok t ∷ to = stood t p.reader.list to c.in_default.not-EOF c.take-lexeme.ensures.token c.take-lexeme.ensures.list in
     let shorter = ap length found in
     record {
-      holds = λ input k. c.begin.ensures.holds input (token_begun input p.frames.stack.items (trees_in p.parts) p.reader.list to (lexeme_tok t) (no_end c.due.result p.frames.stack.items p.reader.list to (lexeme_tok t) c.due.ensures found c.if-ends_at.ensures) found k);
-      counted = counted_taken (lexeme_tok t) p _ _ found c.take-lexeme.ensures.counts refl c.begin.ensures.counted;
-      follows = follows_within c.begin.result c.begin.new.self _ _ (omega arith) c.begin.ensures.follows;
+      holds = λ input k. c.begin_any.ensures.holds input (token_begun input p.frames.stack.items (trees_in p.parts) p.reader.list to (lexeme_tok t) (no_end c.due.result p.frames.stack.items p.reader.list to (lexeme_tok t) c.due.ensures found c.if-ends_at.ensures) found k);
+      counted = counted_taken (lexeme_tok t) p _ _ found c.take-lexeme.ensures.counts refl c.begin_any.ensures.counted;
+      follows = follows_within c.begin_any.result c.begin_any.new.self _ _ (omega arith) c.begin_any.ensures.follows;
     }
