@@ -87,7 +87,7 @@ impl<'a> Parser<'a> {
 
     /// Goes on until the node of the formula is read, or the formula is refused. Returns whether the node is read: it is
     /// the last tree then.
-    #[inline(never)]
+    #[inline(always)]
     pub(crate) fn finish(&mut self, begun: State) -> Result<bool, AllocError>
         requires { HasTrees (trees_of_state begun) self.old }
         ensures node { (input : List Tok) → Holds input self.old begun → IfOk result (λ read. Holds input self.new (end_of read)) }

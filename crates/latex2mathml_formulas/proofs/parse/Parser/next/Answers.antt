@@ -1,8 +1,6 @@
-use Rattle.std.proofs.Common.{◌≡◌, ◌∷◌, ◌+◌, ◌≤◌, length, refl, ap, arith}
-use Rattle.latex2mathml_formulas.specs.Steps.{to_do, work}
+use Rattle.std.proofs.Common.{◌≡◌, ◌∷◌, length, refl, ap, arith}
 use Rattle.latex2mathml_parts.specs.Parts.{trees_in}
 use Rattle.latex2mathml_tokens.specs.Lexemes.{lexeme_tok}
-use Rattle.latex2mathml_formulas.specs.declared.parse.State.TheVariants as state
 use Rattle.latex2mathml_formulas.proofs.Beginning.{stood}
 use Rattle.latex2mathml_formulas.proofs.Stacks.{no_end, token_begun}
 use Rattle.latex2mathml_formulas.proofs.Stepping.{counted_taken, follows_within}
