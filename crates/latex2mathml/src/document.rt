@@ -55,6 +55,7 @@ impl<'a> Iterator for Pieces<'a> {
 
     ghost remaining = { λ pieces. at_most (length pieces.rest.now) };
 
+    #[inline(always)]
     fn next(&mut self) -> Option<Result<Piece<'a>, NoCut>> {
         if self.rest.is_empty() {
             return None;
@@ -73,6 +74,7 @@ impl<'a> Iterator for Pieces<'a> {
 }
 
 /// The piece at the front of a text that is not empty, and the rest.
+#[inline(always)]
 fn first_piece(text: &str) -> Option<(Piece<'_>, &str)>
     requires { text.now ≢ [] }
     ensures piece { IfSome result (λ found. BeginsWithPiece text.now (piece_of found.0) found.1.now) }
@@ -96,6 +98,7 @@ fn first_piece(text: &str) -> Option<(Piece<'_>, &str)>
 }
 
 /// The text up to its first dollar sign that no backslash takes, and the text from there on.
+#[inline(always)]
 fn until_dollar(text: &str) -> (Plain<'_>, &str)
     ensures joined { result.0.text.now ++ result.1.now ≡ text.now }
     ensures plain { IsPlain result.0.text.now }
@@ -114,6 +117,7 @@ fn until_dollar(text: &str) -> (Plain<'_>, &str)
 }
 
 /// The text up to its first dollar sign, and the text from there on.
+#[inline(always)]
 fn up_to_dollar(text: &str) -> (&str, &str)
     ensures joined { result.0.now ++ result.1.now ≡ text.now }
     ensures free { IsDollarFree result.0.now }
