@@ -11,7 +11,7 @@ refused_more : (told : Option Refusal) (P Q : Refusal → Type 0) → ((refusal 
 refused_more None P Q more h = tt
 refused_more (Some refusal) P Q more h = more refusal h
 
--- the answer of a piece behind those of the pieces before it
+-- the answer of a piece after those of the pieces before it
 pub one_more_answer : (pieces : List Piece) (piece : Piece) (answer made new : List ℕ) → PiecesAnswer pieces answer → PieceAnswer piece made → new ≡ answer ++ made → PiecesAnswer (pieces ++ piece ∷ []) new
 one_more_answer [] piece answer made new a b e = (made, [], b, refl, e ∙ ap (λ l. l ++ made) a ∙ sym (append-nil made))
 one_more_answer (first ∷ pieces) piece answer made new (x, y, a, c, d) b e =

@@ -87,7 +87,7 @@ one_cut_lem (p ∷ ps) qs text c d =
     let on = first_forced text p (spelling ps) qs (begins_with_first text p ps c) d in
     ap (λ l. p ∷ l) (one_cut_lem ps on.0 (spelling ps) (record { well_formed = c.well_formed.2; spelled = refl }) on.2) ∙ sym on.1
 
--- behind two dollar signs stands no body that two dollar signs end
+-- after two dollar signs stands no body that two dollar signs end
 pub no_display : (text inside body end : List ℕ) → text ≡ 36 ∷ 36 ∷ inside → body ++ end ≡ inside → IsPlain body → EndsBefore body end → (body ≡ []) ⊎ ((rest : List ℕ) → end ≢ 36 ∷ 36 ∷ rest) → HasCut text → ⊥
 no_display text inside body end e j p s n (ps, c) = go ps c.well_formed (c.spelled ∙ e)
   where
@@ -102,7 +102,7 @@ no_display text inside body end e j p s n (ps, c) = go ps c.well_formed (c.spell
         let ends = plain_ends_once u body (36 ∷ 36 ∷ spelling ps) end (body_plain u w.0) p (body_ends u (36 ∷ spelling ps) w.0) s (sym (append_assoc u (36 ∷ 36 ∷ []) (spelling ps)) ∙ q' ∙ sym j) in
         ⊎_elim (λ nothing. w.0.0 (ends.0 ∙ nothing)) (λ other. other (spelling ps) (sym ends.1)) n
 
--- behind a lone dollar sign stands no body that a dollar sign ends
+-- after a lone dollar sign stands no body that a dollar sign ends
 pub no_inline : (text inside body end : List ℕ) → text ≡ 36 ∷ inside → ((rest : List ℕ) → text ≢ 36 ∷ 36 ∷ rest) → body ++ end ≡ inside → IsPlain body → EndsBefore body end → ((rest : List ℕ) → end ≢ 36 ∷ rest) → HasCut text → ⊥
 no_inline text inside body end e lone j p s n (ps, c) = go ps c.well_formed (c.spelled ∙ e)
   where

@@ -51,7 +51,7 @@ even_whole front (b ∷ text) e (single n m w) = subst IsEven (append_assoc fron
 even_whole front (b ∷ c ∷ text) e (pair is w) =
     subst IsEven (append_assoc (front ++ b ∷ []) (c ∷ []) text ∙ append_assoc front (b ∷ []) (c ∷ text)) (even_whole ((front ++ b ∷ []) ++ c ∷ []) text (even_two front b c is e) w)
 
--- a piece behind which another unit may stand
+-- a piece after which another unit may stand
 abbrev IsOpen : Piece → Type 0
 IsOpen (prose t) = IsWhole t
 IsOpen p = Unit {0}

@@ -48,7 +48,7 @@ whole_ends_once (a ∷ c ∷ x) (b ∷ d ∷ y) u v (pair is w) (pair is' w') e 
     let l : (a ∷ c ∷ x) ≡ (b ∷ d ∷ y) = cc (both.0) in
     (l, both.1)
 
--- whole units hold no dollar sign behind whole units
+-- whole units hold no dollar sign after whole units
 never_whole : (x y v : List ℕ) → IsWhole x → IsWhole y → x ≡ y ++ 36 ∷ v → ⊥
 never_whole [] [] v nothing nothing e = cc
 never_whole [] (b ∷ y) v nothing w e = cc
@@ -58,7 +58,7 @@ never_whole (a ∷ x) (b ∷ c ∷ y) v (single n m w) (pair is w') e = m (let k
 never_whole (a ∷ c ∷ x) (b ∷ y) v (pair is w) (single n m w') e = m (let k : a ≡ b = cc in sym k ∙ is)
 never_whole (a ∷ c ∷ x) (b ∷ d ∷ y) v (pair is w) (pair is' w') e = never_whole x y v w w' (cc)
 
--- nor do those with a lone backslash behind them
+-- nor do those with a lone backslash after them
 never_lone : (x y v : List ℕ) → IsWhole x → IsWhole y → x ++ 92 ∷ [] ≡ y ++ 36 ∷ v → ⊥
 never_lone [] [] v nothing nothing e = let k : ◌≡◌ {A = ℕ} 92 36 = cc in omega arith
 never_lone [] (b ∷ []) v nothing w e = cc

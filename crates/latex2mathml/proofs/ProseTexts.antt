@@ -21,7 +21,7 @@ answer_pair_other : (b c : ℕ) (text : List ℕ) → b ≡ backslash → c ≢ 
 answer_pair_other b c text is n =
     answer_pair b c text is ∙ ap (λ l. l ++ prose_answer text) (pair_other c n) ∙ ap (λ d. d ∷ c ∷ prose_answer text) (sym is)
 
--- whole units, and prose behind them
+-- whole units, and prose after them
 pub prose_append : (t u : List ℕ) → IsWhole t → prose_answer (t ++ u) ≡ prose_answer t ++ prose_answer u
 prose_append [] u nothing = refl
 prose_append (b ∷ t) u (single n m w) =
@@ -63,7 +63,7 @@ free_stays (b ∷ c ∷ text) h =
     ⊎_elim (λ is. answer_pair_other b c text is (no_dollar c (free_first c text more)) ∙ ap (λ l. b ∷ c ∷ l) (free_stays text (free_rest c text more)))
     (λ m. answer_single b (c ∷ text) m ∙ ap (λ l. b ∷ l) (free_stays (c ∷ text) more)) (backslash_or_other b)
 
--- before the place n stands no backslash with a dollar sign behind it
+-- before the place n stands no backslash with a dollar sign after it
 abbrev Lacks : ℕ → List ℕ → Type 0
 Lacks n text = (i : ℕ) → i < n → (rest : List ℕ) → drop i text ≢ 92 ∷ 36 ∷ rest
 
@@ -78,7 +78,7 @@ stays (b ∷ c ∷ text) h =
     ⊎_elim (λ is. answer_pair_other b c text is (lacks_second b c text is (h 0 (omega arith))) ∙ ap (λ l. b ∷ c ∷ l) (stays text (λ i lt. h (suc (suc i)) (omega arith))))
     (λ m. answer_single b (c ∷ text) m ∙ ap (λ l. b ∷ l) (stays (c ∷ text) (λ i lt. h (suc i) (omega arith)))) (backslash_or_other b)
 
--- plain text up to its first backslash with a dollar sign behind it stays
+-- plain text up to its first backslash with a dollar sign after it stays
 abbrev GoesOnAt : List ℕ → List ℕ → Type 0
 GoesOnAt x y = IsPlain y × (prose_answer (x ++ 92 ∷ 36 ∷ y) ≡ x ++ (codes "&#x24;" ++ prose_answer y))
 

@@ -30,7 +30,7 @@ abbrev pub spelling : List Piece → List ℕ
 spelling [] = []
 spelling (piece ∷ pieces) = piece_text piece ++ spelling pieces
 
--- Text is read unit by unit, from left to right: a backslash takes the character behind it with it, whatever that is, and
+-- Text is read unit by unit, from left to right: a backslash takes the character after it with it, whatever that is, and
 -- any other character is a unit by itself. A dollar sign begins or ends a formula where it is a unit. A backslash may take
 -- the first byte of a longer character here, since no further byte of that is a dollar sign or a backslash.
 
@@ -62,7 +62,7 @@ MayFollow (prose text) (prose next ∷ pieces) = ⊥
 MayFollow (prose text) (formula ∷ pieces) = IsWhole text
 MayFollow piece pieces = Unit {0}
 
--- each is a piece that may stand before the ones behind it
+-- each is a piece that may stand before the ones after it
 abbrev pub ArePieces : List Piece → Type 0
 ArePieces [] = Unit {0}
 ArePieces (piece ∷ pieces) = IsPiece piece × MayFollow piece pieces × ArePieces pieces

@@ -51,7 +51,7 @@ pub record IsFront (document : List ℕ) (given : List Piece) (rest : List ℕ) 
   pub goes_on : (later : List Piece) → IsCut rest later → IsCut document (given ++ later)
   pub only : (pieces : List Piece) → IsCut document pieces → (later : List Piece) × (pieces ≡ given ++ later) × IsCut rest later
 
--- what was given behind these pieces: pieces up to the rest, or at last that the document has no cut
+-- what was given after these pieces: pieces up to the rest, or at last that the document has no cut
 abbrev pub GivenBehind : List ℕ → List Piece → List Item → List ℕ → Type 0
 GivenBehind document before [] rest = IsFront document before rest
 GivenBehind document before (Ok piece ∷ given) rest = GivenBehind document (before ++ piece_of piece ∷ []) given rest

@@ -15,7 +15,7 @@ use std::rt::Files;
 /// A file or a directory that was not converted, and why.
 #[derive(Debug, Drop, PartialEq)]
 pub struct Unconverted {
-    /// The path that was handed in, and behind it the names that lead to the file or the directory.
+    /// The path that was handed in, and after it the names that lead to the file or the directory.
     pub path: String,
     pub fault: FileFault,
 }

@@ -27,7 +27,7 @@ AskFor job words = words ≡ word_of job ∷ []
 abbrev pub AskForNoJob : List (List ℕ) → Type 0
 AskForNoJob words = (job : Job) → ¬ AskFor job words
 
--- the words ask for the files under the path: the path stands behind the word `html`, and no other word beside them
+-- the words ask for the files under the path: the path stands after the word `html`, and no other word beside them
 abbrev pub AskForFiles : List ℕ → List (List ℕ) → Type 0
 AskForFiles path words = words ≡ codes "html" ∷ path ∷ []
 

@@ -71,7 +71,7 @@ pub rendered : (text : List ℕ) (display : DisplayStyle) (l : List Tok) (r : Re
 rendered text display l (Ok markup) e h = rendering text display l (string_bytes markup) h.0 e h.1 h.2
 rendered text display l (Err error) e h = tt
 
--- the markup of a text's tokens behind what was there is that of the text
+-- the markup of a text's tokens after what was there is that of the text
 pub appended : (text : List ℕ) (display : DisplayStyle) (l : List Tok) (old new : List ℕ) (r : Result Unit LatexError) → l ≡ token_list (slices_of false (chars text)) → OnOk r ((xs : List Tree) × ReadsFormula l xs × (new ≡ old ++ math_print display xs)) → OnOk r ((markup : List ℕ) × IsRendering text display markup × (new ≡ old ++ markup))
 appended text display l old new (Ok done) e h = (math_print display h.0, rendering text display l (math_print display h.0) h.0 e h.1 refl, h.2)
 appended text display l old new (Err error) e h = tt

@@ -25,10 +25,10 @@ abbrev pub behind : List Tree → Outcome (List Tree) → Outcome (List Tree)
 behind xs (Read ys rest) = Read (xs ++ ys) rest
 behind xs (Refused r) = Refused r
 
--- Nodes of the formula were read, down to the tokens that are left, and their prints stand behind what was there.
+-- Nodes of the formula were read, down to the tokens that are left, and their prints stand after what was there.
 pub record Appends (input place : List Tok) (old new : List ℕ) : Type 0 where
   pub nodes : List Tree
-  -- whatever the tokens that are left come to, the formula comes to that behind the nodes
+  -- whatever the tokens that are left come to, the formula comes to that after the nodes
   pub leads : (o : Outcome (List Tree)) → ReadsAll None place o → ReadsAll None input (behind nodes o)
   pub are : AreNodes input place
   pub text : new ≡ old ++ prints (trees_of nodes)
@@ -143,13 +143,13 @@ pub leaf_begun : (input place to : List Tok) (fs : List Frame) (ts : List Tree) 
 leaf_begun input place to fs ts t x none same kept is =
     subst (λ l. Made core (inside input fs ts) (Read x l)) (sym kept) (node_begun input place fs ts t none same _ (gives_read (rule t) x place is))
 
--- .. behind which no mark stands
+-- .. after which no mark stands
 pub leaf_read : (input place to : List Tok) (t : Tok) (x : Tree) (mark : Option Mark) → input ≡ t ∷ place → to ≡ place → rule t ≡ gives x → mark ≡ None → MarkStands mark (first place) → Reads node input (Read x to)
 leaf_read input place to t x mark same kept is none stands =
     let no_mark = subst (λ m. MarkStands m (first place)) none stands in
     subst (λ l. Reads node input (Read x l)) (sym kept) (lone_node t x input place same is no_mark.0 no_mark.1 no_mark.2)
 
--- all nodes stand between what was written before them and what is written behind them
+-- all nodes stand between what was written before them and what is written after them
 pub finished : (input place : List Tok) (old new before after a c : List ℕ) → place ≡ [] → before ≡ old ++ a → Appends input place before after → new ≡ after ++ c → (xs : List Tree) × ReadsFormula input xs × (new ≡ old ++ (a ++ (prints (trees_of xs) ++ c)))
 finished input place old new before after a c e f so_far g =
     let all = all_nodes input place before after e so_far in

@@ -56,7 +56,7 @@ seen_begun l (u ∷ us) to t may e same k =
     subst (λ v. RuleLeads (rule v) (Made core l) to) (sym e)
     (subst (λ ts. RuleLeads (rule u) (Made core l) ts) (sym same) (begun l (u ∷ us) us u (may (u ∷ us)) refl k))
 
--- the lexeme behind `\middle` is seen, and begins the operator
+-- the lexeme after `\middle` is seen, and begins the operator
 pub stretch_begun : (input : List Tok) (fs gs : List Frame) (ts : List Tree) (got : Lexeme) (place to : List Tok) → gs ≡ fs ++ frame.Stretch got ∷ [] → lexeme_tok got ≡ first_or_end place → to ≡ rest_of place → RuleLeads (rule Middle) (Made core (inside input fs ts)) place → RuleLeads (rule (lexeme_tok got)) (Made core (inside input gs ts)) to
 stretch_begun input fs gs ts got place to on e same k =
     let l = inside input fs ts in

@@ -62,7 +62,7 @@ made_put s input fs us vs x place e k = subst (λ ws. Made s (inside input fs (d
 pub core_put : (input : List Tok) (fs : List Frame) (us vs : List Tree) (x : Tree) (place : List Tok) → us ≡ x ∷ vs → Made core (inside input fs vs) (Read x place) → Made core (inside input fs (drop 1 us)) (Read (top us) place)
 core_put input fs us vs x place e k = made_put core input fs us vs x place e k
 
--- a part is put behind its operands
+-- a part is put after its operands
 pub combined : (input : List Tok) (fs : List Frame) (k : Kind) (ts us : List Tree) (place : List Tok) → us ≡ put k ts → Made core (inside input fs (drop (arity k) ts)) (Read (top (put k ts)) place) → Made core (inside input fs (drop 1 us)) (Read (top us) place)
 combined input fs k ts us place e m =
     subst (λ ws. Made core (inside input fs (drop 1 ws)) (Read (top ws) place)) (sym e)

@@ -1,4 +1,4 @@
--- What goes on behind a part and behind the end of a group: second singles, fences, environments and their refusals.
+-- What goes on after a part and after the end of a group: second singles, fences, environments and their refusals.
 use Rattle.std.proofs.Common.{◌≡◌, ◌≢◌, ◌⊎◌, inl, inr, ℕ, suc, ◌+◌, ◌-◌, ◌≤◌, List, ◌∷◌, Bool, true, false, Option, Some, None, length, drop, take, reverse, refl, sym, ap, subst, ◌∙◌, arith}
 use Rattle.std.specs.Prelude.{MatchBool}
 use Rattle.latex2mathml_formulas.specs.Frames.{after_first, inside, one_of_pair, pair_sign, two_of_pair, unfit, within}
@@ -56,7 +56,7 @@ arity_of_two (pair.BigOp c Sup) = refl
 arity_of_two (pair.Integral c Sub) = refl
 arity_of_two (pair.Integral c Sup) = refl
 
--- the sign stands behind the first single, and the second is due
+-- the sign stands after the first single, and the second is due
 pub second_due : (input : List Tok) (fs : List Frame) (p : Pair) (k : Kind) (ts : List Tree) (place to : List Tok) → k ≡ two_of_pair p → 1 ≤ length ts → place ≡ sign_token (pair_sign p) ∷ to → RuleLeads (after_first p (drop 1 ts) (top ts)) (Made core (inside input fs (drop 1 ts))) place → Leads (within input fs (frame.Last k) ts) to
 second_due input fs p k ts place to is h stood m =
     let l = inside input fs (drop 1 ts) in
@@ -114,7 +114,7 @@ plus_one n ts us x e =
     let same : suc n ≡ n + 1 = omega arith in
     subst (λ m. us ≡ x ∷ drop m ts) same e
 
--- the name behind the members is passed over
+-- the name after the members is passed over
 behind_name : (input : List Tok) (fs : List Frame) (n : ℕ) (ts : List Tree) (place to : List Tok) → (bytes : List ℕ) × NameStands bytes place to → RuleLeads (after_environment_members (name_of n ts) (reverse (take n ts))) (Made core (inside input fs (drop (n + 1) ts))) place → RuleLeads (environment (name_of n ts) (environment_of n ts)) (Made core (inside input fs (drop (n + 1) ts))) to
 behind_name input fs n ts place to name m =
     named (λ again. environment (name_of n ts) (environment_of n ts)) (Made core (inside input fs (drop (n + 1) ts))) name.0 place to name.1 m

@@ -12,7 +12,7 @@ use Rattle.latex2mathml_formulas.specs.Spelling.{SpellsAt, IsNumber, is_period, 
 use Rattle.latex2mathml_formulas.proofs.Counting.{count_yes, count_no}
 use Rattle.latex2mathml_tokens.specs.Tok.{Tok, Command, Operator}
 
--- a run of characters that pass the test, and what stands behind it
+-- a run of characters that pass the test, and what stands after it
 pub run_whole : (p : ℕ → Bool) (w rest : List ℕ) → Each p w → Stops p (head rest) → run_of p (w ++ rest) ≡ w
 run_whole p [] [] each stops = refl
 run_whole p [] (r ∷ rest) each stops = rw stops refl

@@ -13,7 +13,7 @@ use Rattle.latex2mathml_formulas.specs.Characters.{Stops, head}
 some_same : {x y : ℕ} → Some x ≡ Some y → x ≡ y
 some_same e = cc
 
--- a text that begins with an ASCII byte may be cut behind it
+-- a text that begins with an ASCII byte may be cut after it
 pub cut_after_first : (text : List ℕ) (b : ℕ) → IsUtf8 text → slice_get text 0 ≡ Some b → b < 128 → IsCharBoundary text 1
 cut_after_first [] b u e l = absurd cc
 cut_after_first (x ∷ xs) b u e l = IsCharBoundary-after_ascii (x ∷ xs) 0 u (omega arith) (subst (λ y. y < 128) (sym (some_same e)) l)

@@ -55,7 +55,7 @@ module _ (P : Property) (kept : IsKept P) where
   next [] h = kept.at_end
   next (t ∷ l) h = h.0
 
-  -- what stands behind letters
+  -- what stands after letters
   behind : (cs : List ℕ) (l m : List Tok) → AreLetters cs l m → AllTokens P l → AllTokens P m
   behind [] l m d h = subst (AllTokens P) d.0 h
   behind (c ∷ cs) l m d h =

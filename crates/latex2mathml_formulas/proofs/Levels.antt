@@ -290,7 +290,7 @@ unmarked (Some mark) l m h same stands = absurd cc
 pub gives_read : (r : Rule) (x : Tree) (place : List Tok) → r ≡ gives x → ReadsRule r place (Read x place)
 gives_read r x place is = subst (λ k. ReadsRule k place (Read x place)) (sym is) rule_gives
 
--- a token without parts, behind which no mark stands, is a node
+-- a token without parts, after which no mark stands, is a node
 pub lone_node : (t : Tok) (x : Tree) (l place : List Tok) → l ≡ t ∷ place → rule t ≡ gives x → first place ≢ Some prime → first place ≢ Some Underscore → first place ≢ Some Circumflex → Reads node l (Read x place)
 lone_node t x l place stood is h i j =
     subst (λ k. Reads node k (Read x place)) (sym stood)

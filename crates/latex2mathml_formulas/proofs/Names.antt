@@ -49,6 +49,6 @@ pub none_first : (x : Lexeme) (l : List Tok) → lexeme_tok x ≡ first_or_end l
 none_first x [] e h = refl
 none_first x (t ∷ ts) e h = ap letter_of (sym e) ∙ no_letter x h
 
--- letters of a name, and the token behind them
+-- letters of a name, and the token after them
 pub name_taken : (bytes : List ℕ) (old place new : List Tok) → first_letter place ≡ None → new ≡ rest_of place → AreTaken bytes (rest_of old) place → NameStands bytes old new
 name_taken bytes old place new h passed k = (place, all_taken bytes (rest_of old) place place h refl k, passed)

@@ -1,4 +1,4 @@
--- A run of digits, and one with a period and a further run behind it, are numbers.
+-- A run of digits, and one with a period and a further run after it, are numbers.
 use Rattle.std.proofs.Common.{◌≡◌, ℕ, ◌+◌, Bool, true, false, List, [], ◌∷◌, ◌++◌, refl, sym, ap, subst, ◌∙◌, arith}
 use Rattle.std.proofs.lemmas.Bool.Decides.{nat_tests}
 use Rattle.std.specs.Char.{is_ascii_digit}

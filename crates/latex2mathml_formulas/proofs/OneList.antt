@@ -19,7 +19,7 @@ use Rattle.latex2mathml_formulas.proofs.Numbers.{number_whole, number_parts}
 use Rattle.latex2mathml_formulas.proofs.Spellings.{only_space}
 use Rattle.latex2mathml_formulas.proofs.Tokenizing.{step_shortens}
 
--- a text splits behind its longest run
+-- a text splits after its longest run
 split : (p : ℕ → Bool) (text : List ℕ) → (front : List ℕ) × (back : List ℕ) × IsLongestRun p text front back
 split p [] = ([], [], (refl, All-nil (λ x. p x ≡ true), tt))
 split p (c ∷ cs) = elim (cases_Bool (p c)) [

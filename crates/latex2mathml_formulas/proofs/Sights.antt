@@ -1,4 +1,4 @@
--- The first character of a text, behind white space, shows whether the first token is a prime, a sign or an opening bracket.
+-- The first character of a text, after white space, shows whether the first token is a prime, a sign or an opening bracket.
 use Rattle.std.proofs.Common.{◌≡◌, ◌≢◌, ◌⊎◌, inl, inr, ℕ, Bool, true, false, not, ◌&&◌, ◌==◌, List, [], ◌∷◌, ◌++◌, codes, Option, Some, None, unwrap_or, refl, sym, ap, subst, ◌∙◌, cond, nat_eq, arith}
 use Rattle.std.proofs.lemmas.Bool.{and_parts, both_ways}
 use Rattle.std.proofs.lemmas.Bool.Decides.{nat_tests}

@@ -1,4 +1,4 @@
--- What is read is a slice of the tokens, with the rest behind it; and what is refused is refused behind such slices.
+-- What is read is a slice of the tokens, with the rest after it; and what is refused is refused after such slices.
 use Rattle.std.proofs.Common.{◌≡◌, ◌≢◌, ◌∙◌, ℕ, List, [], ◌∷◌, ◌++◌, length, map, Option, Some, None, refl, sym, ap, subst, append_assoc, arith}
 use Rattle.std.proofs.lemmas.List.{append_cancel_right}
 use Rattle.latex2mathml_trees.specs.Productions.{prime_mark}
@@ -10,7 +10,7 @@ use Rattle.latex2mathml_tokens.specs.Tok.{Tok, EOF, Underscore, Circumflex}
 use Rattle.latex2mathml_trees.specs.Tree.{Tree, subscript, superscript}
 use Rattle.latex2mathml_formulas.proofs.Total.{some_taken}
 
--- what is read of a part is a slice, and what is refused is refused behind slices
+-- what is read of a part is a slice, and what is refused is refused after slices
 pub data PartBySlices : Sort → List Tok → Outcome Tree → Type 0 where
   part_slice : {s : Sort} {l w f : List Tok} {x : Tree} → l ≡ w ++ f → IsPart s w f x → PartBySlices s l (Read x f)
   part_refusal : {s : Sort} {l : List Tok} {r : Refusal} → PartRefuses s l r → PartBySlices s l (Refused r)
@@ -27,7 +27,7 @@ pub data AllBySlices : Option Tok → List Tok → Outcome (List Tree) → Type 
   formula_slice : {l : List Tok} {xs : List Tree} → AreNodes l xs → AllBySlices None l (Read xs [])
   formula_refusal : {l : List Tok} {r : Refusal} → FormulaRefuses l r → AllBySlices None l (Refused r)
 
--- two slices, one after the other, and the rest behind them
+-- two slices, one after the other, and the rest after them
 joined : (u v f : List Tok) {l m : List Tok} → l ≡ u ++ m → m ≡ v ++ f → l ≡ (u ++ v) ++ f
 joined u v f e p = e ∙ ap (λ k. u ++ k) p ∙ sym (append_assoc u v f)
 
@@ -39,7 +39,7 @@ part_before {s} {w} {x = x} e d = subst (λ k. IsPart s w k x) e d
 members_before : {end : Tok} {w f g : List Tok} {xs : List Tree} → f ≡ g → AreMembers end w f xs → AreMembers end w g xs
 members_before {end} {w} {xs = xs} e d = subst (λ k. AreMembers end w k xs) e d
 
--- letters at the front of the tokens, and no letter behind them
+-- letters at the front of the tokens, and no letter after them
 record LetterSlice (cs : List ℕ) (l m : List Tok) : Type 0 where
   letters : List Tok
   before : l ≡ letters ++ m
@@ -63,7 +63,7 @@ by_rule : (t : Tok) {l : List Tok} {o : Outcome Tree} → RuleBySlices (rule t) 
 by_rule t (rule_slice e d) = part_slice (ap (λ k. t ∷ k) e) (core_by_rule d)
 by_rule t (rule_refusal d) = part_refusal (core_refuses d)
 
--- a core as a single, where no prime stands behind it
+-- a core as a single, where no prime stands after it
 unprimed : {l m : List Tok} {x : Tree} → first m ≢ Some prime → PartBySlices core l (Read x m) → PartBySlices single l (Read x m)
 unprimed h (part_slice e d) = part_slice e (without_prime d h)
 
@@ -71,7 +71,7 @@ unprimed h (part_slice e d) = part_slice e (without_prime d h)
 primed : {l m f : List Tok} {x : Tree} → m ≡ prime ∷ f → PartBySlices core l (Read x m) → PartBySlices single l (Read (superscript x prime_mark) f)
 primed {f = f} p (part_slice {w = w} e d) = part_slice (joined w (prime ∷ []) f e p) (with_prime refl (part_before p d))
 
--- a single as a node, where no sign stands behind it
+-- a single as a node, where no sign stands after it
 unscripted : {l m : List Tok} {x : Tree} → first m ≢ Some Underscore → first m ≢ Some Circumflex → PartBySlices single l (Read x m) → PartBySlices node l (Read x m)
 unscripted h k (part_slice e d) = part_slice e (without_script d h k)
 
@@ -95,11 +95,11 @@ single_refused (part_refusal d) = part_refusal (single_refuses d)
 node_refused : {l : List Tok} {r : Refusal} → PartBySlices single l (Refused r) → PartBySlices node l (Refused r)
 node_refused (part_refusal d) = part_refusal (node_refuses d)
 
--- or as the node behind a subscript's sign
+-- or as the node after a subscript's sign
 subscript_refused : {l m n : List Tok} {x : Tree} {r : Refusal} → m ≡ Underscore ∷ n → PartBySlices single l (Read x m) → PartBySlices node n (Refused r) → PartBySlices node l (Refused r)
 subscript_refused p (part_slice {w = u} e d) (part_refusal ds) = part_refusal (subscript_refuses (e ∙ ap (λ k. u ++ k) p) (part_before p d) ds)
 
--- or behind a superscript's sign
+-- or after a superscript's sign
 superscript_refused : {l m n : List Tok} {x : Tree} {r : Refusal} → m ≡ Circumflex ∷ n → PartBySlices single l (Read x m) → PartBySlices node n (Refused r) → PartBySlices node l (Refused r)
 superscript_refused p (part_slice {w = u} e d) (part_refusal ds) = part_refusal (superscript_refuses (e ∙ ap (λ k. u ++ k) p) (part_before p d) ds)
 
@@ -177,7 +177,7 @@ member_then {rest = rest} h read (part_slice {w = u} e d) (group_slice {w = v} p
     group_slice (joined u v rest e p) (member refl (other_first h (node_slice read e).1) (part_before p d) ds)
 member_then h read (part_slice e d) (formula_slice ds) = formula_slice (one_node e (never_empty (node_slice read e).1) d ds)
 
--- members that refuse behind a member
+-- members that refuse after a member
 member_then_refusal : {end : Option Tok} {t : Tok} {l m : List Tok} {x : Tree} {r : Refusal} → end ≢ Some t → Reads node (t ∷ l) (Read x m) → PartBySlices node (t ∷ l) (Read x m) → AllBySlices end m (Refused r) → AllBySlices end (t ∷ l) (Refused r)
 member_then_refusal h read (part_slice e d) (group_refusal ds) = group_refusal (behind_member e (other_first h (node_slice read e).1) d ds)
 member_then_refusal h read (part_slice e d) (formula_refusal ds) = formula_refusal (behind_node e (never_empty (node_slice read e).1) d ds)

@@ -24,7 +24,7 @@ same_rule {r} {o = o} e d = subst (λ k. ReadsRule r k o) e d
 same_all : {end : Option Tok} {l k : List Tok} {o : Outcome (List Tree)} → l ≡ k → ReadsAll end l o → ReadsAll end k o
 same_all {end} {o = o} e d = subst (λ k. ReadsAll end k o) e d
 
--- letters with no letter behind them
+-- letters with no letter after them
 letters_are_read : (cs : List ℕ) (u g : List Tok) → map letter_of u ≡ map Some cs → first_letter g ≡ None → AreLetters cs (u ++ g) g
 letters_are_read [] [] g e h = (refl, h)
 letters_are_read [] (t ∷ u) g e h = absurd cc
@@ -38,7 +38,7 @@ letters_are_read (c ∷ cs) (t ∷ u) g e h =
 never_ended : {end : Tok} {f : List Tok} {xs : List Tree} → ReadsAll (Some end) [] (Read xs f) → ⊥
 never_ended (group_ends p) = absurd cc
 
--- a member before members: it is not empty, since a token is left behind it
+-- a member before members: it is not empty, since a token is left after it
 member_is_read : {end : Tok} (u g : List Tok) {f : List Tok} {x : Tree} {xs : List Tree} → first u ≢ Some end → Reads node (u ++ g) (Read x g) → ReadsAll (Some end) g (Read xs f) → ReadsAll (Some end) (u ++ g) (Read (x ∷ xs) f)
 member_is_read (t ∷ u) g h d ds = member_read (λ e. h (sym e)) d ds
 member_is_read [] [] h d ds = absurd (never_ended ds)
@@ -98,7 +98,7 @@ nodes_are_read (one_node {w = w} {f = f} e h d ds) =
     let later = nodes_are_read ds in
     same_all (sym e) (first_is_read w f h (part_is_read d) (λ t l d. member_read (λ e. cc) d later))
 
--- members that refuse behind a member
+-- members that refuse after a member
 later_member_refuses : {end : Tok} (u g : List Tok) {x : Tree} {r : Refusal} → first u ≢ Some end → Reads node (u ++ g) (Read x g) → ReadsAll (Some end) g (Refused r) → ReadsAll (Some end) (u ++ g) (Refused r)
 later_member_refuses (t ∷ u) g h d ds = later_refused (λ e. h (sym e)) d ds
 later_member_refuses [] g h d ds = ds

@@ -32,7 +32,7 @@ and_false false = refl
 pub starts_here : (takes : Bool) (text : List ℕ) (c : ℕ) (after : List ℕ) → text ≡ c ∷ after → is_space c ≡ false → IsStart takes text text takes
 starts_here takes text c after e dark = ([], (refl, All-nil (λ x. is_space x ≡ true), rw e dark), sym (and_true takes))
 
--- a text that begins with white space starts behind it
+-- a text that begins with white space starts after it
 pub starts_behind : (takes : Bool) (text : List ℕ) (c : ℕ) (after start : List ℕ) → text ≡ c ∷ after → is_space c ≡ true → (space : List ℕ) × IsLongestRun is_space after space start → IsStart takes text start false
 starts_behind takes text c after start e light (space, run) =
     (c ∷ space, (e ∙ ap (λ k. c ∷ k) run.0, All-cons (λ x. is_space x ≡ true) c space light run.1, run.2), sym (and_false takes))
@@ -106,7 +106,7 @@ taken_command takes alone takes' text start c after t n rest starts e backslash 
     let one : backslash_count start ≡ 1 = ap backslash_count whole in
     taken takes alone takes' text start t n rest starts (subst (λ s. BeginsWith alone s t rest) (sym whole) begins) f (omega arith) (omega arith)
 
--- what stands first of the tokens that are left, and what is left behind it
+-- what stands first of the tokens that are left, and what is left after it
 
 pub first_taken : (takes : Bool) (text : List ℕ) (t : Tok) (n : ℕ) (takes' : Bool) (rest : List ℕ) → IsTaken takes text t n takes' rest → t ≡ first_or_end (token_list (slices_of takes text))
 first_taken takes text t n takes' rest h = sym (ap (λ ss. first_or_end (token_list ss)) h.1)

@@ -17,7 +17,7 @@ Within-≤ : {A : Type 0} {j k : ℕ} (o : Outcome A) → j ≤ k → Within j o
 Within-≤ (Read x m) h w = omega arith
 Within-≤ (Refused r) h w = tt
 
--- no more tokens stand behind letters than with them
+-- no more tokens stand after letters than with them
 length-AreLetters : (cs : List ℕ) (l m : List Tok) → AreLetters cs l m → length m ≤ length l
 length-AreLetters [] l m d = omega (arith, ap length d.0)
 length-AreLetters (c ∷ cs) l m d =
@@ -84,7 +84,7 @@ members_total h follow (Read xs m) d =
     (f.0, members_read d f.1)
 members_total h follow (Refused r) d = (Refused r, members_refused d)
 
--- the letters at the front of the tokens, and what stands behind them
+-- the letters at the front of the tokens, and what stands after them
 record Run (l : List Tok) : Type 0 where
   letters : List ℕ
   rest : List Tok
@@ -148,7 +148,7 @@ sort_total k has core l h = core_total k has l h
 sort_total k has single l h = single_total k has l h
 sort_total k has node l h = node_total k has l h
 
--- a member that has an outcome, and then the members behind it
+-- a member that has an outcome, and then the members after it
 member_total : {end : Option Tok} {t : Tok} {l : List Tok} {k : ℕ} → HasOutcomes k → length (t ∷ l) ≤ suc k → end ≢ Some t → (o : Outcome Tree) → Reads node (t ∷ l) o → (p : Outcome (List Tree)) × ReadsAll end (t ∷ l) p
 member_total has h other (Refused r) d = (Refused r, member_refused other d)
 member_total {end} {t} {l} {k} has h other (Read x m) d =

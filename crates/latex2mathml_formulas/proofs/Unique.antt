@@ -24,7 +24,7 @@ moved_rule then {x} {y} {m} {n} {o} e d =
     let q : n ≡ m = cc in
     subst (λ k. ReadsRule (then x) k o) q (subst (λ z. ReadsRule (then z) n o) p d)
 
--- and so do the members behind a member
+-- and so do the members after a member
 moved_all : {end : Option Tok} {x y : Tree} {m n : List Tok} {o : Outcome (List Tree)} → Read x m ≡ Read y n → ReadsAll end n o → ReadsAll end m o
 moved_all {end} {x} {y} {m} {n} {o} e d =
     let q : n ≡ m = cc in
@@ -36,7 +36,7 @@ moved_sign {r} {m = m} {n = n} {o = o} p q d =
     let same : n ≡ m = cc in
     subst (λ k. ReadsRule r k o) same d
 
--- behind one end token stand the same tokens
+-- after one end token stand the same tokens
 same_end : {t : Tok} {l m n : List Tok} → l ≡ t ∷ m → l ≡ t ∷ n → ◌≡◌ {A = Outcome (List Tree)} (Read [] m) (Read [] n)
 same_end p q = cc
 
@@ -44,7 +44,7 @@ same_end p q = cc
 no_member : {end t : Tok} {l m : List Tok} → t ∷ l ≡ end ∷ m → Some end ≢ Some t → ⊥
 no_member p h = h (sym (ap first p))
 
--- a letter does not stand behind the run of letters
+-- a letter does not stand after the run of letters
 no_letter : {l m n : List Tok} {t : Tok} {c : ℕ} → l ≡ m → first_letter m ≡ None → l ≡ t ∷ n → letter_of t ≡ Some c → ⊥
 no_letter e none f some =
     let both = sym none ∙ ap first_letter (sym e ∙ f) ∙ some in

@@ -83,14 +83,14 @@ slices_before_space takes w behind other (s ∷ ss) some light (space, more, who
 step_whole : (w behind space text more : List ℕ) → w ≡ space ++ (text ++ more) → w ++ behind ≡ space ++ (text ++ (more ++ behind))
 step_whole w behind space text more e = ap (λ x. x ++ behind) e ∙ append_assoc space (text ++ more) behind ∙ ap (λ x. space ++ x) (append_assoc text more behind)
 
--- slices, and then those of the text behind them
+-- slices, and then those of the text after them
 slices_joined : (takes : Bool) (w behind : List ℕ) (ss : List Slice) (s : Slice) (rs : List Slice) → AreSlices takes w behind (ss ++ s ∷ []) → HasSlices (takes_digit (Some s.token)) behind rs → HasSlices takes (w ++ behind) (ss ++ s ∷ rs)
 slices_joined takes w behind [] s rs (space, more, whole, white, spells, none) later =
     (more ++ behind, (space, step_whole w behind space s.text more whole, white, spells), subst (λ m. HasSlices (takes_digit (Some s.token)) (m ++ behind) rs) (sym none) later)
 slices_joined takes w behind (r ∷ ss) s rs (space, more, whole, white, spells, between) later =
     (more ++ behind, (space, step_whole w behind space r.text more whole, white, spells), slices_joined (takes_digit (Some r.token)) more behind ss s rs between later)
 
--- the slice behind the place
+-- the slice after the place
 
 -- the white space at the place, with more of it
 gap_grown : (left cs right : List ℕ) → Each is_space (left ++ right) → Each is_space cs → Each is_space (left ++ (cs ++ right))
@@ -185,7 +185,7 @@ space_changes_nothing before space after u v = λ place no_digit_place white.
 
 -- where places are
 
--- the slices of a text up to one of them, and those behind it
+-- the slices of a text up to one of them, and those after it
 abbrev Parted : Bool → List ℕ → List Slice → Slice → List Slice → Type 0
 Parted takes text ss s rs =
     (front : List ℕ) × (behind : List ℕ)

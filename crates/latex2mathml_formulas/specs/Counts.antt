@@ -39,7 +39,7 @@ pub data AreNodes (ts : List Tok) : List Tok → Type 0 where
       → Reads node (t ∷ l) (Read x m)
       → AreNodes ts m
 
--- a node is refused that stands behind others, and of its tokens some were taken: these are left
+-- a node is refused that stands after others, and of its tokens some were taken: these are left
 abbrev pub IsRefusedWithin : List Tok → List Tok → Refusal → Type 0
 IsRefusedWithin ts left r = (place : List Tok) × AreNodes ts place × Reads node place (Refused r) × (length left < length place)
 

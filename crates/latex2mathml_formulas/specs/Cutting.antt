@@ -13,7 +13,7 @@ abbrev pub run_of : (ℕ → Bool) → List ℕ → List ℕ
 run_of p [] = []
 run_of p (c ∷ cs) = if p c then c ∷ run_of p cs else []
 
--- what stands behind it
+-- what stands after it
 abbrev pub behind_run : (ℕ → Bool) → List ℕ → List ℕ
 behind_run p [] = []
 behind_run p (c ∷ cs) = if p c then behind_run p cs else c ∷ cs

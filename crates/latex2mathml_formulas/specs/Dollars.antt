@@ -33,7 +33,7 @@ other c n = ⊎_elim (λ h. absurd (n h.1)) (λ h. ap not h.0) (eqb_tells c doll
 pub free_both : (a b : List ℕ) → IsDollarFree a → IsDollarFree b → IsDollarFree (a ++ b)
 free_both a b x y = list_all-append is_other a b ∙ ap (λ q. q && list_all is_other b) x ∙ y
 
--- a byte and a text behind it
+-- a byte and a text after it
 pub free_first : (c : ℕ) (cs : List ℕ) → IsDollarFree (c ∷ cs) → IsTrue (is_other c)
 free_first c cs h = (and_parts (is_other c) (list_all is_other cs) h).0
 

@@ -45,7 +45,7 @@ after_members group.Degree ts xs = of_degree xs
 after_members (group.Fence opening) ts xs = after_fence_members (fence_text opening) xs
 after_members group.Environment ts xs = after_environment_members (words_of (top ts)) xs
 
--- the sign that a second single stands behind
+-- the sign that a second single stands after
 abbrev pub pair_sign : Pair → Sign
 pair_sign (pair.Overbrace c) = Sup
 pair_sign (pair.Underbrace c) = Sub

@@ -10,7 +10,7 @@ use Rattle.latex2mathml_tokens.specs.TokenText.{token_text}
 use Rattle.latex2mathml_trees.specs.Tree.{Tree, number, letter, operator, function, space, other_operator, subscript, superscript, sub_sup, over_op, under_op, overset, underset, under, under_over, root, sqrt, frac, fenced, sized_paren, words, ampersand, new_line, slashed, undefined}
 use Rattle.latex2mathml_tokens.specs.declared.attribute.LineThickness.TheVariants.{Medium}
 
--- what a part of a rule may be: a core, a single, which is a core with what stands directly behind it, or a node, which
+-- what a part of a rule may be: a core, a single, which is a core with what stands directly after it, or a node, which
 -- is a single with its scripts
 pub data Sort : Type 0 where
   core : Sort
@@ -76,7 +76,7 @@ abbrev pub sized : List ℕ → Tok → Rule
 sized size (Paren text) = gives (sized_paren size text)
 sized size t = refuses (UnexpectedToken (Paren []) t)
 
--- a name, which follows as its bytes: letters behind a token and before another, whatever the two are
+-- a name, which follows as its bytes: letters after a token and before another, whatever the two are
 abbrev pub a_name : (List ℕ → Rule) → Rule
 a_name then = takes_token (λ before. takes_letters (λ cs. takes_token (λ behind. then (encode_utf8_all cs))))
 
@@ -84,12 +84,12 @@ a_name then = takes_token (λ before. takes_letters (λ cs. takes_token (λ behi
 abbrev pub under_slash : Tree → Rule
 under_slash x = takes_token (λ behind. gives (slashed x))
 
--- what follows a fence, where the token behind this one is a fence
+-- what follows a fence, where the token after this one is a fence
 abbrev pub with_fence : Tok → Tok → Option (List ℕ) → (List ℕ → Rule) → Rule
 with_fence location t (Some text) then = then text
 with_fence location t None then = refuses (MissingParensethis location t)
 
--- a fence, which must stand next behind this token, and what follows its text
+-- a fence, which must stand next after this token, and what follows its text
 abbrev pub a_fence : Tok → (List ℕ → Rule) → Rule
 a_fence location then = takes_token (λ t. with_fence location t (fence_of t) then)
 
@@ -200,7 +200,7 @@ abbrev pub first_letter : List Tok → Option ℕ
 first_letter [] = None
 first_letter (t ∷ ts) = letter_of t
 
--- the tokens begin with letters of these characters, and no letter stands behind them
+-- the tokens begin with letters of these characters, and no letter stands after them
 abbrev pub AreLetters : List ℕ → List Tok → List Tok → Type 0
 AreLetters [] l rest = (l ≡ rest) × (first_letter rest ≡ None)
 AreLetters (c ∷ cs) l rest = (t : Tok) × ((m : List Tok) × (l ≡ t ∷ m) × (letter_of t ≡ Some c) × AreLetters cs m rest)
@@ -231,7 +231,7 @@ mutual
     -- the formula is refused here
     rule_refuses : {r : Refusal} {l : List Tok}
         → ReadsRule (refuses r) l (Refused r)
-    -- the part is read, and what follows it stands behind
+    -- the part is read, and what follows it stands after
     part_read : {s : Sort} {then : Tree → Rule} {l m : List Tok} {x : Tree} {o : Outcome Tree}
         → Reads s l (Read x m)
         → ReadsRule (then x) m o
@@ -240,7 +240,7 @@ mutual
     part_refused : {s : Sort} {then : Tree → Rule} {l : List Tok} {r : Refusal}
         → Reads s l (Refused r)
         → ReadsRule (reads_part s then) l (Refused r)
-    -- the members are read up to the end token, and what follows them stands behind
+    -- the members are read up to the end token, and what follows them stands after
     members_read : {end : Tok} {then : List Tree → Rule} {l m : List Tok} {xs : List Tree} {o : Outcome Tree}
         → ReadsAll (Some end) l (Read xs m)
         → ReadsRule (then xs) m o
@@ -249,7 +249,7 @@ mutual
     members_refused : {end : Tok} {then : List Tree → Rule} {l : List Tok} {r : Refusal}
         → ReadsAll (Some end) l (Refused r)
         → ReadsRule (reads_members end then) l (Refused r)
-    -- the sign stands next, and the first rule goes on behind it
+    -- the sign stands next, and the first rule goes on after it
     sign_stands : {t : Tok} {a b : Rule} {l m : List Tok} {o : Outcome Tree}
         → l ≡ t ∷ m
         → ReadsRule a m o
@@ -288,13 +288,13 @@ mutual
     -- a group that is open where no token is left
     never_closed : {end : Tok}
         → ReadsAll (Some end) [] (Refused (UnexpectedToken end EOF))
-    -- a member, which does not begin with the end token, and the members behind it
+    -- a member, which does not begin with the end token, and the members after it
     member_read : {end : Option Tok} {t : Tok} {l m rest : List Tok} {x : Tree} {xs : List Tree}
         → end ≢ Some t
         → Reads node (t ∷ l) (Read x m)
         → ReadsAll end m (Read xs rest)
         → ReadsAll end (t ∷ l) (Read (x ∷ xs) rest)
-    -- a member is read, and those behind it refuse
+    -- a member is read, and those after it refuse
     later_refused : {end : Option Tok} {t : Tok} {l m : List Tok} {x : Tree} {r : Refusal}
         → end ≢ Some t
         → Reads node (t ∷ l) (Read x m)

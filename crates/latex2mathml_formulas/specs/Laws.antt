@@ -18,7 +18,7 @@ pub record HasOneReading (l : List Tok) : Type 0 where
   -- what has a reading is not refused
   pub never_both : (xs : List Tree) (r : Refusal) → ReadsFormula l xs → Refuses l r → ⊥
 
--- what is read is a slice of the tokens, with the rest behind it
+-- what is read is a slice of the tokens, with the rest after it
 pub record IsSliced : Type 0 where
   pub parts : (s : Sort) (l f : List Tok) (x : Tree) → Reads s l (Read x f) → (w : List Tok) × (l ≡ w ++ f) × IsPart s w f x
   pub rules : (r : Rule) (l f : List Tok) (x : Tree) → ReadsRule r l (Read x f) → (w : List Tok) × (l ≡ w ++ f) × AreParts r w f x
@@ -27,7 +27,7 @@ pub record IsSliced : Type 0 where
   pub some_taken : (s : Sort) (f : List Tok) (x : Tree) → IsPart s [] f x → f ≡ []
   pub end_taken : (end : Tok) (f : List Tok) (xs : List Tree) → ¬ (AreMembers end [] f xs)
 
--- a slice is what the grammar over slices says exactly where it is read and the tokens behind it are left
+-- a slice is what the grammar over slices says exactly where it is read and the tokens after it are left
 pub record IsReadBySlices : Type 0 where
   pub parts : (s : Sort) (w f : List Tok) (x : Tree) → Reads s (w ++ f) (Read x f) ↔ IsPart s w f x
   pub rules : (r : Rule) (w f : List Tok) (x : Tree) → ReadsRule r (w ++ f) (Read x f) ↔ AreParts r w f x

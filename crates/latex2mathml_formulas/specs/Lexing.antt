@@ -34,7 +34,7 @@ BeginsWith alone text t rest = (w : List ℕ) × (text ≡ w ++ rest) × SpellsA
 abbrev pub BeginsWithNumber : List ℕ → List ℕ → Type 0
 BeginsWithNumber text rest = (w : List ℕ) × (text ≡ w ++ rest) × IsNumber w (head rest)
 
--- the text is what stands behind the backslash of a command, and then the rest
+-- the text is what stands after the backslash of a command, and then the rest
 abbrev pub BeginsWithName : List ℕ → List ℕ → Type 0
 BeginsWithName text rest =
     (w : List ℕ) × (text ≡ w ++ rest) × ((alone : Bool) → SpellsAt alone (byte "\\" ∷ w) (head rest) (command_token (encode_utf8_all w)))

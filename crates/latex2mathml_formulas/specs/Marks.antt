@@ -9,7 +9,7 @@ use Rattle.latex2mathml_formulas.specs.declared.reader.mark.Mark.TheVariants.{Pr
 use Rattle.latex2mathml_formulas.specs.declared.reader.mark.Sign.{Sign}
 use Rattle.latex2mathml_formulas.specs.declared.reader.mark.Sign.TheVariants.{Sub, Sup}
 
--- the tokens behind the first
+-- the tokens after the first
 abbrev pub rest_of : List Tok → List Tok
 rest_of [] = []
 rest_of (t ∷ ts) = ts
@@ -40,10 +40,10 @@ IsSeen (Some c) ts = (ts ≢ [])
     × Shows (byte "^") c ts
     × Shows (byte "[") c ts
 
--- letters stand next, whose characters have these bytes, and the other tokens are left behind them
+-- letters stand next, whose characters have these bytes, and the other tokens are left after them
 abbrev pub LettersStand : List ℕ → List Tok → List Tok → Type 0
 LettersStand bytes ts rest = (cs : List ℕ) × AreLetters cs ts rest × (bytes ≡ encode_utf8_all cs)
 
--- letters of these bytes stand behind the next token, and the other tokens but one are left behind them
+-- letters of these bytes stand after the next token, and the other tokens but one are left after them
 abbrev pub NameStands : List ℕ → List Tok → List Tok → Type 0
 NameStands bytes ts rest = (ms : List Tok) × LettersStand bytes (rest_of ts) ms × (rest ≡ rest_of ms)

@@ -1,5 +1,5 @@
 -- Places in a text between two tokens, where white space may be put. A place is two texts, the one before it and the one
--- behind it, and both are slices and white space: nothing scans.
+-- after it, and both are slices and white space: nothing scans.
 use Rattle.std.specs.Prelude.{◌≡◌, ◌↔◌, ℕ, Bool, false, ◌&&◌, IsTrue, List, [], ◌∷◌, ◌++◌, Some, None}
 use Rattle.std.specs.Char.{is_ascii_digit}
 use Rattle.std.specs.List.{AllPass}
@@ -21,7 +21,7 @@ AreSlices takes w behind (s ∷ ss) =
     × SpellsAt (takes && is_empty space) s.text (head (more ++ behind)) s.token
     × AreSlices (takes_digit (Some s.token)) more behind ss
 
--- the place behind `before` and before `after` lies between two tokens of the text that both make: it is inside no
+-- the place after `before` and before `after` lies between two tokens of the text that both make: it is inside no
 -- slice, and a slice stands on each side
 pub record IsBetweenTokens (before after : List ℕ) : Type 0 where
   -- the text of the slices before the place, and the white space between them and the place
@@ -30,7 +30,7 @@ pub record IsBetweenTokens (before after : List ℕ) : Type 0 where
   -- the slices before it, of which the last stands apart
   pub earlier : List Slice
   pub last : Slice
-  -- the white space behind the place, the slice that stands there, and what stands behind that
+  -- the white space after the place, the slice that stands there, and what stands after that
   pub right : List ℕ
   pub next : Slice
   pub rest : List ℕ

@@ -1,5 +1,5 @@
 -- The grammar over slices, where it refuses: the parts before the refusal are slices that were read, each with all that
--- follows it behind it. A law says that what the rules refuse is exactly this.
+-- follows it after it. A law says that what the rules refuse is exactly this.
 use Rattle.std.specs.Prelude.{◌≡◌, ◌≢◌, ℕ, List, [], ◌∷◌, ◌++◌, map, Some, None}
 use Rattle.latex2mathml_formulas.specs.Grammar.{Sort, core, single, node, Rule, refuses, reads_part, reads_members, reads_sign, takes_token, sees_token, takes_letters, rule, first, first_or_end, letter_of, first_letter}
 use Rattle.latex2mathml_tokens.specs.Refusal.{Refusal, UnexpectedToken}
@@ -16,7 +16,7 @@ mutual
     single_refuses : {l : List Tok} {r : Refusal} → PartRefuses core l r → PartRefuses single l r
     -- a node as its single
     node_refuses : {l : List Tok} {r : Refusal} → PartRefuses single l r → PartRefuses node l r
-    -- or, where a single and a sign stand, as the node behind them
+    -- or, where a single and a sign stand, as the node after them
     subscript_refuses : {u g l : List Tok} {x : Tree} {r : Refusal} →
         l ≡ u ++ (Underscore ∷ g) →
         IsPart single u (Underscore ∷ g) x →
@@ -60,7 +60,7 @@ mutual
     behind_no_token : {then : Tok → Rule} {r : Refusal} → RuleRefuses (then EOF) [] r → RuleRefuses (takes_token then) [] r
     -- what is chosen by the token that stands next
     at_next_token : {then : Tok → Rule} {l : List Tok} {r : Refusal} → RuleRefuses (then (first_or_end l)) l r → RuleRefuses (sees_token then) l r
-    -- what follows letters with no letter behind them
+    -- what follows letters with no letter after them
     behind_letters : (cs : List ℕ) (u : List Tok) {then : List ℕ → Rule} {g l : List Tok} {r : Refusal} →
         l ≡ u ++ g →
         map letter_of u ≡ map Some cs →
@@ -82,7 +82,7 @@ mutual
         MembersRefuse end g r →
         MembersRefuse end l r
 
--- the formula refuses: behind nodes side by side, none of them empty, a token is left, and the node there refuses
+-- the formula refuses: after nodes side by side, none of them empty, a token is left, and the node there refuses
 pub data FormulaRefuses : List Tok → Refusal → Type 0 where
   node_itself : {t : Tok} {l : List Tok} {r : Refusal} → PartRefuses node (t ∷ l) r → FormulaRefuses (t ∷ l) r
   behind_node : {w f l : List Tok} {x : Tree} {r : Refusal} →

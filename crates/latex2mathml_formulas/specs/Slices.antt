@@ -1,4 +1,4 @@
--- The grammar over slices: which tokens w, with which tokens f behind them, are a core, a single, a node, the parts of a
+-- The grammar over slices: which tokens w, with which tokens f after them, are a core, a single, a node, the parts of a
 -- rule, the members of a group, or the nodes of a formula. A law says that what the rules read is exactly this.
 use Rattle.std.specs.Prelude.{◌≡◌, ◌≢◌, ℕ, List, [], ◌∷◌, ◌++◌, map, Some, None}
 use Rattle.latex2mathml_trees.specs.Productions.{prime_mark}
@@ -8,13 +8,13 @@ use Rattle.latex2mathml_tokens.specs.TokenText.{token_text}
 use Rattle.latex2mathml_trees.specs.Tree.{Tree, subscript, superscript, undefined}
 
 mutual
-  -- the slice w, with f behind it, is a core, a single or a node, and x is its tree
+  -- the slice w, with f after it, is a core, a single or a node, and x is its tree
   pub data IsPart : Sort → List Tok → List Tok → Tree → Type 0 where
     -- at the end of the tokens the empty slice is a core
     no_core : IsPart core [] [] (undefined (token_text EOF))
     -- elsewhere a core is a token and the parts of its rule
     core_by_rule : {t : Tok} {w f : List Tok} {x : Tree} → AreParts (rule t) w f x → IsPart core (t ∷ w) f x
-    -- a single is a core with no prime behind it
+    -- a single is a core with no prime after it
     without_prime : {w f : List Tok} {x : Tree} →
         IsPart core w f x →
         first f ≢ Some prime →
@@ -24,7 +24,7 @@ mutual
         w ≡ c ++ (prime ∷ []) →
         IsPart core c (prime ∷ f) x →
         IsPart single w f (superscript x prime_mark)
-    -- a node is a single with no sign behind it
+    -- a node is a single with no sign after it
     without_script : {w f : List Tok} {x : Tree} →
         IsPart single w f x →
         first f ≢ Some Underscore →
@@ -42,7 +42,7 @@ mutual
         IsPart node v f y →
         IsPart node w f (superscript x y)
 
-  -- the slice w, with f behind it, is the parts of the rule, and x is the tree that the rule gives
+  -- the slice w, with f after it, is the parts of the rule, and x is the tree that the rule gives
   pub data AreParts : Rule → List Tok → List Tok → Tree → Type 0 where
     -- nothing more
     no_part : {f : List Tok} {x : Tree} → AreParts (gives x) [] f x
@@ -74,7 +74,7 @@ mutual
     without_token : {then : Tok → Rule} {x : Tree} → AreParts (then EOF) [] [] x → AreParts (takes_token then) [] [] x
     -- what follows is chosen by the token that stands next
     by_next_token : {then : Tok → Rule} {w f : List Tok} {x : Tree} → AreParts (then (first_or_end (w ++ f))) w f x → AreParts (sees_token then) w f x
-    -- letters of these characters with no letter behind them, and what follows them
+    -- letters of these characters with no letter after them, and what follows them
     letters : (cs : List ℕ) (u : List Tok) {then : List ℕ → Rule} {v w f : List Tok} {x : Tree} →
         w ≡ u ++ v →
         map letter_of u ≡ map Some cs →
@@ -82,7 +82,7 @@ mutual
         AreParts (then cs) v f x →
         AreParts (takes_letters then) w f x
 
-  -- the slice w, with f behind it, is nodes and then the end token, no node begins with it, and xs are the nodes' trees;
+  -- the slice w, with f after it, is nodes and then the end token, no node begins with it, and xs are the nodes' trees;
   -- the rule makes one tree of them
   pub data AreMembers : Tok → List Tok → List Tok → List Tree → Type 0 where
     no_member : {end : Tok} {w f : List Tok} → w ≡ end ∷ [] → AreMembers end w f []

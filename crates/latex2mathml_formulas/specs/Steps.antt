@@ -94,7 +94,7 @@ pub record Follows (bound : ℕ) (p : Parser) (s : State) : Type 0 where
   pub trees : HasTrees (trees_of_state s) p
   pub falls : work p s < bound
 
--- The frame of a stretched operator was opened, and this lexeme was taken behind `\middle`. A frame may be opened for it, if
+-- The frame of a stretched operator was opened, and this lexeme was taken after `\middle`. A frame may be opened for it, if
 -- it is not the end.
 pub record IsStretched (old new : Parser) (got : Lexeme) : Type 0 where
   pub trees : HasTrees 0 new
@@ -102,7 +102,7 @@ pub record IsStretched (old new : Parser) (got : Lexeme) : Type 0 where
       × OpensFor old.reader new.reader (old.frames.greatest + 1) (new.frames.greatest + opens (lexeme_tok got))
   pub falls : to_do new ≤ to_do old + 2
 
--- No rule is begun any more: a node of these tokens was read, down to those that are left, and its print stands behind what
+-- No rule is begun any more: a node of these tokens was read, down to those that are left, and its print stands after what
 -- was there. Or the formula is refused.
 abbrev pub IsAppended : List Tok → Parser → List ℕ → List ℕ → Bool → Type 0
 IsAppended input p old new true =

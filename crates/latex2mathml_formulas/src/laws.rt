@@ -38,18 +38,18 @@ pub fn one_reading_of(tokens: &[Token])
     let _ = tokens;
 }
 
-/// What is read is a slice of the tokens, and the rest stands behind it. The slice is empty only where nothing is left.
+/// What is read is a slice of the tokens, and the rest stands after it. The slice is empty only where nothing is left.
 pub fn sliced()
     ensures { IsSliced }
 {}
 
 /// A slice is a core, a single, a node, the parts of a rule or the members of a group exactly where the rules read it and
-/// leave what stands behind it; and tokens are nodes side by side exactly where those are a reading of the formula.
+/// leave what stands after it; and tokens are nodes side by side exactly where those are a reading of the formula.
 pub fn read_by_slices()
     ensures { IsReadBySlices }
 {}
 
-/// Tokens are refused exactly where the grammar over slices refuses them: behind parts that are slices.
+/// Tokens are refused exactly where the grammar over slices refuses them: after parts that are slices.
 pub fn refused_by_slices()
     ensures { IsRefusedBySlices }
 {}
@@ -91,7 +91,7 @@ pub fn places(text: &str)
 }
 
 /// White space at a place between two tokens leaves the tokens as they were, and so every answer. A digit place is left
-/// out: `\frac12` has one behind `\frac`, and there white space makes another formula of it.
+/// out: `\frac12` has one after `\frac`, and there white space makes another formula of it.
 pub fn white_space(before: &str, space: &str, after: &str)
     ensures { SpaceChangesNothing before.now space.now after.now }
 {

@@ -173,7 +173,7 @@ impl<'a> Parser<'a> {
         State::Refused
     }
 
-    /// Refuses the formula, because this lexeme stands behind a token where a fence must stand.
+    /// Refuses the formula, because this lexeme stands after a token where a fence must stand.
     #[cold]
     fn refuse_fence(&mut self, location: Token, got: Lexeme) -> Result<State, AllocError>
         requires { HasTrees 0 self.old }

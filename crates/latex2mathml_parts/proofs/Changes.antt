@@ -25,17 +25,17 @@ grouped_row (x ∷ y ∷ ys) h = refl
 last_trees : (count : ℕ) (ts : List Tree) → count ≢ 1 → count ≤ length ts → group_tree (reverse (take count ts)) ≡ row (trees_of (reverse (take count ts)))
 last_trees count ts h k = grouped_row (reverse (take count ts)) (λ g. h (sym (length-take-le count ts k) ∙ sym (length-reverse (take count ts)) ∙ g))
 
--- a row is put behind so many members
+-- a row is put after so many members
 pub row_grouped : (texts : List (List ℕ)) (count : ℕ) (ts : List Tree) → count ≢ 1 → count ≤ length ts → put_form texts (form.Row count None) ts ≡ group_tree (reverse (take count ts)) ∷ drop count ts
 row_grouped texts count ts h k = ap (λ x. x ∷ drop count ts) (plain (row (trees_of (reverse (take count ts)))) ∙ sym (last_trees count ts h k))
 
--- a matrix is put behind so many members
+-- a matrix is put after so many members
 pub matrix_grouped : (texts : List (List ℕ)) (align : ColumnAlign) (count : ℕ) (ts : List Tree) → count ≢ 1 → count ≤ length ts → put_form texts (form.Matrix count None align) ts ≡ matrix_of align (group_tree (reverse (take count ts))) ∷ drop (suc count) ts
 matrix_grouped texts align count ts h k =
     ap (λ xs. matrix xs align ∷ drop (suc count) ts) (all_plain (trees_of (reverse (take count ts))))
     ∙ ap (λ x. matrix_of align x ∷ drop (suc count) ts) (sym (last_trees count ts h k))
 
--- a matrix is put behind one member, which is no row
+-- a matrix is put after one member, which is no row
 pub matrix_one : (texts : List (List ℕ)) (align : ColumnAlign) (ts : List Tree) → 0 < length ts → matrix_members (top ts) ≡ more_trees (top ts) no_trees → put_form texts (form.Matrix 1 None align) ts ≡ matrix_of align (top ts) ∷ drop 2 ts
 matrix_one texts align [] h e = absurd (omega arith)
 matrix_one texts align (t ∷ ts) h e = ap (λ xs. matrix xs align ∷ drop 1 ts) (all_plain (more_trees t no_trees) ∙ sym e)

@@ -48,7 +48,7 @@ stands_last texts ps p start x a s z t =
       below = ap (λ n. forest texts (take n (ps ++ p ∷ []))) from ∙ same_forest texts ps p start s ∙ t ∙ ap (drop (arity_of p.form)) (sym whole);
     }
 
--- a part is put behind its operands
+-- a part is put after its operands
 pub whole_pushed : (texts : List (List ℕ)) (ps : List Part) (p : Part) (start : ℕ) → AreWhole texts ps → HasText texts p.form → arity_of p.form ≤ length (forest texts ps) → start ≤ length ps → p.size ≡ length ps - start + 1 → forest texts (take start ps) ≡ drop (arity_of p.form) (forest texts ps) → AreWhole texts (ps ++ p ∷ [])
 unfolding AreWhole
 whole_pushed texts ps p start w x a s z t n d h = at (eq-or-lt_of_le {n = n} {m = length ps} (let k = length-append ps (p ∷ []) in omega arith))

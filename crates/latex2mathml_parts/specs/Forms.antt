@@ -39,7 +39,7 @@ arity_of (form.Row count style) = count
 arity_of (form.Matrix count style align) = suc count
 arity_of f = 0
 
--- the trees with a part of this form behind them, where these texts stand aside
+-- the trees with a part of this form after them, where these texts stand aside
 abbrev pub put_form : List (List ℕ) → Form → List Tree → List Tree
 put_form texts (form.Of kind) ts = put kind ts
 put_form texts (form.Name place) ts = function (slice_index_or texts place []) ∷ ts
@@ -66,7 +66,7 @@ forest_on texts ts (p ∷ ps) = forest_on texts (put_form texts p.form ts) ps
 abbrev pub forest : List (List ℕ) → List Part → List Tree
 forest texts = forest_on texts []
 
--- a part stands at this place behind its operands, and its size leads to where they begin
+-- a part stands at this place after its operands, and its size leads to where they begin
 pub record Stands (texts : List (List ℕ)) (ps : List Part) (n : ℕ) (p : Part) : Type 0 where
   pub text : HasText texts p.form
   pub fits : arity_of p.form ≤ length (forest texts (take n ps))

@@ -48,7 +48,7 @@ arity (kind.LimitUnder name) = 1
 arity (kind.Fenced opening close) = 1
 arity k = 2
 
--- the trees with the part behind them
+-- the trees with the part after them
 abbrev pub put : Kind → List Tree → List Tree
 put (kind.Number digits) ts = number digits.now ∷ ts
 put (kind.Letter c variant) ts = letter c variant ∷ ts

@@ -24,7 +24,7 @@ tree_at texts ps end = top (forest texts (take end ps))
 abbrev pub earlier : List (List ℕ) → List Part → ℕ → Tree
 earlier texts ps end = top (drop 1 (forest texts (take end ps)))
 
--- the sign over or under a tree, and what stands behind it
+-- the sign over or under a tree, and what stands after it
 abbrev pub sign_print : ℕ → Accent → List ℕ → List ℕ
 sign_print c accent after = codes "<mo accent=\"" ++ (accent_text accent ++ (codes "\">" ++ (content_char c ++ after)))
 
@@ -85,7 +85,7 @@ IsNext ps (Some end) = (0 < end) × (end ≤ length ps)
 abbrev pub Writes : List (List ℕ) → List Part → List ℕ → List Work → List ℕ → List ℕ → List Work → Option ℕ → Type 0
 Writes texts ps old ws markup new vs next = new ++ (next_print texts ps next ++ due texts ps vs) ≡ old ++ (markup ++ due texts ps ws)
 
--- what stands before the two numbers of a binomial coefficient, and behind them
+-- what stands before the two numbers of a binomial coefficient, and after them
 abbrev pub binomial_open : Option DisplayStyle → List ℕ
 binomial_open None = codes "<mrow><mo stretchy=\"true\" form=\"prefix\">(</mo><mfrac linethickness=\"0\">"
 binomial_open (Some Block) = codes "<mstyle displaystyle=\"true\"><mrow><mrow><mo stretchy=\"true\" form=\"prefix\">(</mo><mfrac linethickness=\"0\">"

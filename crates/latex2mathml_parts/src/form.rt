@@ -34,7 +34,7 @@ pub(crate) enum Form<'a> {
     Matrix(usize, Option<Variant>, ColumnAlign),
 }
 
-/// A part of the list, behind its operands.
+/// A part of the list, after its operands.
 #[derive(Clone, Copy)]
 pub(crate) struct Part<'a> {
     pub(crate) form: Form<'a>,

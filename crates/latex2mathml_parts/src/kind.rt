@@ -25,7 +25,7 @@ pub enum Kind<'a> {
     /// A parenthesis of a size of its own.
     SizedParen(Size, Paren),
     // Parts of one operand.
-    /// A prime behind the operand.
+    /// A prime after the operand.
     Primed,
     /// A sign over the operand, and whether it is the operand's accent.
     Over(char, Accent),

@@ -1,6 +1,6 @@
 //! The parts of formulas in postfix order, and their markup.
 //!
-//! A parser puts each part behind its operands, as it reads them. So the parts of a tree lie side by side in one list,
+//! A parser puts each part after its operands, as it reads them. So the parts of a tree lie side by side in one list,
 //! and no part has memory of its own. Contracts see the list of the trees, the last first.
 #![tactic(auto)]
 

@@ -46,7 +46,7 @@ pub(crate) fn before(count: usize, texts: &[String], list: &[Part]) -> usize
     place
 }
 
-/// Puts a part behind its operands.
+/// Puts a part after its operands.
 #[inline(always)]
 pub(crate) fn push<'a>(
     arity: usize,

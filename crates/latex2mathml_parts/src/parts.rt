@@ -75,7 +75,7 @@ impl<'a> Parts<'a> {
         self.list.as_slice().len()
     }
 
-    /// Puts a part behind its operands, which are the last trees. It and they are one tree then.
+    /// Puts a part after its operands, which are the last trees. It and they are one tree then.
     #[inline(always)]
     pub fn put(&mut self, kind: Kind<'a>) -> Result<(), AllocError>
         requires { arity kind ≤ length self.old }

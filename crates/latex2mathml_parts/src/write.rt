@@ -37,7 +37,7 @@ pub use leaves::write_leaf;
 use std::alloc::AllocError;
 
 impl Parts<'_> {
-    /// Writes the markup of the last tree behind the text. It does not recurse: what is still to be written stands in a
+    /// Writes the markup of the last tree after the text. It does not recurse: what is still to be written stands in a
     /// list. The only `Err` is out of memory, for the list or for the text.
     pub fn write(&mut self, out: &mut String) -> Result<(), AllocError>
         requires { 0 < length self.old }
@@ -144,7 +144,7 @@ fn write_at(
     write_form(part.form, style, end - 1, texts, list, works, out)
 }
 
-/// Writes what stands first of the tree of a part, behind so many parts, and puts what follows on the list.
+/// Writes what stands first of the tree of a part, after so many parts, and puts what follows on the list.
 #[inline(always)]
 fn write_form(
     form: Form,
@@ -226,7 +226,7 @@ fn write_under_slash(
     Ok(Some(end))
 }
 
-/// Writes what stands first of the tree of a part of this kind, behind so many parts, and puts what follows on the list.
+/// Writes what stands first of the tree of a part of this kind, after so many parts, and puts what follows on the list.
 #[inline(always)]
 fn write_kind(
     kind: Kind,

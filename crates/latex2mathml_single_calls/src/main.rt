@@ -1,4 +1,4 @@
-//! Makes one call of the library, with a mark before it and one behind it, and prints its answer: `tests/test_memory.py`
+//! Makes one call of the library, with a mark before it and one after it, and prints its answer: `tests/test_memory.py`
 //! refuses requests for memory between the marks.
 #![tactic(auto)]
 

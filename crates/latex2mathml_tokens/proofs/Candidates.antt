@@ -47,7 +47,7 @@ none_among : (rs : Entries) (byte : ℕ) (name : List ℕ) → none_begins_with 
 none_among [] byte name h = refl
 none_among (r ∷ rs) byte name h = rw (first_apart r rs byte name h) (none_among rs byte name (others_apart r rs byte h))
 
--- entries with other first bytes decide no look-up, before the others and behind them
+-- entries with other first bytes decide no look-up, before the others and after them
 
 without_front : (n : ℕ) (rs : Entries) (byte : ℕ) (name : List ℕ) → none_begins_with byte (take n rs) ≡ true → entry_token (drop n rs) (byte ∷ name) ≡ entry_token rs (byte ∷ name)
 without_front zero rs byte name h = refl

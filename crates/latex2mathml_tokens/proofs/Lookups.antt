@@ -133,7 +133,7 @@ pub record Narrowed (table entries : List Entry) (name : List ℕ) (n : ℕ) : T
   pub some : 0 < length table → 0 < length entries + n
   pub few : n ≤ 9
 
--- the entries before the one at m, that entry, and the entries behind it
+-- the entries before the one at m, that entry, and the entries after it
 split_entries : (entries : List Entry) (m : ℕ) (d : Entry) → m < length entries → map entry_of entries ≡ map entry_of (take m entries) ++ entry_of (get_or entries m d) ∷ map entry_of (drop (m + 1) entries)
 split_entries entries m d h =
     ap (map entry_of) (sym (take-append-drop m entries)) ∙ map-append entry_of (take m entries) (drop m entries) ∙ ap (λ r. map entry_of (take m entries) ++ map entry_of r) (drop-cons entries m d h ∙ ap (λ k. get_or entries m d ∷ drop k entries) (sym (add-one m)))

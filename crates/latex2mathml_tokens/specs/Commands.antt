@@ -1,5 +1,5 @@
 -- The command table: which token the name of a command stands for. A name is its bytes, without the backslash; a
--- character is its code point, and stands behind its line as well.
+-- character is its code point, and stands after its line as well.
 use Rattle.std.specs.Prelude.{ℕ, pos, negsuc, List, [], ◌∷◌, Option, Some, None, unwrap_or, cond, codes}
 use Rattle.std.specs.Char.{encode_utf8}
 use Rattle.std.specs.Str.{bytes_eq}

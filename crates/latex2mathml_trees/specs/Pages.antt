@@ -34,7 +34,7 @@ IsPage bytes = (children : List Name) × ((has_text : Bool) × Runs page_schema 
 -- what is put together of balanced markup is balanced
 pub record JoinsBalanced : Type 0 where
   pub nothing : IsBalanced []
-  -- one behind the other
+  -- one after the other
   pub joined : (markup other : List ℕ) → IsBalanced markup → IsBalanced other → IsBalanced (markup ++ other)
   -- within an element
   pub wrapped : (name : Name) (attributes : List Attribute) (markup : List ℕ) → IsTrue (is_name name) → IsTrue (list_all is_attribute attributes) → IsBalanced markup → IsBalanced (spell_event (open_tag name attributes) ++ (markup ++ spell_event (close_tag name)))

@@ -7,7 +7,7 @@ pub fn widths_are_nearest()
     ensures { WidthsAreNearest }
 {}
 
-/// Balanced markup stays balanced, one behind the other and within an element, and so do pages: markup in which each
+/// Balanced markup stays balanced, one after the other and within an element, and so do pages: markup in which each
 /// element that the child table names obeys it. A `math` element may stand in either.
 pub fn joined_markup()
     ensures { JoinsMarkup }

@@ -36,7 +36,7 @@ pub(crate) fn converted(alloc: Global, document: &str) -> Result<String, LatexEr
     Ok(answer)
 }
 
-/// The error of a document whose first error is this one, of a formula. Dollar signs come first, and those behind the formula
+/// The error of a document whose first error is this one, of a formula. Dollar signs come first, and those after the formula
 /// were not looked at yet: only a document that is refused is cut twice.
 fn refusal(document: &str, error: LatexError) -> LatexError
     ensures { (HasNoCut document.now × (refusal_of result ≡ Some InvalidNumberOfDollarSigns))
@@ -48,7 +48,7 @@ fn refusal(document: &str, error: LatexError) -> LatexError
     }
 }
 
-/// Puts what becomes of a piece behind the text.
+/// Puts what becomes of a piece after the text.
 fn append_piece<'a>(
     formulas: &mut Converter<'a>,
     text: &mut String,
@@ -67,7 +67,7 @@ fn append_piece<'a>(
     Ok(())
 }
 
-/// Puts prose behind the text, with a reference for each dollar sign that a backslash takes.
+/// Puts prose after the text, with a reference for each dollar sign that a backslash takes.
 fn append_prose(text: &mut String, prose: Plain<'_>) -> Result<(), AllocError>
     requires { IsPlain prose.text.now }
     ensures { OnOk result (string_bytes text.new ≡ string_bytes text.old ++ prose_answer prose.entry.text.now) }

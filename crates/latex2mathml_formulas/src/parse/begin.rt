@@ -42,7 +42,7 @@ impl<'a> Parser<'a> {
     }
 
     /// Begins the rule of a lexeme that was taken where a core is due. An operator that is stretched begins with the lexeme
-    /// behind `\middle`, which the frame keeps, because a refusal names it.
+    /// after `\middle`, which the frame keeps, because a refusal names it.
     pub(crate) fn begin(&mut self, lexeme: Lexeme<'a>) -> Result<State, AllocError>
         requires { HasTrees 0 self.old }
         ensures holds { (input : List Tok) → GoesOnBy (rule (lexeme_tok lexeme.entry)) 0 input self.old → IfOk result (Holds input self.new) }
@@ -239,7 +239,7 @@ impl<'a> Parser<'a> {
         Ok(State::Core)
     }
 
-    /// A slash. The lexeme behind it is skipped.
+    /// A slash. The lexeme after it is skipped.
     fn slash(&mut self) -> Result<State, AllocError>
         requires { HasTrees 0 self.old }
         ensures holds { (input : List Tok) → GoesOnBy (rule Slashed) 0 input self.old → IfOk result (Holds input self.new) }
@@ -250,7 +250,7 @@ impl<'a> Parser<'a> {
         self.open(Frame::Slashed)
     }
 
-    /// A fence, which must stand next, and the members behind it.
+    /// A fence, which must stand next, and the members after it.
     fn open_fence(&mut self) -> Result<State, AllocError>
         requires { HasTrees 0 self.old }
         ensures holds { (input : List Tok) → GoesOnBy (rule Left) 0 input self.old → IfOk result (Holds input self.new) }
@@ -264,7 +264,7 @@ impl<'a> Parser<'a> {
         self.open(Frame::Members(Group::Fence(opening), 0))
     }
 
-    /// An environment: its name, and the members behind it.
+    /// An environment: its name, and the members after it.
     fn begin_environment(&mut self) -> Result<State, AllocError>
         requires { HasTrees 0 self.old }
         ensures holds { (input : List Tok) → GoesOnBy (rule Begin) 0 input self.old → IfOk result (Holds input self.new) }

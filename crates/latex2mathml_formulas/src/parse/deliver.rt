@@ -1,4 +1,4 @@
-//! What goes on behind a part, and behind the end of a group.
+//! What goes on after a part, and after the end of a group.
 
 ghost use Rattle.std.specs.Prelude.{◌≡◌, ◌∷◌, ◌+◌, ◌<◌, IfOk, List, drop, reverse, take, vec_len};
 ghost use Rattle.latex2mathml_formulas.specs.Frames.{after_first, tree_count, innermost, script, unfit, within};
@@ -69,7 +69,7 @@ impl<'a> Parser<'a> {
         }
     }
 
-    /// Puts a part behind its operands.
+    /// Puts a part after its operands.
     fn combine(&mut self, kind: Kind<'a>) -> Result<State, AllocError>
         requires { HasTrees (arity kind) self.old }
         ensures holds { (input : List Tok) → Made a_core (level (arity kind.entry) input self.old) (Read (top (put kind.entry (trees_in self.old.parts))) self.old.reader.list) → IfOk result (Holds input self.new) }
@@ -94,7 +94,7 @@ impl<'a> Parser<'a> {
         self.combine(pair.one())
     }
 
-    /// Strikes the last tree through. The lexeme behind it is skipped.
+    /// Strikes the last tree through. The lexeme after it is skipped.
     fn slashed(&mut self) -> Result<State, AllocError>
         requires { HasTrees 1 self.old }
         ensures holds { (input : List Tok) → GoesOnBy (under_slash (top (trees_in self.old.parts))) 1 input self.old → IfOk result (Holds input self.new) }
@@ -106,7 +106,7 @@ impl<'a> Parser<'a> {
         Ok(State::Core)
     }
 
-    /// Stretches the operator that is the last tree, or refuses the lexeme that stood behind `\middle`.
+    /// Stretches the operator that is the last tree, or refuses the lexeme that stood after `\middle`.
     fn stretched(&mut self, got: Lexeme<'a>) -> Result<State, AllocError>
         requires { HasTrees 1 self.old }
         ensures holds { (input : List Tok) → GoesOnBy (stretched_or_refused (lexeme_tok got.entry) (stretched_operator (top (trees_in self.old.parts)))) 1 input self.old → IfOk result (Holds input self.new) }

@@ -116,12 +116,12 @@ pub(crate) enum Pair {
     Underbrace(char),
     /// The limits of an operator, which stand under and over it. This sign stood before the first.
     BigOp(char, Sign),
-    /// The limits of an integral, which stand behind it.
+    /// The limits of an integral, which stand after it.
     Integral(char, Sign),
 }
 
 impl Pair {
-    /// The sign that the second single stands behind.
+    /// The sign that the second single stands after.
     pub(crate) fn sign(self) -> Sign
         ensures { result ≡ pair_sign self }
     {
@@ -181,7 +181,7 @@ pub(crate) enum Frame<'a> {
     Last(Kind<'a>),
     /// A slash that waits for what it strikes through.
     Slashed,
-    /// The lexeme behind `\middle`. The operator is due.
+    /// The lexeme after `\middle`. The operator is due.
     Stretch(Lexeme<'a>),
     /// A script, whose base was read.
     Script(Sign),

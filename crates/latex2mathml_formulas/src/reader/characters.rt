@@ -90,7 +90,7 @@ pub(crate) fn after_char(text: &str, c: char) -> Option<&str>
     if first == c { Some(rest) } else { None }
 }
 
-/// What stands behind the longest run of characters of a class at the start of the text. All classes are of ASCII
+/// What stands after the longest run of characters of a class at the start of the text. All classes are of ASCII
 /// characters.
 #[inline(always)]
 pub(crate) fn skip_run(class: Class, text: &str) -> &str
@@ -108,7 +108,7 @@ pub(crate) fn skip_run(class: Class, text: &str) -> &str
     rest
 }
 
-/// What stands behind the white space at the start of the text.
+/// What stands after the white space at the start of the text.
 #[inline(never)]
 pub(crate) fn skip_space(text: &str) -> &str
     ensures run { (space : List ℕ) ×

@@ -26,7 +26,7 @@ pub(crate) struct Start<'a> {
     pub(crate) first: Option<(char, &'a str)>,
 }
 
-/// Finds where the next slice of the text begins, behind white space. `takes` says that a digit that follows directly is
+/// Finds where the next slice of the text begins, after white space. `takes` says that a digit that follows directly is
 /// a number of its own.
 #[inline(always)]
 pub(crate) fn find_start<'a>(text: &'a str, takes: bool) -> Start<'a>
@@ -90,7 +90,7 @@ pub(crate) fn slice_at<'a>(
     (character(c), after)
 }
 
-/// The lexeme of a colon and what follows it. The text begins behind the colon.
+/// The lexeme of a colon and what follows it. The text begins after the colon.
 fn colon<'a>(text: &'a str) -> (Lexeme<'a>, &'a str)
     ensures lexeme { (alone : Bool) →
         BeginsWith alone (byte ":" ∷ chars text.now) (lexeme_tok result.0) (chars result.1.now) }
@@ -148,7 +148,7 @@ fn number<'a>(text: &'a str) -> (Lexeme<'a>, &'a str)
     (Lexeme::Number(before(text, rest)), rest)
 }
 
-/// What stands behind the number at the start of the text.
+/// What stands after the number at the start of the text.
 #[inline(never)]
 fn skip_number(text: &str) -> &str
     requires { Begins is_ascii_digit (chars text.now) }
@@ -162,7 +162,7 @@ fn skip_number(text: &str) -> &str
     }
 }
 
-/// Returns the lexeme of the command, what follows it, and how many names were compared. The text begins behind the
+/// Returns the lexeme of the command, what follows it, and how many names were compared. The text begins after the
 /// backslash.
 pub(crate) fn command<'a>(text: &'a str) -> (Lexeme<'a>, &'a str, u64)
     ensures lexeme { (alone : Bool) →
@@ -176,7 +176,7 @@ pub(crate) fn command<'a>(text: &'a str) -> (Lexeme<'a>, &'a str, u64)
     (lexeme, rest, compared)
 }
 
-/// What stands behind the name of the command. The text begins behind the backslash.
+/// What stands after the name of the command. The text begins after the backslash.
 fn skip_command_name(text: &str) -> &str
     ensures name { BeginsWithName (chars text.now) (chars result.now) }
     ensures utf8 { IsUtf8 result.now }

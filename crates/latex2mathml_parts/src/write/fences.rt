@@ -99,7 +99,7 @@ fn opening_paren(paren: Paren) -> &'static str
     }
 }
 
-/// A closing fence, and what stands behind it.
+/// A closing fence, and what stands after it.
 pub(crate) fn closing_markup(fence: Option<Paren>) -> &'static str
     ensures { result.now ≡ codes "<mo stretchy=\"true\" form=\"postfix\">" ++ (content (fence_text fence) ++ codes "</mo></mrow>") }
 {

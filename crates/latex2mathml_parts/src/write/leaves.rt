@@ -116,7 +116,7 @@ pub(crate) fn write_slashed(form: Form, out: &mut String) -> Result<bool, AllocE
     }
 }
 
-/// Writes the sign over a tree or under it, and what stands behind it.
+/// Writes the sign over a tree or under it, and what stands after it.
 pub(crate) fn write_sign(
     c: char,
     accent: Accent,

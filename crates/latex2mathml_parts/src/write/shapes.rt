@@ -92,7 +92,7 @@ pub(crate) fn write_limit(
     Ok(end)
 }
 
-/// Puts two trees on the list, of which the earlier one is next, and what stands behind them.
+/// Puts two trees on the list, of which the earlier one is next, and what stands after them.
 fn two(
     after: &'static str,
     end: usize,
@@ -117,7 +117,7 @@ fn two(
     Ok(earlier)
 }
 
-/// Puts two trees on the list, of which the later one is next, and what stands behind them.
+/// Puts two trees on the list, of which the later one is next, and what stands after them.
 fn two_swapped(
     after: &'static str,
     end: usize,

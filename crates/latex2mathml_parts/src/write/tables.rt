@@ -184,7 +184,7 @@ pub(crate) fn binomial_open(display: Option<DisplayStyle>) -> &'static str
     }
 }
 
-/// What stands behind the two numbers of a binomial coefficient.
+/// What stands after the two numbers of a binomial coefficient.
 pub(crate) fn binomial_close(display: Option<DisplayStyle>) -> &'static str
     ensures { result.now ≡ binomial_close display }
 {
