@@ -1,7 +1,7 @@
 -- What a second run of a build reads is a page without a dollar sign, so it changes nothing and refuses nothing.
-use Rattle.std.proofs.Common.{◌≡◌, ℕ, Bool, List, [], ◌++◌, Option, Some, None, Result, Ok, Err, IsTrue, sym, ap, ◌∙◌, subst, append-nil, string_bytes}
+use Rattle.std.proofs.Common.{◌≡◌, ℕ, List, ◌++◌, Option, Some, None, Ok, Err, IsTrue, sym, ap, ◌∙◌, subst, append-nil}
 use Rattle.std.specs.Io.KnownBytes.{Consumes, IsAtEnd}
-use Rattle.std.specs.Prelude.{IfSome}
+use Rattle.std.specs.Prelude.{IfSome, IsUtf8}
 use Rattle.latex2mathml.specs.Documents.{IsRefusal}
 use Rattle.latex2mathml.specs.Dollars.{IsDollarFree}
 use Rattle.latex2mathml.specs.Inputs.{IsReadingOf, IsWholeText}
@@ -23,16 +23,16 @@ all_of : (page : List ℕ) (left : Option (List ℕ)) (bytes : List ℕ) → Con
 all_of page None bytes gave at_end = absurd gave
 all_of page (Some rest) bytes gave at_end = sym (gave ∙ ap (λ l. bytes ++ l) at_end ∙ append-nil bytes)
 
-pub refuses_nothing : (document page : List ℕ) (left : Option (List ℕ)) (bytes : List ℕ) (state : StreamState) (fault : FileFault) → Consumes (Some page) left bytes → (IsTrue state.ended → IsAtEnd left) → IsDollarFree page → IsReadingOf bytes state (Err fault) → IsFaultOf document fault
-refuses_nothing document page left bytes state (Refused error) gave at_end free is = by (refusal_of error) is.0.1 is.1
+pub refuses_nothing : (document page : List ℕ) (left : Option (List ℕ)) (bytes : List ℕ) (state : StreamState) (fault : FileFault) → Consumes (Some page) left bytes → (IsTrue state.ended → IsAtEnd left) → IsDollarFree page → IsUtf8 page → IsReadingOf bytes state (Err fault) → IsFaultOf document fault
+refuses_nothing document page left bytes state (Refused error) gave at_end free text is = by (refusal_of error) is.0.1 is.1
   where
     by : (told : Option Refusal) → IfSome told (λ refusal. IsWholeText bytes state × IsRefusal bytes refusal) → (IsDollarFree bytes → told ≡ None) → IfSome told (IsRefusal document)
     by None is none = tt
     by (Some refusal) is none = absurd (let k : Some refusal ≡ None = none (subst IsDollarFree (sym (all_of page left bytes gave (at_end (is.0).is_ended))) free) in cc)
-refuses_nothing document page left bytes state Read gave at_end free is = tt
-refuses_nothing document page left bytes state NotText gave at_end free is = tt
-refuses_nothing document page left bytes state Unlisted gave at_end free is = tt
-refuses_nothing document page left bytes state Entry gave at_end free is = tt
-refuses_nothing document page left bytes state TooDeep gave at_end free is = tt
-refuses_nothing document page left bytes state Create gave at_end free is = tt
-refuses_nothing document page left bytes state (Write written cause) gave at_end free is = tt
+refuses_nothing document page left bytes state Read gave at_end free text is = tt
+refuses_nothing document page left bytes state NotText gave at_end free text is = absurd (is.0.1 (subst IsUtf8 (sym (all_of page left bytes gave (at_end is.0.0.1))) text))
+refuses_nothing document page left bytes state Unlisted gave at_end free text is = is.0
+refuses_nothing document page left bytes state Entry gave at_end free text is = is.0
+refuses_nothing document page left bytes state TooDeep gave at_end free text is = is.0
+refuses_nothing document page left bytes state Create gave at_end free text is = is.0
+refuses_nothing document page left bytes state (Write written cause) gave at_end free text is = is.0

@@ -4,6 +4,7 @@ pub mod Caches
 pub mod Checked
 pub mod Limited
 pub mod Mistakes
+pub mod Puts
 pub mod Sections
 pub mod Shown
 pub mod Stored

@@ -1,8 +1,9 @@
 //! A build that may run again over its own output.
-ghost use Rattle.std.specs.Prelude.{◌≡◌, ℕ, List, IfErr, IfOk, MatchOption, string_bytes};
+ghost use Rattle.std.specs.Prelude.{◌≡◌, ℕ, List, Err, IfErr, IfOk, MatchOption, string_bytes};
 ghost use Rattle.latex2mathml.specs.Documents.{IsAnswer};
 ghost use Rattle.latex2mathml.specs.DocumentLaws.{IsOwnAnswer};
 ghost use Rattle.latex2mathml.specs.Dollars.{IsDollarFree};
+ghost use Rattle.latex2mathml.specs.Inputs.{IsReadingOf};
 ghost use Rattle.latex2mathml.specs.Streams.{CanGoOn, Gives};
 ghost use Rattle.latex2mathml_uses.specs.Builds.{IsFaultOf, page_text};
 
@@ -11,13 +12,16 @@ use std::alloc::Global;
 
 /// Reads a page, and returns what a run of the build writes in its place: the answer of the page if the page contains a dollar
 /// sign, and otherwise nothing, because the page is its own answer. What it writes is also its own answer, so the next run
-/// writes nothing.
+/// writes nothing. An error is the one that reading the page reports.
 pub fn rewritten<S: Source>(alloc: Global, source: &mut S) -> Result<Option<String>, FileFault>
     requires { CanGoOn (S.state source.old) }
-    ensures { IfOk result (λ written. (page : List ℕ)
+    ensures written { IfOk result (λ written. (page : List ℕ)
         × Gives (S.state source.old) (S.state source.new) page
         × MatchOption written (IsDollarFree page × IsOwnAnswer page) (λ answer.
         (¬ IsDollarFree page) × IsAnswer page (string_bytes answer) × IsOwnAnswer (string_bytes answer))) }
+    ensures fault { IfErr result (λ fault. (page : List ℕ)
+        × Gives (S.state source.old) (S.state source.new) page
+        × IsReadingOf page (S.state source.new) (Err fault)) }
 {
     laws::answers();
     match read_document(alloc, source)? {
@@ -26,10 +30,17 @@ pub fn rewritten<S: Source>(alloc: Global, source: &mut S) -> Result<Option<Stri
     }
 }
 
-/// Returns the page that a run leaves, for a template engine in which a dollar sign begins a name. The page contains none.
+/// Returns the page that a run leaves, for a template engine in which a dollar sign begins a name. The page contains none. An
+/// error is the one that reading the document reports.
 pub fn template<S: Source>(alloc: Global, source: &mut S) -> Result<String, FileFault>
     requires { CanGoOn (S.state source.old) }
-    ensures { IfOk result (λ page. IsDollarFree (string_bytes page)) }
+    ensures page { IfOk result (λ page. (document : List ℕ)
+        × Gives (S.state source.old) (S.state source.new) document
+        × IsAnswer document (string_bytes page)) }
+    ensures dollar_free { IfOk result (λ page. IsDollarFree (string_bytes page)) }
+    ensures fault { IfErr result (λ fault. (document : List ℕ)
+        × Gives (S.state source.old) (S.state source.new) document
+        × IsReadingOf document (S.state source.new) (Err fault)) }
 {
     Ok(page_of(read_document(alloc, source)?))
 }

@@ -1,5 +1,5 @@
 //! A page that grows at its end, and a document in a page.
-ghost use Rattle.std.specs.Prelude.{◌≡◌, ℕ, List, ◌++◌, IfOk, OnErr, OnOk, codes, string_bytes};
+ghost use Rattle.std.specs.Prelude.{◌≡◌, ℕ, List, [], ◌++◌, IfOk, OnErr, OnOk, codes, string_bytes};
 ghost use Rattle.latex2mathml.specs.Documents.{IsAnswer, IsRefusal};
 ghost use Rattle.latex2mathml.specs.DocumentLaws.{HasElements};
 ghost use Rattle.latex2mathml.specs.Surroundings.{HasBalancedProse, HasPageProse};
@@ -11,7 +11,8 @@ use std::alloc::Global;
 
 /// Returns an empty page.
 pub fn blank(alloc: Global) -> String
-    ensures { IsBalanced (string_bytes result) }
+    ensures empty { string_bytes result ≡ [] }
+    ensures balanced { IsBalanced (string_bytes result) }
 {
     laws::joined_markup();
     String::new(alloc)

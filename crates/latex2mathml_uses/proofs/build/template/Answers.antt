@@ -1,5 +1,5 @@
 use Rattle.latex2mathml_uses.proofs.SecondRuns.{page_free}
 use Rattle.latex2mathml_uses.proofs.build.template.Goals as goal
 
-pub returns : goal.returns
-returns g c = rw c.page_of.ensures (page_free _ _ _ c.in_ok-read_document.ensures.reading.2)
+pub returns-clause-dollar_free : goal.returns-clause-dollar_free
+returns-clause-dollar_free g c = rw c.page_of.ensures (page_free _ _ _ c.in_ok-read_document.ensures.reading.2)
