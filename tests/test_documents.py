@@ -134,6 +134,15 @@ class Readme(Case):
         self.expect(run([program(), "inline"], stdin=b"{"), status=1, stdout=b"", stderr=None)
         self.expect(run([program(), "wrong"]), status=2, stdout=b"", stderr=None)
 
+    def test_its_status_of_files(self):
+        self.assertIn("converts the others, and then has status 1", " ".join(self.text.split()))
+        folder = self.enterContext(scratch())
+        for name, text in (("a", "${$"), ("b", "$x$")):
+            (folder / f"{name}.html").write_text(text)
+        self.expect(run([program(), "html", folder]), status=1, stdout=b"", stderr=None)
+        self.assertEqual((folder / "a.html").read_text(), "${$")
+        self.assertIn("<mi>x</mi>", (folder / "b.html").read_text())
+
     def test_its_site_is_converted_over_a_copy(self):
         command = re.search(r"^    (rm -rf site\.new site\.old && .*)\n", self.text, re.M)
         self.assertIsNotNone(command)
