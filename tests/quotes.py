@@ -15,6 +15,10 @@ QUOTE = re.compile(r"<!-- quoted from (?P<path>\S+) -->\n```rust\n(?P<text>.*?)`
 # the library's crates with public calls
 LIBRARY = ("latex2mathml_tokens", "latex2mathml_trees", "latex2mathml_nodes", "latex2mathml_formulas", "latex2mathml")
 
+# the files whose public calls are for the library's own crates alone
+OWN_CALLS = ("latex2mathml_tokens/lexeme.rt", "latex2mathml_tokens/names.rt", "latex2mathml_trees/append.rt", "latex2mathml_trees/text.rt",
+             "latex2mathml_trees/width.rt", "latex2mathml_formulas/formula.rt")
+
 
 @dataclass(frozen=True)
 class Definition:
@@ -86,8 +90,7 @@ def quoted(document):
 
 
 def public_calls():
-    """The names of the functions that callers of the library can use. The functions of lexemes, of the loop over a formula's text and
-    of escaped texts are public only for the library's own crates."""
+    """The names of the functions that callers of the library can use."""
     names = set()
     for source in sources():
         names.update(re.findall(r"^ *pub (?:const )?fn (\w+)", source.read_text(), re.M))
@@ -97,5 +100,5 @@ def public_calls():
 def sources():
     for crate in LIBRARY:
         for source in sorted((ROOT / "crates" / crate / "src").rglob("*.rt")):
-            if source.name not in ("lexeme.rt", "names.rt", "formula.rt", "append.rt", "text.rt", "width.rt"):
+            if f"{crate}/{source.name}" not in OWN_CALLS:
                 yield source
