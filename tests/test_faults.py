@@ -17,8 +17,11 @@ OF_FORMULA = faulty.math("<mi>a</mi><mo>&lt;</mo><mfrac><mn>1</mn><mn>2</mn></mf
 DOCUMENT = "é $x$ é".encode()
 OF_DOCUMENT = "é ".encode() + faulty.X + " é".encode()
 
-# a word of the program, its input, and its answer
-ANSWERS = {"inline": (FORMULA, OF_FORMULA), "document": (DOCUMENT, OF_DOCUMENT)}
+LESS = faulty.math("<mi>x</mi><mo>&lt;</mo><mi>y</mi>") + b"\n"
+ENERGY = faulty.math("<mi>E</mi><mo>=</mo><mi>m</mi><msup><mi>c</mi><mn>2</mn></msup>") + b" is"
+
+# words of the program, with inputs and their answers
+ANSWERS = {"inline": [(FORMULA, OF_FORMULA), (b"x<y", LESS)], "document": [(DOCUMENT, OF_DOCUMENT), (b"$E = m c^2$ is", ENERGY)]}
 
 # an error of the device, an interruption, and a call that would have to wait
 READ_ERRORS = {"an error": 5, "an interruption": 4, "a wait": 11}
@@ -49,16 +52,16 @@ class Streams(support.Case):
 class Inputs(Streams):
     def fails_at_each_read(self, word, error):
         """One byte per call, and each call in turn fails, also the one that would report the end. Nothing after it is read."""
-        given, answer = ANSWERS[word]
-        for number in itertools.count(1):
-            with self.subTest(call=number), open_input(given) as source:
-                done, failed = self.run_with(word, source, fault=Fault("read", number, number, error), step=1)
-                if not failed:
-                    self.assertEqual(number, len(given) + 2)
-                    self.expect(done, 0, answer)
-                    return
-                self.expect(done, 1, b"", UNREAD)
-                self.assertEqual(len(source.read()), len(given) - number + 1)
+        for given, answer in ANSWERS[word]:
+            for number in range(1, len(given) + 3):
+                with self.subTest(given=given, call=number), open_input(given) as source:
+                    done, failed = self.run_with(word, source, fault=Fault("read", number, number, error), step=1)
+                    self.assertEqual(bool(failed), number < len(given) + 2)
+                    if failed:
+                        self.expect(done, 1, b"", UNREAD)
+                        self.assertEqual(len(source.read()), len(given) - number + 1)
+                    else:
+                        self.expect(done, 0, answer)
 
     def test_formula_by_bytes(self):
         self.judge(self.run_with("inline", FORMULA, step=1), 0, OF_FORMULA, b"")
@@ -124,15 +127,15 @@ for before in range(ROOM - 4, ROOM + 1):
 class Outputs(Streams):
     def stops_at_each_write(self, word, error):
         """One byte per call, and each call in turn fails, or takes nothing if the error is 0. Nothing after it is written."""
-        given, answer = ANSWERS[word]
-        for number in itertools.count(1):
-            done, failed = self.run_with(word, given, fault=Fault("write", number, number, error), step=1)
-            with self.subTest(call=number):
-                if not failed:
-                    self.assertEqual(number, len(answer) + 1)
-                    self.expect(done, 0, answer)
-                    return
-                self.expect(done, 1, answer[:number - 1], stopped(number - 1))
+        for given, answer in ANSWERS[word]:
+            for number in range(1, len(answer) + 2):
+                with self.subTest(given=given, call=number):
+                    done, failed = self.run_with(word, given, fault=Fault("write", number, number, error), step=1)
+                    self.assertEqual(bool(failed), number <= len(answer))
+                    if failed:
+                        self.expect(done, 1, answer[:number - 1], stopped(number - 1))
+                    else:
+                        self.expect(done, 0, answer)
 
     def test_byte_by_byte(self):
         self.judge(self.run_with("inline", FORMULA, step=1), 0, OF_FORMULA, b"")

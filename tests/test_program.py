@@ -20,6 +20,9 @@ INLINE = math(LESS)
 BLOCK = math(LESS, "block")
 X = math("<mi>x</mi>")
 
+# how many bytes are read: around the number that the program requests at a time, and far above it
+SIZES = (1, 4095, 4096, 4097, 8 << 20)
+
 
 def error(text):
     return f"LaTeX2MathML Error: {text}\n".encode()
@@ -46,6 +49,7 @@ class Formulas(Case):
             ("a line", b"x<y", "inline", INLINE),
             ("a block", b"x<y", "block", BLOCK),
             ("a line feed behind the formula", b"x<y\n", "inline", INLINE),
+            ("scripts", b"x_{a}^{b}\n", "inline", math("<msub><mi>x</mi><msup><mi>a</mi><mi>b</mi></msup></msub>")),
             ("nothing", b"", "inline", math("")),
         ]:
             with self.subTest(name):
@@ -54,11 +58,20 @@ class Formulas(Case):
     def test_refused(self):
         for name, given, word, line in [
             ("a brace that does not close", b"{x", "inline", NO_END),
+            ("a group that does not close", b"{a b", "block", NO_END),
             ("an input that is no text", b"x\xff", "inline", NO_TEXT),
             ("a character that is cut off", b"x\xc3", "block", NO_TEXT),
         ]:
             with self.subTest(name):
                 self.expect(run([LAUNCHER, word], stdin=given), 1, b"", line)
+
+    def test_sizes(self):
+        """Sizes around that of one read, and far above it."""
+        for size in SIZES:
+            with self.subTest(size):
+                digits = b"7" * size
+                answer = math(f"<mn>{digits.decode()}</mn>", "block") + b"\n"
+                self.expect(run([LAUNCHER, "block"], stdin=digits), stdout=answer)
 
     def test_a_million_braces(self):
         """They are read with a stack of 8 MiB, and one that is not closed is refused."""
@@ -77,13 +90,21 @@ class Documents(Case):
             ("a formula in prose", b"a $x<y$, b", b"a " + INLINE + b", b"),
             ("a formula in a block", b"$$x<y$$", BLOCK),
             ("a line feed at the end", b"$x<y$\n", INLINE + b"\n"),
+            ("prose behind a formula", b"$E = m c^2$ is", math("<mi>E</mi><mo>=</mo><mi>m</mi><msup><mi>c</mi><mn>2</mn></msup>") + b" is"),
             ("no formula", b"no sign", b"no sign"),
+            ("a line", b"x<y\n", b"x<y\n"),
             ("nothing", b"", b""),
             ("a dollar sign behind a backslash", b"\\$5, $x<y$", b"&#x24;5, " + INLINE),
             ("prose outside ASCII", "é $x<y$ é\r\n\0".encode(), "é ".encode() + INLINE + " é\r\n\0".encode()),
         ]:
             with self.subTest(name):
                 self.expect(run([LAUNCHER, "document"], stdin=given), stdout=answer)
+
+    def test_sizes(self):
+        for size in SIZES:
+            with self.subTest(size):
+                digits = b"7" * size
+                self.expect(run([LAUNCHER, "document"], stdin=digits), stdout=digits)
 
     def test_refused(self):
         for name, given, line in [
@@ -102,17 +123,28 @@ class Words(Case):
             ("an empty one", [""]),
             ("a wrong one", ["markup"]),
             ("two", ["inline", "block"]),
+            ("a right one twice", ["document", "document"]),
             ("a document and a path", ["document", "index.html"]),
             ("a right one and an empty one", ["inline", ""]),
+            ("a right one and another empty one", ["block", ""]),
             ("one that begins as a right one", ["inlines"]),
+            ("another that begins so", ["blocks"]),
             ("the beginning of a right one", ["bloc"]),
+            ("a right one without its end", ["inlin"]),
             ("documents", ["documents"]),
             ("capitals", ["INLINE"]),
+            ("a capital", ["Inline"]),
+            ("a document with a capital", ["Document"]),
             ("white space behind a right one", ["inline "]),
+            ("white space before a right one", [" inline"]),
             ("one that is no text", [b"\xff"]),
             ("a right one and one that is no text", ["inline", b"a\xc3"]),
             ("a path and another", ["html", ".", "extra"]),
+            ("a path and an empty one", ["html", "none", ""]),
             ("no path", ["html"]),
+            ("capitals and a path", ["HTML", "none"]),
+            ("the beginning of html and a path", ["htm", "none"]),
+            ("a path before html", ["none", "html"]),
         ]:
             with self.subTest(name):
                 self.expect(run([LAUNCHER, *words], stdin=b"x<y"), 2, b"", USAGE)

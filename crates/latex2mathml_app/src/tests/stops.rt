@@ -1,7 +1,6 @@
 //! Streams that fail or stop while the program runs, and wrong words, which touch none.
 use crate::tests::{
-    ANSWER, DOCUMENT, INLINE, LONG_AGO, Reader, USAGE, Writer, by_bytes, failing, served_over,
-    stream,
+    INLINE, LONG_AGO, Reader, USAGE, Writer, by_bytes, failing, served_over, stream,
 };
 use std::alloc::AllocError;
 use std::io;
@@ -118,41 +117,6 @@ fn serves_a_stopped_output(rt: HostRuntime) -> Result<(), Fail> {
         );
         assert!(rt;
             tells_a_stopped_output(&rt, Some(io::ErrorKind::Interrupted), calls, 9)?,
-            "{calls}"
-        );
-    }
-    Ok(())
-}
-
-/// Whether an output that stops in this way after this many bytes of a document's answer is reported by its line and status.
-fn tells_a_stopped_document(
-    rt: &HostRuntime,
-    error: Option<io::ErrorKind>,
-    calls: usize,
-) -> Result<bool, AllocError> {
-    let alloc = rt.alloc();
-    let mut input = stream(by_bytes(DOCUMENT.as_bytes(), LONG_AGO));
-    let mut output = stream(Writer {
-        held: Vec::new(alloc),
-        calls_left: calls,
-        error,
-    });
-    let mut errors = stream(failing(alloc, LONG_AGO));
-    let status = served_over(rt, &["document"], &mut input, &mut output, &mut errors)?;
-    let line = format!(in alloc; "LaTeX2MathML Error: The output stopped after {calls} bytes.\n")?;
-    Ok(
-        status == 1
-            && output.inner.held.as_slice() == &ANSWER.as_bytes()[..calls.min(ANSWER.len())]
-            && errors.inner.held.as_slice() == line.as_bytes(),
-    )
-}
-
-#[test]
-fn serves_a_stopped_document(rt: HostRuntime) -> Result<(), Fail> {
-    for calls in [0, 1, 60, ANSWER.len() - 1] {
-        assert!(rt; tells_a_stopped_document(&rt, None, calls)?, "{calls}");
-        assert!(rt;
-            tells_a_stopped_document(&rt, Some(io::ErrorKind::Other), calls)?,
             "{calls}"
         );
     }
