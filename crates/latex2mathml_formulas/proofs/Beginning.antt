@@ -1,13 +1,13 @@
 -- How the rules of lexemes begin.
-use Rattle.std.proofs.Common.{◌≡◌, ◌≢◌, ℕ, List, [], ◌∷◌, ◌++◌, Option, Some, None, refl, sym, ap, subst, ◌∙◌}
+use Rattle.std.proofs.Common.{◌≡◌, ℕ, List, [], ◌∷◌, ◌++◌, Some, None, refl, sym, subst, ◌∙◌}
 use Rattle.latex2mathml_formulas.specs.Frames.{inside}
-use Rattle.latex2mathml_formulas.specs.Grammar.{Sort, core, Outcome, Read, Refused, Rule, a_fence, first_or_end, gives, refuses, reads_part, rule, rule_gives, rule_refuses, single, sized, stretched_or_refused, with_fence, ReadsRule}
+use Rattle.latex2mathml_formulas.specs.Grammar.{core, Outcome, Read, Refused, Rule, a_fence, first_or_end, gives, refuses, reads_part, rule, rule_gives, rule_refuses, single, sized, stretched_or_refused, with_fence}
 use Rattle.latex2mathml_formulas.specs.Levels.{due_of, Leads, Level, Made, MayBegin, RuleLeads}
 use Rattle.latex2mathml_formulas.specs.Marks.{rest_of}
 use Rattle.latex2mathml_trees.specs.Productions.{fence_of, stretched_operator}
 use Rattle.latex2mathml_trees.specs.Tree.{Tree, undefined}
 use Rattle.latex2mathml_tokens.specs.Lexemes.{lexeme_tok}
-use Rattle.latex2mathml_tokens.specs.Refusal.{Refusal, MissingParensethis, UnexpectedToken}
+use Rattle.latex2mathml_tokens.specs.Refusal.{MissingParensethis, UnexpectedToken}
 use Rattle.latex2mathml_tokens.specs.Tok.{Tok, EOF, Middle, Paren}
 use Rattle.latex2mathml_tokens.specs.TokenText.{token_text}
 use Rattle.latex2mathml_tokens.specs.declared.lexeme.Lexeme.{Lexeme}

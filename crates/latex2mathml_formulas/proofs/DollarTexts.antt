@@ -1,12 +1,9 @@
 -- Texts that hold no dollar sign, escaped and in numbers.
-use Rattle.std.proofs.Common.{◌≡◌, ◌≢◌, ℕ, zero, suc, ℤ, pos, negsuc, ◌+◌, ◌/◌, ◌%◌, ◌<◌, Bool, true, false, not, ◌&&◌, List, [], ◌∷◌, ◌++◌, ⊎_elim, refl, ap, ◌∙◌, arith, codes, cond, nat_eq}
+use Rattle.std.proofs.Common.{◌≡◌, ℕ, zero, suc, ℤ, pos, negsuc, ◌+◌, ◌/◌, ◌%◌, ◌<◌, Bool, true, false, not, List, [], ◌∷◌, ⊎_elim, refl, arith, codes, cond, nat_eq}
 use Rattle.std.specs.Char.{encode_utf8}
 use Rattle.std.specs.Fmt.{decimal, digits, digits_onto, digit_glyph}
-use Rattle.std.specs.List.{list_all}
-use Rattle.std.proofs.lemmas.Bool.{and_parts}
 use Rattle.std.proofs.lemmas.Bool.Decides.{eqb_tells, nat_tests}
-use Rattle.std.proofs.lemmas.List.Folds.{list_all-append}
-use Rattle.latex2mathml_formulas.specs.Dollars.{dollar, is_other, IsDollarFree, free_both, free_first, free_more, free_one, free_rest, other}
+use Rattle.latex2mathml_formulas.specs.Dollars.{is_other, IsDollarFree, free_both, free_first, free_more, free_one, free_rest, other}
 use Rattle.latex2mathml_tokens.specs.Escape.{content, content_byte, content_char, value, value_byte}
 use Rattle.latex2mathml_trees.specs.Width.{width_text, thousandths_text, thousandths, after_point, trimmed, keep, three_digits}
 

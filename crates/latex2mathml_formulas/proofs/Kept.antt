@@ -1,6 +1,6 @@
 -- One induction over what is read: where each rule keeps a property of trees, of refusals and of tokens, all that is read
 -- of tokens that have it has it.
-use Rattle.std.proofs.Common.{ℕ, List, [], ◌∷◌, Option, Some, None, subst}
+use Rattle.std.proofs.Common.{ℕ, List, [], ◌∷◌, Option, subst}
 use Rattle.latex2mathml_formulas.specs.Grammar.{Sort, Rule, gives, refuses, reads_part, reads_members, reads_sign, takes_token, sees_token, takes_letters, rule, rule_after_core, rule_after_single, Outcome, Read, Refused, first_or_end, AreLetters, Reads, core_at_end, core_begun, single_read, node_read, ReadsRule, rule_gives, rule_refuses, part_read, part_refused, members_read, members_refused, sign_stands, sign_missing, token_taken, token_at_end, token_seen, letters_taken, ReadsAll, formula_ends, group_ends, never_closed, member_read, later_refused, member_refused}
 use Rattle.latex2mathml_trees.specs.Tree.{Tree, undefined}
 use Rattle.latex2mathml_tokens.specs.Refusal.{Refusal, UnexpectedToken}

@@ -1,6 +1,6 @@
 -- No formula is refused for dollar signs.
-use Rattle.std.proofs.Common.{◌≡◌, ◌≢◌, ℕ, List, [], ◌∷◌, Option, Some, None}
-use Rattle.latex2mathml_formulas.specs.Grammar.{Rule, rule, sized, with_fence, stretched_or_refused, environment, Outcome, Refused, Refuses}
+use Rattle.std.proofs.Common.{◌≢◌, ℕ, List, [], ◌∷◌, Option, Some, None}
+use Rattle.latex2mathml_formulas.specs.Grammar.{Rule, rule, sized, with_fence, stretched_or_refused, environment, Refused, Refuses}
 use Rattle.latex2mathml_formulas.specs.Rendering.{IsFormulaRefusal}
 use Rattle.latex2mathml_trees.specs.Productions.{fence_of}
 use Rattle.latex2mathml_trees.specs.Tree.{Tree}

@@ -1,12 +1,10 @@
 -- Frames put on the parser's stack and taken off it, beside the trees that were read.
-use Rattle.std.proofs.Common.{◌≡◌, ◌≢◌, ℕ, ◌+◌, ◌-◌, ◌≤◌, Bool, true, false, List, [], ◌∷◌, ◌++◌, Option, Some, refl, sym, ap, subst, ◌∙◌, reverse}
-use Rattle.std.specs.Prelude.{IsTrue}
+use Rattle.std.proofs.Common.{◌≡◌, ◌≢◌, List, [], ◌∷◌, ◌++◌, refl, sym, ap, subst, ◌∙◌, reverse}
 use Rattle.std.proofs.lemmas.List.{reverse-append}
-use Rattle.latex2mathml_formulas.specs.Frames.{awaits, enter, first_due, tree_count, innermost, inside, inside_all, sort_made, standing_of, takes_script, whole, within}
-use Rattle.latex2mathml_formulas.specs.Grammar.{core, node, Outcome, Read, Reads, Refused, rule, Rule, rule_gives, gives, refuses, rule_refuses}
+use Rattle.latex2mathml_formulas.specs.Frames.{awaits, enter, first_due, innermost, inside, inside_all, sort_made, standing_of, whole, within}
+use Rattle.latex2mathml_formulas.specs.Grammar.{core, node, Outcome, Read, Reads, Refused, rule}
 use Rattle.latex2mathml_formulas.specs.Levels.{due_of, end_token, Leads, Level, Made, MayBegin, RuleLeads, Accepts}
 use Rattle.latex2mathml_trees.specs.Tree.{Tree, undefined}
-use Rattle.latex2mathml_parts.specs.Parts.{top}
 use Rattle.latex2mathml_tokens.specs.Refusal.{Refusal, UnexpectedToken}
 use Rattle.latex2mathml_tokens.specs.Tok.{Tok, EOF}
 use Rattle.latex2mathml_tokens.specs.TokenText.{token_text}

@@ -1,5 +1,5 @@
 -- What is counted of a text, over its slices.
-use Rattle.std.specs.Prelude.{◌≡◌, ℕ, ◌+◌, ◌*◌, ◌<◌, ◌≤◌, Bool, true, false, IsTrue, List, [], ◌∷◌, length, take, count_by, None, if◌then◌else◌}
+use Rattle.std.specs.Prelude.{◌≡◌, ℕ, ◌+◌, ◌*◌, ◌<◌, ◌≤◌, Bool, false, IsTrue, List, [], ◌∷◌, length, take, count_by, None, if◌then◌else◌}
 use Rattle.latex2mathml_formulas.specs.Characters.{◌∈◌}
 use Rattle.latex2mathml_formulas.specs.Grammar.{node, Read, Reads, Refused}
 use Rattle.latex2mathml_formulas.specs.Spelling.{Slice, HasSlices, HasTokens}

@@ -1,16 +1,16 @@
 -- The list of what is still to be written.
-use Rattle.std.proofs.Common.{◌≡◌, ℕ, ◌+◌, ◌*◌, ◌<◌, ◌≤◌, List, [], ◌∷◌, ◌++◌, length, take, drop, suc, refl, sym, ap, ◌∙◌, arith, append_assoc, append-nil, codes, Option, None, Some, subst, reverse, sum_by, zero}
+use Rattle.std.proofs.Common.{◌≡◌, ℕ, ◌+◌, ◌*◌, ◌≤◌, List, [], ◌∷◌, ◌++◌, length, take, drop, suc, refl, sym, ap, ◌∙◌, arith, append_assoc, append-nil, Option, subst, reverse, sum_by}
 use Rattle.std.proofs.lemmas.List.{reverse-append}
 use Rattle.std.proofs.lemmas.Grind.{flat_map-append}
 use Rattle.std.proofs.lemmas.List.Sums.{sum_by-append}
 use Rattle.std.specs.List.{flat_map}
 use Rattle.latex2mathml_trees.specs.Print.{member_print, members_print, print, prints}
-use Rattle.latex2mathml_trees.specs.Tree.{Tree, Trees, trees_of}
+use Rattle.latex2mathml_trees.specs.Tree.{Tree, trees_of}
 use Rattle.latex2mathml_trees.specs.Weight.{weights}
 use Rattle.latex2mathml_tokens.specs.declared.attribute.Variant.{Variant}
 use Rattle.latex2mathml_parts.specs.Forms.{all_in, in_style}
 use Rattle.latex2mathml_parts.specs.Parts.{top}
-use Rattle.latex2mathml_parts.specs.Works.{AreIn, IsIn, cells_in, due, print_weight, prints_in, work_print, work_weight}
+use Rattle.latex2mathml_parts.specs.Works.{AreIn, IsIn, cells_in, due, print_weight, prints_in, work_print}
 use Rattle.latex2mathml_parts.specs.declared.form.Part.{Part}
 use Rattle.latex2mathml_parts.specs.declared.work.Work.{Work}
 use Rattle.latex2mathml_parts.proofs.Styles.{weights-in}

@@ -1,4 +1,4 @@
-use Rattle.std.proofs.Common.{◌≡◌, ◌+◌, ◌<◌, ◌++◌, ℕ, List, string_bytes, sum_by}
+use Rattle.std.proofs.Common.{◌≡◌, ◌+◌, ◌<◌, ◌++◌, string_bytes, sum_by}
 use Rattle.latex2mathml_trees.specs.Print.{print}
 use Rattle.latex2mathml_parts.specs.Forms.{aside, in_style}
 use Rattle.latex2mathml_parts.specs.Works.{AreIn, IsNext, due, next_print, next_weight, print_weight, tree_at, work_weight}

@@ -1,4 +1,4 @@
-use Rattle.std.proofs.Common.{◌≡◌, ◌<◌, ◌+◌, ◌++◌, ap, append_assoc, arith, codes, reverse, string_bytes, sum_by, sym, take, ◌∙◌}
+use Rattle.std.proofs.Common.{◌≡◌, ◌++◌, ap, append_assoc, arith, codes, reverse, string_bytes, sym, take, ◌∙◌}
 use Rattle.latex2mathml_trees.specs.Print.{print}
 use Rattle.latex2mathml_trees.specs.Tree.{row, trees_of}
 use Rattle.latex2mathml_tokens.specs.Escape.{content_char}

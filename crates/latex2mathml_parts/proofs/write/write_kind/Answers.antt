@@ -1,10 +1,8 @@
-use Rattle.std.proofs.Common.{◌≡◌, ◌++◌, ap, codes, drop, string_bytes, sym, take, ◌∙◌}
-use Rattle.std.specs.Prelude.{None, Some}
+use Rattle.std.proofs.Common.{◌++◌, ap, codes, drop, string_bytes, sym, take, ◌∙◌}
 use Rattle.latex2mathml_trees.specs.Print.{print}
 use Rattle.latex2mathml_parts.specs.Forms.{aside, forest, in_style}
 use Rattle.latex2mathml_parts.specs.Parts.{fence_text, put, top}
 use Rattle.latex2mathml_parts.specs.Works.{binomial_open, due}
-use Rattle.latex2mathml_parts.specs.declared.kind.Kind.{Kind}
 use Rattle.latex2mathml_tokens.specs.Escape.{content}
 use Rattle.latex2mathml_parts.proofs.Markups.{between, binomial_plain, binomial_print, overbraced_print, primed_print, underbraced_print}
 use Rattle.latex2mathml_parts.proofs.write.write_kind.Goals as goal

@@ -1,4 +1,4 @@
-use Rattle.std.proofs.Common.{◌≡◌, ◌++◌, ℕ, List, string_bytes, sum_by}
+use Rattle.std.proofs.Common.{◌≡◌, ◌++◌, string_bytes, sum_by}
 use Rattle.latex2mathml_trees.specs.Print.{print}
 use Rattle.latex2mathml_parts.specs.Forms.{aside, forest}
 use Rattle.latex2mathml_parts.specs.Parts.{top}

@@ -1,4 +1,4 @@
-use Rattle.std.proofs.Common.{[], refl, sym, subst, ◌∙◌}
+use Rattle.std.proofs.Common.{sym, subst, ◌∙◌}
 use Rattle.latex2mathml_formulas.specs.Grammar.{Read, Reads, Refused, core, node}
 use Rattle.latex2mathml_formulas.specs.Levels.{Made}
 use Rattle.latex2mathml_formulas.specs.Steps.{level}
@@ -8,7 +8,7 @@ use Rattle.latex2mathml_tokens.specs.Refusal.{UnexpectedToken}
 use Rattle.latex2mathml_tokens.specs.Tok.{EOF}
 use Rattle.latex2mathml_tokens.specs.TokenText.{token_text}
 use Rattle.latex2mathml_formulas.proofs.Stacks.{group_open, nothing_begun}
-use Rattle.latex2mathml_formulas.proofs.Stepping.{follows_within, part_weight, refused}
+use Rattle.latex2mathml_formulas.proofs.Stepping.{refused}
 use Rattle.latex2mathml_formulas.proofs.parse.Parser.at_end.Goals as goal
 
 pub returns-in-Member-clause-holds : goal.returns-in-Member-clause-holds

@@ -1,11 +1,9 @@
-use Rattle.std.proofs.Common.{◌≡◌, ◌∷◌, [], ap, drop, sym, subst, refl}
+use Rattle.std.proofs.Common.{[], sym, subst, refl}
 use Rattle.std.specs.Prelude.{string_bytes}
-use Rattle.latex2mathml_formulas.specs.Frames.{inside, within}
+use Rattle.latex2mathml_formulas.specs.Frames.{within}
 use Rattle.latex2mathml_formulas.specs.Grammar.{core, after_environment_members, reads_members}
 use Rattle.latex2mathml_formulas.specs.Levels.{Leads, Made}
 use Rattle.latex2mathml_formulas.specs.Steps.{level}
-use Rattle.latex2mathml_trees.specs.Tree.{words}
-use Rattle.latex2mathml_parts.specs.Parts.{trees_in}
 use Rattle.latex2mathml_tokens.specs.Tok.{End}
 use Rattle.latex2mathml_formulas.specs.declared.parse.frames.Frame.TheVariants.{Members}
 use Rattle.latex2mathml_formulas.specs.declared.parse.frames.Group.TheVariants.{Environment}

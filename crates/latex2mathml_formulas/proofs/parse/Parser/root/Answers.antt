@@ -1,6 +1,6 @@
 use Rattle.std.proofs.Common.{[], refl}
 use Rattle.std.specs.Prelude.{codes}
-use Rattle.latex2mathml_formulas.specs.Grammar.{core, gives, of_degree, of_one, reads_members}
+use Rattle.latex2mathml_formulas.specs.Grammar.{core, gives, of_degree}
 use Rattle.latex2mathml_formulas.specs.Levels.{Made}
 use Rattle.latex2mathml_formulas.specs.Steps.{level}
 use Rattle.latex2mathml_trees.specs.Tree.{sqrt}

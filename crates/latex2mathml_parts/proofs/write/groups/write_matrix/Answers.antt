@@ -1,7 +1,7 @@
-use Rattle.std.proofs.Common.{◌≡◌, ◌<◌, ◌≤◌, ◌+◌, ◌++◌, ap, arith, codes, reverse, string_bytes, sum_by, sym, take, ◌∙◌}
+use Rattle.std.proofs.Common.{◌++◌, ap, arith, codes, reverse, string_bytes, sym, take, ◌∙◌}
 use Rattle.latex2mathml_tokens.specs.Attributes.{align_text}
 use Rattle.latex2mathml_parts.specs.Forms.{aside, forest}
-use Rattle.latex2mathml_parts.specs.Works.{cells_in, due, print_weight}
+use Rattle.latex2mathml_parts.specs.Works.{cells_in, due}
 use Rattle.latex2mathml_parts.proofs.Markups.{three}
 use Rattle.latex2mathml_parts.proofs.Works.{behind_tag, cells-in, members_weight, one_due}
 use Rattle.latex2mathml_parts.proofs.write.groups.write_matrix.Goals as goal

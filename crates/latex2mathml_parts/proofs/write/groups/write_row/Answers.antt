@@ -1,6 +1,6 @@
-use Rattle.std.proofs.Common.{◌≡◌, ◌<◌, ◌+◌, ◌++◌, ap, arith, codes, reverse, string_bytes, sum_by, sym, take, ◌∙◌}
+use Rattle.std.proofs.Common.{◌++◌, ap, arith, codes, reverse, string_bytes, sym, take, ◌∙◌}
 use Rattle.latex2mathml_parts.specs.Forms.{aside, forest}
-use Rattle.latex2mathml_parts.specs.Works.{due, print_weight, prints_in}
+use Rattle.latex2mathml_parts.specs.Works.{due, prints_in}
 use Rattle.latex2mathml_parts.proofs.Works.{behind_tag, members_weight, one_due, prints-in}
 use Rattle.latex2mathml_parts.proofs.write.groups.write_row.Goals as goal
 

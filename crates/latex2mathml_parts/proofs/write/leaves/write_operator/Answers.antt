@@ -1,4 +1,3 @@
-use Rattle.std.proofs.Common.{refl}
 use Rattle.std.specs.Char.{encode_utf8}
 use Rattle.latex2mathml_parts.proofs.write.leaves.write_operator.Goals as goal
 

@@ -1,9 +1,9 @@
-use Rattle.std.proofs.Common.{◌≡◌, ◌++◌, ap, codes, drop, take, ◌∙◌}
+use Rattle.std.proofs.Common.{◌≡◌, ◌++◌, ap, drop, take, ◌∙◌}
 use Rattle.latex2mathml_trees.specs.Print.{print}
 use Rattle.latex2mathml_trees.specs.Tree.{operator}
 use Rattle.latex2mathml_parts.specs.Forms.{aside, forest}
 use Rattle.latex2mathml_parts.specs.Parts.{top}
-use Rattle.latex2mathml_parts.specs.Works.{due, tree_at, work_print}
+use Rattle.latex2mathml_parts.specs.Works.{due, tree_at}
 use Rattle.latex2mathml_parts.proofs.Works.{behind_tag, one_due, three_due}
 use Rattle.latex2mathml_parts.proofs.write.shapes.write_labelled.Goals as goal
 

@@ -1,4 +1,4 @@
-use Rattle.std.proofs.Common.{◌≡◌, ℕ, suc, ◌+◌, ◌-◌, ◌<◌, ◌≤◌, ◌++◌, arith, ap, take, length, reverse, ◌∙◌, sum_by, subst}
+use Rattle.std.proofs.Common.{◌≡◌, suc, ◌-◌, ◌≤◌, ◌++◌, arith, ap, take, length, reverse, ◌∙◌, sum_by, subst}
 use Rattle.latex2mathml_trees.specs.Print.{print}
 use Rattle.latex2mathml_parts.specs.Forms.{aside, forest, in_style}
 use Rattle.latex2mathml_parts.specs.Works.{due, print_weight, prints_in}

@@ -1,4 +1,4 @@
-use Rattle.std.proofs.Common.{◌≡◌, ◌+◌, ◌++◌, ◌≤◌, ℕ, List, length, reverse, sum_by, take}
+use Rattle.std.proofs.Common.{◌≡◌, ◌+◌, ◌++◌, ◌≤◌, length, reverse, sum_by, take}
 use Rattle.latex2mathml_parts.specs.Forms.{aside, forest}
 use Rattle.latex2mathml_parts.specs.Works.{AreIn, due, print_weight, prints_in, work_weight}
 use Rattle.latex2mathml_parts.proofs.write.works.push_members.Given as goal

@@ -1,11 +1,11 @@
-use Rattle.std.proofs.Common.{◌≡◌, true, false, List, ℕ, ap, sym, ◌∙◌, refl}
+use Rattle.std.proofs.Common.{◌≡◌, true, false, ap, sym, ◌∙◌, refl}
 use Rattle.std.specs.Prelude.{codes}
 use Rattle.std.specs.Str.{bytes_eq}
 use lib.Utf8.{encode}
 use Rattle.latex2mathml_formulas.specs.Levels.{end_token}
 use Rattle.latex2mathml_tokens.specs.Lexemes.{lexeme_tok}
 use Rattle.latex2mathml_tokens.specs.Names.{paren_text}
-use Rattle.latex2mathml_tokens.specs.Tok.{Tok, Paren as paren_tok}
+use Rattle.latex2mathml_tokens.specs.Tok.{Paren as paren_tok}
 use Rattle.latex2mathml_tokens.specs.declared.lexeme.Lexeme.{Lexeme}
 use Rattle.latex2mathml_tokens.specs.declared.lexeme.Lexeme.TheVariants as lexeme
 use Rattle.latex2mathml_tokens.specs.declared.names.Paren.{Paren}
