@@ -1,8 +1,11 @@
-//! Tests of what neither the program nor the library for C can show: values made by hand, counts, and streams that fail.
+//! Tests of what neither the program nor the library for C can show: values made by hand, counts, streams that fail, and the
+//! example callers.
 #![tactic(auto)]
 
 #[cfg(test)]
 mod attributes;
+#[cfg(test)]
+mod callers;
 #[cfg(test)]
 mod characters;
 #[cfg(test)]

@@ -12,6 +12,4 @@ pub mod put;
 pub mod refusal;
 pub mod store;
 pub mod symbol;
-#[cfg(test)]
-mod tests;
 pub mod wiki;

@@ -1,15 +1,15 @@
-//! Each caller once, with memory to spare.
-use crate::build::{built_twice, rewritten, template};
-use crate::cache::Cache;
-use crate::check;
-use crate::insert::{article, blank, insert, quotation};
-use crate::limit::limited;
-use crate::page::{paragraph, shown};
-use crate::put::put;
-use crate::refusal::{Mistake, in_document, in_formula};
-use crate::symbol::symbol;
-use crate::wiki::{converted, ends_open, joined};
+//! Each example caller once, with memory to spare.
 use latex2mathml::{DisplayStyle, Stream};
+use latex2mathml_uses::build::{built_twice, rewritten, template};
+use latex2mathml_uses::cache::Cache;
+use latex2mathml_uses::check;
+use latex2mathml_uses::insert::{article, blank, insert, quotation};
+use latex2mathml_uses::limit::limited;
+use latex2mathml_uses::page::{paragraph, shown};
+use latex2mathml_uses::put::put;
+use latex2mathml_uses::refusal::{Mistake, in_document, in_formula};
+use latex2mathml_uses::symbol::symbol;
+use latex2mathml_uses::wiki::{converted, ends_open, joined};
 use std::test::Fail;
 
 #[test]
