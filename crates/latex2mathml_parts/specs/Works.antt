@@ -11,8 +11,9 @@ use Rattle.latex2mathml_tokens.specs.declared.DisplayStyle.TheVariants.{Block, I
 use Rattle.latex2mathml_tokens.specs.declared.attribute.Accent.{Accent}
 use Rattle.latex2mathml_tokens.specs.declared.attribute.Variant.{Variant}
 use Rattle.latex2mathml_parts.specs.Forms.{forest, in_style}
-use Rattle.latex2mathml_parts.specs.Parts.{top}
+use Rattle.latex2mathml_parts.specs.Parts.{put, top}
 use Rattle.latex2mathml_parts.specs.declared.form.Part.{Part}
+use Rattle.latex2mathml_parts.specs.declared.kind.Kind.{Kind}
 use Rattle.latex2mathml_parts.specs.declared.work.Work.{Work}
 use Rattle.latex2mathml_parts.specs.declared.work.Work.TheVariants as work
 
@@ -23,6 +24,10 @@ tree_at texts ps end = top (forest texts (take end ps))
 -- the tree before it
 abbrev pub earlier : List (List ℕ) → List Part → ℕ → Tree
 earlier texts ps end = top (drop 1 (forest texts (take end ps)))
+
+-- the tree of a part of this kind after so many parts
+abbrev pub tree_of_kind : List (List ℕ) → List Part → ℕ → Kind → Tree
+tree_of_kind texts ps end kind = top (put kind (forest texts (take end ps)))
 
 -- the sign over or under a tree, and what stands after it
 abbrev pub sign_print : ℕ → Accent → List ℕ → List ℕ

@@ -10,6 +10,7 @@ mod fences;
 mod groups;
 mod leaves;
 mod names;
+mod operands;
 mod shapes;
 mod tables;
 mod works;
@@ -19,17 +20,12 @@ use crate::kind::Kind;
 use crate::list::part_at;
 use crate::parts::Parts;
 use crate::work::Work;
-use crate::write::fences::{closing_markup, opening_markup, stretched_markup};
+use crate::write::fences::stretched_markup;
 use crate::write::groups::{outer, write_matrix, write_row};
 use crate::write::leaves::{
     given, write_char, write_letter, write_operator, write_sign, write_slashed, write_text,
 };
-use crate::write::names::limited_markup;
-use crate::write::shapes::{
-    write_braced, write_labelled, write_limit, write_limits, write_one, write_swapped,
-    write_swapped_limits, write_two,
-};
-use crate::write::tables::{binomial_close, binomial_open};
+use crate::write::operands::{write_one_operand, write_two_operands};
 use crate::write::works::push;
 use latex2mathml_tokens::attribute::Variant;
 use latex2mathml_trees::append::append_undefined;
@@ -253,184 +249,44 @@ fn write_kind(
             write_letter(c, given(style, own), out)?;
             Ok(None)
         }
-        Kind::Number(_) | Kind::Operator(_) | Kind::Paren(_) | Kind::Ampersand | Kind::NewLine => {
+        Kind::Number(_)
+        | Kind::Operator(_)
+        | Kind::Paren(_)
+        | Kind::Ampersand
+        | Kind::NewLine
+        | Kind::Space(_)
+        | Kind::Function(_)
+        | Kind::Limit(_)
+        | Kind::SizedParen(_, _) => {
             write_leaf(kind, out)?;
             Ok(None)
         }
-        Kind::Space(_) | Kind::Function(_) | Kind::Limit(_) | Kind::SizedParen(_, _) => {
-            write_leaf(kind, out)?;
-            Ok(None)
+        Kind::Primed
+        | Kind::Over(_, _)
+        | Kind::Under(_, _)
+        | Kind::Sqrt
+        | Kind::Overbrace(_)
+        | Kind::Underbrace(_)
+        | Kind::LimitBelow(_)
+        | Kind::LimitAbove(_)
+        | Kind::LimitSub(_)
+        | Kind::LimitSup(_)
+        | Kind::LimitUnder(_)
+        | Kind::Fenced(_, _) => { Ok(Some(write_one_operand(kind, end, texts, list, works, out)?)) }
+        Kind::Sub
+        | Kind::Sup
+        | Kind::Frac
+        | Kind::Binom(_)
+        | Kind::Overset
+        | Kind::Underset
+        | Kind::Root
+        | Kind::OverbraceWith(_)
+        | Kind::UnderbraceWith(_)
+        | Kind::LimitsBelowAbove(_)
+        | Kind::LimitsAboveBelow(_)
+        | Kind::LimitsSubSup(_)
+        | Kind::LimitsSupSub(_) => {
+            Ok(Some(write_two_operands(kind, end, texts, list, works, out)?))
         }
-        Kind::Sub => Ok(Some(write_two("<msub>", "</msub>", end, texts, list, works, out)?)),
-        Kind::Sup => Ok(Some(write_two("<msup>", "</msup>", end, texts, list, works, out)?)),
-        Kind::Frac => Ok(Some(write_two("<mfrac>", "</mfrac>", end, texts, list, works, out)?)),
-        Kind::Sqrt => Ok(Some(write_one(
-            "<msqrt>",
-            Work::Markup("</msqrt>"),
-            end,
-            texts,
-            list,
-            works,
-            out,
-        )?)),
-        Kind::Fenced(opening, close) => Ok(Some(write_one(
-            opening_markup(opening),
-            Work::Markup(closing_markup(close)),
-            end,
-            texts,
-            list,
-            works,
-            out,
-        )?)),
-        Kind::Primed => Ok(Some(write_one(
-            "<msup>",
-            Work::Markup("<mo>′</mo></msup>"),
-            end,
-            texts,
-            list,
-            works,
-            out,
-        )?)),
-        Kind::Over(c, accent) => Ok(Some(write_one(
-            "<mover>",
-            Work::SignOver(c, accent),
-            end,
-            texts,
-            list,
-            works,
-            out,
-        )?)),
-        Kind::Under(c, accent) => Ok(Some(write_one(
-            "<munder>",
-            Work::SignUnder(c, accent),
-            end,
-            texts,
-            list,
-            works,
-            out,
-        )?)),
-        Kind::LimitUnder(name) => Ok(Some(write_one(
-            limited_markup(name),
-            Work::Markup("</munder>"),
-            end,
-            texts,
-            list,
-            works,
-            out,
-        )?)),
-        Kind::Overbrace(c) => Ok(Some(write_braced(
-            "<mover>", c, "</mover>", end, texts, list, works, out,
-        )?)),
-        Kind::Underbrace(c) => Ok(Some(write_braced(
-            "<munder>",
-            c,
-            "</munder>",
-            end,
-            texts,
-            list,
-            works,
-            out,
-        )?)),
-        Kind::LimitBelow(c) => Ok(Some(write_limit(
-            "<munder>",
-            c,
-            "</munder>",
-            end,
-            texts,
-            list,
-            works,
-            out,
-        )?)),
-        Kind::LimitAbove(c) => Ok(Some(write_limit(
-            "<mover>", c, "</mover>", end, texts, list, works, out,
-        )?)),
-        Kind::LimitSub(c) => Ok(Some(write_limit(
-            "<msub>", c, "</msub>", end, texts, list, works, out,
-        )?)),
-        Kind::LimitSup(c) => Ok(Some(write_limit(
-            "<msup>", c, "</msup>", end, texts, list, works, out,
-        )?)),
-        Kind::Binom(display) => Ok(Some(write_two(
-            binomial_open(display),
-            binomial_close(display),
-            end,
-            texts,
-            list,
-            works,
-            out,
-        )?)),
-        Kind::Overset => Ok(Some(write_swapped(
-            "<mover>", "</mover>", end, texts, list, works, out,
-        )?)),
-        Kind::Underset => Ok(Some(write_swapped(
-            "<munder>",
-            "</munder>",
-            end,
-            texts,
-            list,
-            works,
-            out,
-        )?)),
-        Kind::Root => Ok(Some(write_swapped("<mroot>", "</mroot>", end, texts, list, works, out)?)),
-        Kind::OverbraceWith(c) => Ok(Some(write_labelled(
-            "<mover>",
-            c,
-            "</mover></mover>",
-            end,
-            texts,
-            list,
-            works,
-            out,
-        )?)),
-        Kind::UnderbraceWith(c) => Ok(Some(write_labelled(
-            "<munder>",
-            c,
-            "</munder></munder>",
-            end,
-            texts,
-            list,
-            works,
-            out,
-        )?)),
-        Kind::LimitsBelowAbove(c) => Ok(Some(write_limits(
-            "<munderover>",
-            c,
-            "</munderover>",
-            end,
-            texts,
-            list,
-            works,
-            out,
-        )?)),
-        Kind::LimitsAboveBelow(c) => Ok(Some(write_swapped_limits(
-            "<munderover>",
-            c,
-            "</munderover>",
-            end,
-            texts,
-            list,
-            works,
-            out,
-        )?)),
-        Kind::LimitsSubSup(c) => Ok(Some(write_limits(
-            "<msubsup>",
-            c,
-            "</msubsup>",
-            end,
-            texts,
-            list,
-            works,
-            out,
-        )?)),
-        Kind::LimitsSupSub(c) => Ok(Some(write_swapped_limits(
-            "<msubsup>",
-            c,
-            "</msubsup>",
-            end,
-            texts,
-            list,
-            works,
-            out,
-        )?)),
     }
 }
