@@ -1,4 +1,3 @@
 mod CachedRenderings
 mod CheckedFormulas
 mod SecondRuns
-mod Surrounded

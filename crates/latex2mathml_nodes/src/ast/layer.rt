@@ -35,7 +35,7 @@ pub(crate) enum Inner<'a> {
 
 impl Node {
     /// A number for the kind of the node. A function with an argument is of a kind of its own, and so is a root with a
-    /// degree.
+    /// degree. It is no enum, because equality of 30 kinds would be proved pair by pair.
     pub(crate) fn kind(&self) -> u8
         ensures { result ≡ kind_of (tree self.now) }
     {

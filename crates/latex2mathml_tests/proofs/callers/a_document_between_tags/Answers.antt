@@ -1,5 +1,5 @@
-use Rattle.latex2mathml_uses.proofs.Surrounded.{formula, paragraph}
-use Rattle.latex2mathml_uses.proofs.tests.a_document_between_tags.Goals as goal
+use Rattle.latex2mathml_tests.proofs.Surrounded.{formula, paragraph}
+use Rattle.latex2mathml_tests.proofs.callers.a_document_between_tags.Goals as goal
 
 pub article-requires : goal.article-requires
 article-requires g c = paragraph
