@@ -13,16 +13,16 @@ import sys
 from tests.cases import WrongCase
 from tests.modules import Runs, every_name, module_of, name_of
 from tests.results import Counts
-from tests.steps import Library, Proofs, set_aside
+from tests.steps import Copy, Library, Proofs
 from tests.support import BUILD_NOTHING, ROOT, RUN, scratch
 from tools.progress import Screen, Stopwatch, clock
 
 
 def prove(screen):
     """Proves everything, and builds the library for C from what was proved."""
-    proofs = Proofs()
-    steps = [proofs, Library(proofs)]
-    with set_aside():
+    with scratch() as folder:
+        proofs = Proofs(Copy(folder))
+        steps = [proofs, Library(proofs)]
         for step in steps:
             step.do(screen)
     return steps

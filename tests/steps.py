@@ -1,5 +1,6 @@
-"""The steps of `./test` before its cases: the proofs, and the library for C, which is made from what they built."""
-import contextlib
+"""The steps of `./test` before its cases: the proofs with the wrong bodies, and the library for C, which is made from what they
+built."""
+import concurrent.futures
 import functools
 import os
 import pathlib
@@ -9,7 +10,7 @@ import shutil
 import time
 
 from tests.results import Counts
-from tests.support import ROOT, kit, scratch
+from tests.support import ROOT, kit
 from tools.progress import Stopwatch, end_of, follow
 
 OUT = ROOT / "out"
@@ -39,8 +40,9 @@ class Step:
 
 
 class Command(Step):
-    """A command whose last line is 'N passed, M failed'. One that has no such line, or fails though its line has no failure,
-    has failed once."""
+    """A command that counts what passed and what failed."""
+
+    folder = ROOT
 
     def __init__(self, name, words):
         super().__init__(name)
@@ -49,20 +51,8 @@ class Command(Step):
 
     def run(self, screen, watch):
         screen.say(f"    all that it prints is kept in {self.log}")
-        said = []
-
-        def on_line(line):
-            said.append(line)
-            self.read(line, screen)
-
-        status = follow(self.words, self.log, on_line=on_line, on_second=lambda: self.renew(screen, watch), cwd=ROOT)
-        last = LAST_LINE.fullmatch(said[-1]) if said else None
-        if last:
-            self.counts = Counts(int(last[1]), int(last[2]))
-        if not last or (status and not self.counts.failed):
-            self.counts.failed += 1
-        if self.counts.failed:
-            screen.say(end_of(self.log))
+        self.counts = counts_of(self.words, self.log, screen, cwd=self.folder, on_line=lambda line: self.read(line, screen),
+                                on_second=lambda: self.renew(screen, watch))
 
     def read(self, line, screen):
         if line.startswith(("FAILED", "SKIPPED")):
@@ -72,33 +62,106 @@ class Command(Step):
         screen.renew(f"    {watch}")
 
 
-class Proofs(Command):
-    """Everything from nothing: the proofs, the wrong bodies, the tests in Rattle, and a run of each program."""
+def counts_of(words, log, screen, *, on_line=lambda line: None, **how):
+    """Runs a command whose last line is 'N passed, M failed', and returns these counts. One that has no such line, or fails
+    though its line has no failure, has failed once. If something failed, the end of what it printed is shown."""
+    last = None
 
-    def __init__(self):
+    def read(line):
+        nonlocal last
+        last = LAST_LINE.fullmatch(line)
+        on_line(line)
+
+    status = follow(words, log, on_line=read, **how)
+    counts = Counts(int(last[1]), int(last[2])) if last else Counts()
+    if not last or (status and not counts.failed):
+        counts.failed += 1
+    if counts.failed:
+        screen.say(end_of(log))
+    return counts
+
+
+class Proofs(Command):
+    """Everything from nothing: the proofs, the wrong bodies, the tests in Rattle, and a run of each program.
+
+    `rt ci` checks a crate once for each wrong body that it finds. So it gets a copy of the crates that has none, and
+    `tools/try-wrong-body` tries those of a crate once `rt ci` has proved it.
+    """
+
+    def __init__(self, copy):
         super().__init__("proofs, wrong bodies and tests in Rattle", ["rt", "ci"])
+        self.copy, self.folder = copy, copy.folder
         self.proved = set()
+        self.wrong_bodies = WrongBodies(copy.folder)
 
     def run(self, screen, watch):
-        self.begun = time.time()
-        super().run(screen, watch)
-        for made in (ROOT / "crates").glob("*/out/*"):
+        with self.wrong_bodies:
+            super().run(screen, watch)
+            self.wrong_bodies.wait(screen, watch)
+        self.counts.add(self.wrong_bodies.counts)
+        for made in self.folder.glob("crates/*/out/*"):
             if made.is_file():
-                self.date(made)
+                self.hand_over(made)
+
+    def hand_over(self, made):
+        """Copies a file that was built to the `out/` of its crate here."""
+        place = ROOT / made.relative_to(self.folder)
+        place.parent.mkdir(exist_ok=True)
+        shutil.copy(made, place)
+        self.date(place)
 
     def date(self, made):
-        """Gives a file the time at which the proofs began, so that a source edited since then is newer."""
-        os.utime(made, (self.begun, self.begun))
+        """Gives a file the time of the copy, so that a source edited since then is newer."""
+        os.utime(made, (self.copy.time, self.copy.time))
 
     def read(self, line, screen):
         told = re.fullmatch(r"rt: (\w+)(: its tests are)? (proved|NOT PROVED).*", line)
+        if told:
+            screen.say(f"    {line.removeprefix('rt: ')}")
         if told and told[3] == "proved" and not told[2]:
             self.proved.add(told[1])
-        if told or "trying its must-fail edits" in line:
-            screen.say(f"    {line.removeprefix('rt: ')}")
+            self.wrong_bodies.begin(told[1], screen)
 
     def renew(self, screen, watch):
         screen.renew(f"    {len(self.proved)} of {len(listed())} crates  {watch}")
+
+
+class WrongBodies:
+    """Tries the wrong bodies of crates, beside what else runs. Half of the processors are for them."""
+
+    def __init__(self, folder):
+        self.folder = folder
+        self.counts = Counts()
+        self.pool = concurrent.futures.ThreadPoolExecutor(max(1, len(os.sched_getaffinity(0)) // 2))
+        self.trials, self.running = [], []
+
+    def __enter__(self):
+        return self
+
+    def __exit__(self, kind, *_):
+        self.pool.shutdown(wait=not kind, cancel_futures=True)
+        for it in self.running:
+            it.terminate()
+
+    def begin(self, crate, screen):
+        """Begins to try those of a crate that is proved in the folder."""
+        if any((ROOT / "crates" / crate / "must-fail").glob("*.edit")):
+            self.trials.append(self.pool.submit(self.try_crate, crate, screen))
+
+    def try_crate(self, crate, screen):
+        watch, log = Stopwatch(), OUT / f"wrong-bodies-{crate}.log"
+        words = [ROOT / "tools/try-wrong-body", "--proved", self.folder, crate]
+        counts = counts_of(words, log, screen, on_start=self.running.append)
+        screen.say(f"    {crate}: wrong bodies: {counts}, {watch}")
+        return counts
+
+    def wait(self, screen, watch):
+        """Waits until all that began has ended, and counts it."""
+        while left := sum(not it.done() for it in self.trials):
+            screen.renew(f"    wrong bodies: {len(self.trials) - left} of {len(self.trials)} crates  {watch}")
+            concurrent.futures.wait(self.trials, timeout=1)
+        for it in self.trials:
+            self.counts.add(it.result())
 
 
 class Library(Step):
@@ -118,9 +181,11 @@ class Library(Step):
             screen.say("    it is not built, since it was not proved")
             self.counts.failed += 1
             return
+        proved = self.proofs.folder / "crates"
         archive = ROOT / "crates" / self.crate / "out" / f"lib{self.crate}.a"
-        status = follow(rattle_words(self.crate, below, archive), self.log, on_second=lambda: screen.renew(f"    {watch}"),
-                        cwd=ROOT / "crates" / self.crate)
+        archive.parent.mkdir(exist_ok=True)
+        status = follow(rattle_words(self.crate, below, proved, archive), self.log, on_second=lambda: screen.renew(f"    {watch}"),
+                        cwd=proved / self.crate)
         if status:
             screen.say(end_of(self.log))
             self.counts.failed += 1
@@ -129,10 +194,10 @@ class Library(Step):
         self.counts.passed += 1
 
 
-def rattle_words(crate, below, archive):
-    """The command that proves and builds a static library over the rlibs of the crates below it."""
+def rattle_words(crate, below, proved, archive):
+    """The command that proves and builds a static library over the rlibs of the crates below it, in the folder `proved`."""
     tools = kit()
-    rlibs = {name: ROOT / "crates" / name / "out/rlib" for name in below}
+    rlibs = {name: proved / name / "out/rlib" for name in below}
     words = [tools / "bin/rattle", "build", "--crate-name", crate, "src/lib.rt", "--crate-type", "staticlib"]
     for name in ["std", *listed()[crate]]:
         words += ["--extern", f"{name}={rlibs.get(name, tools / 'rlibs')}/{name}.rlib"]
@@ -163,27 +228,14 @@ def crates_below(crate):
     return found
 
 
-@contextlib.contextmanager
-def set_aside():
-    """Moves the rlibs of earlier checks away while `rt ci` and the steps after it run. So `rt ci` keeps its own rlibs, which it
-    would give up for those. They go into `.git`, as `rt ci` reads everything else."""
-    kept = {}
-    with scratch() as other:
-        git = ROOT / ".git"
-        aside = (git if git.is_dir() else other) / "rlibs-aside"
-        shutil.rmtree(aside, ignore_errors=True)
-        for rlib in (ROOT / "crates").glob("*/out/rlib"):
-            kept[rlib] = aside / rlib.parts[-3]
-            aside.mkdir(exist_ok=True)
-            shutil.move(rlib, kept[rlib])
-        try:
-            yield
-        finally:
-            for rlib, place in kept.items():
-                shutil.rmtree(rlib, ignore_errors=True)
-                rlib.parent.mkdir(exist_ok=True)
-                shutil.move(place, rlib)
-            shutil.rmtree(aside, ignore_errors=True)
+class Copy:
+    """A copy of the crates as `rt ci` is to read them: without their wrong bodies, and without what was built before."""
+
+    def __init__(self, folder):
+        self.folder, self.time = folder, time.time()
+        for name in ("crates.txt", "HANDLES"):
+            shutil.copy(ROOT / name, folder)
+        shutil.copytree(ROOT / "crates", folder / "crates", ignore=shutil.ignore_patterns("out", "must-fail"))
 
 
 def spent_by_children():

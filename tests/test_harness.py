@@ -9,7 +9,7 @@ import unittest.mock
 from tests import cases, samples
 from tests.modules import Module, Runs, classes_of, name_of
 from tests.results import Counts, Result, SKIP_NOTHING
-from tests.steps import Command, Library, Proofs, crates_below, set_aside
+from tests.steps import Command, Copy, Library, Proofs, crates_below
 from tests.support import ROOT, Case, run, scratch
 from tools.progress import Screen, clock
 
@@ -130,16 +130,6 @@ class Steps(unittest.TestCase):
         self.assertIn("line 100\n1 passed, 1 failed\n", shown)
         self.assertEqual(step.log.read_text().count("line "), 100)
 
-    def test_a_library_that_is_not_proved_is_not_built(self):
-        proofs, screen = Proofs(), io.StringIO()
-        for line in ("rt: latex2mathml_c proved", "rt: latex2mathml proved", "rt: latex2mathml_nodes: its tests are proved",
-                     "rt: latex2mathml_tokens NOT PROVED"):
-            proofs.read(line, Screen(screen))
-        self.assertEqual(proofs.proved, {"latex2mathml", "latex2mathml_c"})
-        step = Library(proofs)
-        step.do(Screen(screen))
-        self.assertEqual(step.counts, Counts(failed=1))
-
     def test_crates_below(self):
         below = crates_below("latex2mathml_c")
         self.assertEqual(below[0], "latex2mathml_tokens")
@@ -148,41 +138,92 @@ class Steps(unittest.TestCase):
         self.assertNotIn("thiserror", crates_below("latex2mathml_app"))
 
 
-class Products(unittest.TestCase):
-    """The files that `rt ci` and earlier checks built, in a repository of one crate."""
+RT = """#!/bin/sh
+# Proves the crates `one` and `two` of a copy, and builds the program of `one` while a source is edited.
+test ! -e crates/one/must-fail && test ! -e crates/one/out/old || exit 1
+mkdir -p crates/one/out/rlib && touch crates/one/out/one crates/one/out/rlib/stamp
+sleep 0.1 && touch "$EDITED" && sleep 0.1
+echo 'rt: one proved'
+echo 'rt: two: its tests are proved'
+echo 'rt: two NOT PROVED'
+echo '3 passed, 0 failed'
+"""
+
+TRY_WRONG_BODY = """#!/bin/sh
+test "$1" = --proved && test -e "$2/crates/one/src/lib.rt" || exit 1
+echo "$3" >>"$TRIED"
+echo '2 passed, 0 failed'
+"""
+
+
+class Proving(unittest.TestCase):
+    """The step with the proofs, in a repository of two crates, with programs in place of `rt` and `tools/try-wrong-body`."""
 
     def setUp(self):
         self.root = self.enterContext(scratch())
-        self.rlib = self.root / "crates/one/out/rlib"
-        self.rlib.mkdir(parents=True)
-        (self.rlib / "stamp").write_text("an earlier check")
+        self.tried = self.root / "tried"
+        self.tried.touch()
+        for crate in ("one", "two"):
+            for file in ("src/lib.rt", "must-fail/a.edit", "out/old"):
+                (self.root / "crates" / crate / file).parent.mkdir(parents=True, exist_ok=True)
+                (self.root / "crates" / crate / file).touch()
+        (self.root / "crates.txt").write_text("one:\ntwo: one\n")
+        (self.root / "HANDLES").touch()
+        self.program("rt", RT)
+        self.program("tools/try-wrong-body", TRY_WRONG_BODY)
         self.enterContext(unittest.mock.patch("tests.steps.ROOT", self.root))
+        self.enterContext(unittest.mock.patch("tests.steps.OUT", self.root / "out"))
+        environment = {"EDITED": str(self.root / "crates/one/src/lib.rt"), "TRIED": str(self.tried)}
+        self.enterContext(unittest.mock.patch.dict(os.environ, environment))
 
-    def test_rlibs_are_set_aside(self):
-        for name in ("with .git", "without .git"):
-            with self.subTest(name):
-                if name == "with .git":
-                    (self.root / ".git").mkdir()
-                with self.assertRaises(KeyboardInterrupt), set_aside():
-                    self.assertFalse(self.rlib.exists())
-                    self.rlib.mkdir()
-                    (self.rlib / "one.rlib").write_text("of rt ci")
-                    # nothing of it may be where `rt ci` reads
-                    self.assertEqual([file for file in self.root.rglob("stamp") if ".git" not in file.parts], [])
-                    raise KeyboardInterrupt
-                self.assertEqual([file.name for file in self.rlib.iterdir()], ["stamp"])
-                shutil.rmtree(self.root / ".git", ignore_errors=True)
+    def program(self, name, text):
+        (self.root / name).parent.mkdir(exist_ok=True)
+        (self.root / name).write_text(text)
+        (self.root / name).chmod(0o755)
 
-    def test_an_edit_during_the_proofs_is_newer_than_what_is_built(self):
-        program = self.root / "rt"
-        program.write_text(
-            "#!/bin/sh\ncd crates/one && mkdir src && sleep 0.1 && touch src/lib.rt && sleep 0.1 && touch out/one && echo 1 passed, 0 failed\n")
-        program.chmod(0o755)
-        proofs = Proofs()
-        proofs.words, proofs.log = [program], self.root / "log"
-        proofs.do(Screen(io.StringIO()))
-        self.assertEqual(proofs.counts, Counts(passed=1))
-        self.assertLess((self.root / "crates/one/out/one").stat().st_mtime, (self.root / "crates/one/src/lib.rt").stat().st_mtime)
+    def prove(self):
+        proofs = Proofs(Copy(self.enterContext(scratch())))
+        proofs.words = [self.root / "rt"]
+        self.screen = io.StringIO()
+        proofs.do(Screen(self.screen))
+        return proofs
+
+    def test_the_wrong_bodies_of_what_is_proved_are_tried(self):
+        proofs = self.prove()
+        self.assertEqual(proofs.proved, {"one"})
+        self.assertEqual(self.tried.read_text(), "one\n")
+        self.assertEqual(proofs.counts, Counts(passed=5), self.screen.getvalue())
+        self.assertIn("    one: wrong bodies: 2 passed, 0 failed, 0:00\n", self.screen.getvalue())
+
+    def test_wrong_bodies_that_fail(self):
+        for text, counts in [
+            ("echo must-fail one/a.edit: NOT REFUSED; echo 1 passed, 1 failed; exit 1", Counts(4, 1)),
+            ("echo the words; exit 2", Counts(3, 1)),
+            ("kill -9 $$", Counts(3, 1)),
+        ]:
+            with self.subTest(text):
+                self.program("tools/try-wrong-body", f"#!/bin/sh\n{text}\n")
+                self.assertEqual(self.prove().counts, counts)
+                self.assertIn("one: wrong bodies: ", self.screen.getvalue())
+
+    def test_an_interrupt_ends_them(self):
+        self.program("tools/try-wrong-body", "#!/bin/sh\nexec sleep 100\n")
+        begun = time.monotonic()
+        with unittest.mock.patch("tests.steps.WrongBodies.wait", side_effect=KeyboardInterrupt), self.assertRaises(KeyboardInterrupt):
+            self.prove()
+        self.assertLess(time.monotonic() - begun, 30)
+
+    def test_what_is_built_comes_back_as_old_as_the_copy(self):
+        self.prove()
+        out = self.root / "crates/one/out"
+        self.assertEqual(sorted(it.name for it in out.iterdir()), ["old", "one"])
+        self.assertLess((out / "one").stat().st_mtime, (self.root / "crates/one/src/lib.rt").stat().st_mtime)
+
+    def test_a_library_that_is_not_proved_is_not_built(self):
+        step = Library(self.prove())
+        with unittest.mock.patch("tests.steps.crates_below", return_value=["one", "two"]):
+            step.do(Screen(self.screen))
+        self.assertEqual(step.counts, Counts(failed=1))
 
 
 class Test(Case):

@@ -48,9 +48,9 @@ class Screen:
         self.renew("")
 
 
-def follow(words, log, *, on_line=lambda line: None, on_second=lambda: None, **how):
-    """Runs a command to its end and returns its status. All that it prints goes to the file `log`. `on_line` is called with
-    each line of it, and `on_second` once a second meanwhile."""
+def follow(words, log, *, on_start=lambda process: None, on_line=lambda line: None, on_second=lambda: None, **how):
+    """Runs a command to its end and returns its status. All that it prints goes to the file `log`. `on_start` is called with
+    the process, `on_line` with each line that it prints, and `on_second` once a second meanwhile."""
     log = pathlib.Path(log)
     log.parent.mkdir(parents=True, exist_ok=True)
     ended = threading.Event()
@@ -63,6 +63,7 @@ def follow(words, log, *, on_line=lambda line: None, on_second=lambda: None, **h
     ticking = threading.Thread(target=tick, daemon=True)
     with open(log, "w", encoding="utf-8") as kept, subprocess.Popen(words, text=True, errors="replace", **how) as running:
         ticking.start()
+        on_start(running)
         try:
             for line in running.stdout:
                 kept.write(line)

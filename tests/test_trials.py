@@ -1,0 +1,163 @@
+"""`tools/try-wrong-body` tries wrong bodies that change different functions in one check, and refuses none that this check does not
+report. The prover is another program here, which prints what it would print."""
+import re
+import types
+import unittest
+
+from tests.support import ROOT, scratch
+from tools.wrong_bodies import Trial, WrongBody, errors_in, rounds
+
+CODE = {
+    "src/lib.rt": """//! A crate.
+mod token;
+
+const LEAST: u32 = 3;
+
+pub fn first(count: u32) -> bool
+    ensures { IsTrue result ↔ LEAST ≤ count }
+{
+    count >= LEAST
+}
+
+#[inline]
+pub(crate) fn second() -> u32 {
+    7
+}
+""",
+    "src/token.rt": """impl Token {
+    pub fn clone(&self) -> Token {
+        Token::Letter
+    }
+}
+
+impl fmt::Display for Token {
+    fn fmt(&self) -> &str {
+        "letter"
+    }
+}
+
+impl<'a> From<Refusal> for Token {
+    fn from(_: Refusal) -> Token {
+        Token::Refused
+    }
+}
+""",
+}
+
+BODIES = {
+    "a_clone": "file: src/token.rt\nold: Token::Letter\nnew: Token::Digit\n",
+    "b_clone": "file: src/token.rt\nold:         Token::Letter\nnew:         other()\n",
+    "c_display": 'file: src/token.rt\nold: "letter"\nnew: "Letter"\n',
+    "d_constant": "file: src/lib.rt\nold: LEAST: u32 = 3\nnew: LEAST: u32 = 4\n",
+    "e_from": "file: src/token.rt\nold: Token::Refused\nnew: Token::Letter\n",
+    "f_first": "file: src/lib.rt\nold: >=\nnew: >\n",
+    "g_nothing": "file: src/lib.rt\nold: mod token;\nnew: mod token; mod more;\n",
+}
+
+
+class Prover:
+    """What `tools/try-wrong-body` uses of `rt`."""
+
+    rtlib = types.SimpleNamespace(STALE=re.compile("Run the lower steps again"))
+
+    def __init__(self, output):
+        self.output, self.checks, self.alone = output, [], []
+
+    def edited(self, text, folder):
+        return (None, "an 'old:' text is not there") if "old: none" in text else ({"src/lib.rt": "", "src/token.rt": ""}, None)
+
+    def checked(self, crate, texts, flags, kept):
+        self.checks.append([it.removeprefix("--only=") for it in flags if it.startswith("--only=")])
+        return types.SimpleNamespace(stdout=self.output, returncode=1)
+
+    def unread(self, line, changed):
+        return line.startswith("src/") and ": error: " in line
+
+    def must_fail(self, crate, path, flags, kept):
+        self.alone.append(path.rpartition("/")[2])
+        return False, "NOT REFUSED"
+
+
+class Trials(unittest.TestCase):
+    def setUp(self):
+        self.folder = self.enterContext(scratch()) / "one"
+        for file, text in [*CODE.items(), *((f"must-fail/{name}.edit", text) for name, text in BODIES.items())]:
+            (self.folder / file).parent.mkdir(parents=True, exist_ok=True)
+            (self.folder / file).write_text(text)
+
+    def body(self, name):
+        return WrongBody(self.folder / f"must-fail/{name}.edit")
+
+    def test_the_functions_that_are_changed(self):
+        for name, functions in [
+            ("a_clone", {"token::Token::clone"}), ("c_display", {"token::TokenDisplay::fmt"}), ("d_constant", {"first"}),
+            ("e_from", {"token::TokenFromRefusal::from"}), ("f_first", {"first"}), ("g_nothing", set()),
+        ]:
+            with self.subTest(name):
+                self.assertEqual(self.body(name).functions(self.folder), functions)
+
+    def test_no_round_changes_a_function_twice(self):
+        groups = rounds([self.body(name) for name in BODIES], self.folder)
+        self.assertEqual([[it.path.stem for it in group] for group in groups],
+                         [["a_clone", "c_display", "d_constant", "e_from"], ["b_clone", "f_first"], ["g_nothing"]])
+
+    def try_these(self, names, output):
+        prover = Prover("\n".join(output))
+        told = dict(zip(names, Trial(prover, None, self.folder, self.folder).try_all([self.body(name) for name in names])))
+        return prover, {name: refused for name, (refused, _) in told.items()}
+
+    def test_an_error_of_its_own_refuses(self):
+        prover, refused = self.try_these(["a_clone", "c_display"], [
+            "./proofs/token/TokenDisplay/fmt/Answers.antt:8:102: error: `returns`: the two types differ",
+            "fn one::token::Token::clone: no proof: expected answers in ./proofs/x; `search` did not prove `returns`",
+            "fn one::token::TokenDisplay::fmt: not proved", "only=2 proved=0",
+        ])
+        self.assertEqual(refused, {"a_clone": True, "c_display": True})
+        self.assertEqual(prover.checks, [["token::Token::clone", "token::TokenDisplay::fmt"]])
+        self.assertEqual(prover.alone, [])
+
+    def test_one_without_an_error_is_tried_alone(self):
+        for line in ("fn one::token::TokenDisplay::fmt: proved",
+                     "fn one::token::TokenDisplay::fmt: no proof: it calls `one::token::Token::clone`, which is not proved",
+                     "fn one::token::TokenDisplay::fmt: not proved",
+                     "./proofs/token/TokenDisplay/fmt/Answers.antt:8:102: error: `returns`: `c.write` is not in scope"):
+            with self.subTest(line):
+                prover, refused = self.try_these(["a_clone", "c_display"], [
+                    line, "fn one::token::Token::clone: no proof: ..; `search` did not prove `returns`", "only=2 proved=0"])
+                self.assertEqual(refused, {"a_clone": True, "c_display": False})
+                self.assertEqual(prover.alone, ["c_display.edit"])
+
+    def test_a_check_that_says_too_little_or_too_much_refuses_none(self):
+        refusals = [f"fn one::token::{it}: no proof: ..; `search` did not prove `returns`" for it in ("Token::clone", "TokenDisplay::fmt")]
+        for lines in (
+            [*refusals, "rattle: no verdict"],
+            [*refusals, "src/token.rt:3:9: error: there is no `Digit`", "only=2 proved=0"],
+            [*refusals, "fn one::second: no proof: ..; `search` did not prove `returns`", "only=2 proved=0"],
+            [*refusals, "module `Rattle-one-specs`: Run the lower steps again", "only=2 proved=0"],
+            [],
+        ):
+            with self.subTest(lines[2:]):
+                prover, refused = self.try_these(["a_clone", "c_display"], lines)
+                self.assertEqual(refused, {"a_clone": False, "c_display": False})
+                self.assertEqual(prover.alone, ["a_clone.edit", "c_display.edit"])
+
+    def test_one_that_changes_no_function_is_tried_alone(self):
+        prover, _ = self.try_these(["g_nothing"], ["only=0 proved=0"])
+        self.assertEqual((prover.checks, prover.alone), ([], ["g_nothing.edit"]))
+
+
+class Names(unittest.TestCase):
+    def test_each_wrong_body_changes_a_function(self):
+        found = sorted((ROOT / "crates").glob("*/must-fail/*.edit"))
+        self.assertTrue(found)
+        for path in found:
+            with self.subTest(path.stem):
+                self.assertTrue(WrongBody(path).functions(path.parent.parent))
+
+    def test_one_error_a_function(self):
+        self.assertEqual(errors_in("fn a::b::c: ..; `search` did not prove `x`\nproofs/b/c/Answers.antt:1:2: error: `y`: no\n"
+                                   "proofs/Order.antt:3:4: error: `z`: no\nfn a::d: proved"), {"b::c": "`search` did not prove `x`"})
+
+
+if __name__ == "__main__":
+    unittest.main()

@@ -1,0 +1,140 @@
+"""Wrong bodies: edits of the code that the prover must refuse, `crates/CRATE/must-fail/NAME.edit`.
+
+`rt must-fail` checks the crate once for each of them. Here those that change different functions share a check: the prover
+proves a function from the contracts of the functions that it calls, so no body can hide what is wrong with another one. A wrong
+body is refused if the check reports an error in a function that it changes. If it reports none, the wrong body is tried again
+alone, as `rt must-fail` does.
+"""
+import os
+import re
+
+JOBS = ["--jobs", "1"]
+
+FUNCTION = re.compile(r' *(?:pub(?:\(\w+\))? )?(?:const )?(?:extern "C" )?fn (\w+)')
+CONSTANT = re.compile(r"(?:pub(?:\(\w+\))? )?(?:const|static) (\w+):")
+IMPL = re.compile(r"impl\b(?:<[^{]*?>)? (?:(?P<trait>\S+) for )?(?P<type>\w+)")
+
+# What a check says of a function that is not proved, other than that it calls one that is not.
+UNPROVED = re.compile(r"fn \w+?::(?P<function>\S+): .*(?P<error>`search` did not prove .*)")
+REFUSED = re.compile(r"(?:\./)?(?P<file>proofs/(?P<function>\S+)/\w+\.antt):\d+:\d+: error: (?P<error>.*)")
+# These say little: the edit may have taken away what the proof names.
+MISSING = re.compile(r"has no field|is not in scope|has no `|was not admitted")
+
+
+class Source:
+    """A file of code, which says what functions an edit of a line changes."""
+
+    def __init__(self, file, text):
+        names = file.removeprefix("src/").removesuffix(".rt").split("/")
+        self.modules = [] if names in (["lib"], ["main"]) else names
+        self.lines = text.split("\n")
+
+    def functions_at(self, number):
+        """The functions that an edit of this line changes, the first line being 0: the one that has the line, or those of the file
+        that name the constant that has it. They are named as the prover names them: `token::Token::clone`."""
+        for at in range(number, -1, -1):
+            function, constant = FUNCTION.match(self.lines[at]), CONSTANT.match(self.lines[at])
+            if function:
+                owner = self.owner_of(at) if self.lines[at].startswith(" ") else []
+                return {"::".join([*self.modules, *owner, function[1]])}
+            if constant:
+                return self.users_of(constant[1])
+            if at < number and self.lines[at] == "}":
+                break
+        return set()
+
+    def users_of(self, constant):
+        places = [at for at, line in enumerate(self.lines) if re.search(rf"\b{constant}\b", line) and not CONSTANT.match(line)]
+        return set().union(*map(self.functions_at, places))
+
+    def owner_of(self, number):
+        """The name of the `impl` with this line: `Token` for its own functions, `TokenPartialEq` for those of a trait."""
+        heads = (IMPL.match(it) for it in reversed(self.lines[:number]))
+        found = next(filter(None, heads), None)
+        return [found["type"] + trait_name(found["trait"] or "")] if found else []
+
+
+def trait_name(trait):
+    """`FromAllocError` for `From<AllocError>`, and `Display` for `fmt::Display`."""
+    return "".join(it.rpartition("::")[2] for it in re.findall(r"[\w:]+", trait))
+
+
+class WrongBody:
+    def __init__(self, path):
+        self.path = path
+        self.text = path.read_text(encoding="utf-8")
+
+    def __str__(self):
+        return f"must-fail {self.path.parent.parent.name}/{self.path.name}"
+
+    def functions(self, folder):
+        """The functions that it changes in the crate in this folder; none if it cannot be applied."""
+        found, text, source = set(), "", None
+        for line in self.text.split("\n"):
+            word, _, rest = line.partition(": ")
+            if word == "file" and (folder / rest).is_file():
+                text = (folder / rest).read_text(encoding="utf-8")
+                source = Source(rest, text)
+            elif word == "old" and rest in text:
+                found |= source.functions_at(text.count("\n", 0, text.index(rest)))
+        return found
+
+
+def rounds(bodies, folder):
+    """The wrong bodies in groups: no two of a group change the same function, and one that changes none is alone."""
+    groups = []
+    for body in bodies:
+        functions = body.functions(folder)
+        for group, changed in groups:
+            if functions and changed and not functions & changed:
+                group.append(body)
+                changed |= functions
+                break
+        else:
+            groups.append(([body], functions))
+    return [group for group, _ in groups]
+
+
+def errors_in(output):
+    """The first error in each function that a check reports."""
+    found = {}
+    for line in output.split("\n"):
+        error = UNPROVED.match(line) or REFUSED.match(line)
+        if error and not MISSING.search(error["error"]):
+            found.setdefault(error["function"].replace("/", "::"), error["error"])
+    return found
+
+
+class Trial:
+    """Tries wrong bodies of a crate over the proofs that earlier checks kept in a folder."""
+
+    def __init__(self, rt, crate, folder, kept):
+        self.rt, self.crate, self.folder, self.kept = rt, crate, folder, os.fspath(kept)
+
+    def try_all(self, bodies):
+        """Yields for each wrong body whether it is refused, and what to say of it."""
+        for group in rounds(bodies, self.folder):
+            errors = self.try_together(group)
+            for body in group:
+                if body in errors:
+                    yield True, f"{body}: refused, as it must be: {errors[body][:160]}"
+                else:
+                    yield self.rt.must_fail(self.crate, os.fspath(body.path), JOBS, self.kept)
+
+    def try_together(self, bodies):
+        """Tries wrong bodies in one check of the functions that they change, and returns an error for each of them that has one
+        in such a function."""
+        changed = {it: sorted(it.functions(self.folder)) for it in bodies}
+        asked = sorted({function for it in bodies for function in changed[it]})
+        texts, _ = self.rt.edited("\n".join(it.text for it in bodies), os.fspath(self.folder))
+        if not asked or not texts:
+            return {}
+        ran = self.rt.checked(self.crate, texts, [*JOBS, *(f"--only={it}" for it in asked)], self.kept)
+        lines = ran.stdout.rstrip("\n").split("\n")
+        is_whole = lines[-1].startswith("only=") and not self.rt.rtlib.STALE.search(ran.stdout)
+        if not is_whole or any(self.rt.unread(it, texts) for it in lines):
+            return {}
+        errors = errors_in(ran.stdout)
+        if not errors.keys() <= {*asked}:
+            return {}  # one of them is wrong in more than the functions that it changes
+        return {it: f"{function}: {errors[function]}" for it in bodies for function in changed[it] if function in errors}
