@@ -134,14 +134,22 @@ class WrongBodies:
         self.counts = Counts()
         self.pool = concurrent.futures.ThreadPoolExecutor(max(1, len(os.sched_getaffinity(0)) // 2))
         self.trials, self.running = [], []
+        self.is_over = False
 
     def __enter__(self):
         return self
 
     def __exit__(self, kind, *_):
-        self.pool.shutdown(wait=not kind, cancel_futures=True)
-        for it in self.running:
-            it.terminate()
+        self.is_over = kind is not None
+        if self.is_over:
+            for it in self.running:
+                it.terminate()
+        self.pool.shutdown(cancel_futures=True)
+
+    def on_start(self, trial):
+        self.running.append(trial)
+        if self.is_over:
+            trial.terminate()
 
     def begin(self, crate, screen):
         """Begins to try those of a crate that is proved in the folder."""
@@ -151,7 +159,7 @@ class WrongBodies:
     def try_crate(self, crate, screen):
         watch, log = Stopwatch(), OUT / f"wrong-bodies-{crate}.log"
         words = [ROOT / "tools/try-wrong-body", "--proved", self.folder, crate]
-        counts = counts_of(words, log, screen, on_start=self.running.append)
+        counts = counts_of(words, log, screen, on_start=self.on_start)
         screen.say(f"    {crate}: wrong bodies: {counts}, {watch}")
         return counts
 
