@@ -6,6 +6,7 @@
                                   (but to standard error), list (the entries of a directory) or look (at what a path is)
      FAULT_MARKED=1               calls count only behind a request for 7919 bytes, and up to one for 7927
      FAULT_STEP=N                 reading and writing moves at most N bytes a call
+     FAULT_ERRORS=N               standard error takes N bytes, one a call, and fails then
      FAULT_PATH=PATH FAULT_RUN=COMMAND FAULT_TIME=N
                                   the shell runs the command before the Nth opening of the path, or of what lies below it
      FAULT_REPORT=FILE            gets a line for each call that failed, and for the command */
@@ -33,6 +34,8 @@ static char kind[16];
 static long first, last, calls;
 static int error, is_marked, counts;
 static size_t step;
+/* how many bytes standard error still takes, or less than 0 where it takes all */
+static long errors_left = -1;
 static const char *path_due, *command, *report_file;
 static long time_due, times;
 
@@ -43,12 +46,14 @@ static const char *said(const char *name) {
 }
 
 __attribute__((constructor)) static void begin(void) {
-    const char *fault = said("FAULT"), *steps = said("FAULT_STEP"), *time = said("FAULT_TIME");
+    const char *fault = said("FAULT"), *steps = said("FAULT_STEP"), *time = said("FAULT_TIME"),
+               *errors = said("FAULT_ERRORS");
     if (fault && sscanf(fault, "%15[a-z]:%ld:%ld:%d", kind, &first, &last, &error) != 4) {
         dprintf(2, "faults.c: FAULT=%s is no fault\n", fault);
         _exit(125);
     }
     step = steps ? strtoul(steps, NULL, 10) : 0;
+    errors_left = errors ? atol(errors) : -1;
     path_due = said("FAULT_PATH");
     command = said("FAULT_RUN");
     time_due = time ? atol(time) : 1;
@@ -127,8 +132,18 @@ ssize_t read(int file, void *room, size_t count) {
     return fails("read") ? failure() : NEXT(read)(file, room, stepped(count));
 }
 
+static ssize_t write_error(const void *bytes, size_t count) {
+    if (errors_left < 0) return NEXT(write)(2, bytes, count);
+    if (errors_left == 0) {
+        errno = EIO;
+        return -1;
+    }
+    errors_left--;
+    return NEXT(write)(2, bytes, count != 0);
+}
+
 ssize_t write(int file, const void *bytes, size_t count) {
-    if (file == 2) return NEXT(write)(file, bytes, count);
+    if (file == 2) return write_error(bytes, count);
     return fails("write") ? failure() : NEXT(write)(file, bytes, stepped(count));
 }
 

@@ -70,10 +70,11 @@ class Command:
     text: str
 
 
-def run_with(words, *, fault=None, marked=False, step=None, command=None, stdin=b"", timeout=60, **more):
+def run_with(words, *, fault=None, marked=False, step=None, errors=None, command=None, stdin=b"", timeout=60, **more):
     """Runs a command with calls that fail, and returns its `CompletedProcess` and the calls that failed, by their kinds.
 
-    Reading and writing moves at most `step` bytes a call. Where `marked`, calls count between the marks of `faults.c` alone.
+    Reading and writing moves at most `step` bytes a call. Standard error takes `errors` bytes, one a call, and fails then. Where
+    `marked`, calls count between the marks of `faults.c` alone.
     """
     with support.scratch() as folder:
         report = folder / "report"
@@ -84,6 +85,8 @@ def run_with(words, *, fault=None, marked=False, step=None, command=None, stdin=
             told["FAULT_MARKED"] = "1"
         if step:
             told["FAULT_STEP"] = str(step)
+        if errors is not None:
+            told["FAULT_ERRORS"] = str(errors)
         if command:
             told |= {"FAULT_PATH": command.path, "FAULT_TIME": str(command.time), "FAULT_RUN": command.text}
         done = support.run(words, stdin=stdin, timeout=timeout, env=os.environ | told, **more)

@@ -127,7 +127,8 @@ class Proofs(Command):
 
 
 class WrongBodies:
-    """Tries the wrong bodies of crates, beside what else runs. Half of the processors are for them."""
+    """Tries the wrong bodies of crates, beside what else runs. Half of the processors are for them, and only while no proof needs
+    these: other crates wait for a proof, and nothing waits for a wrong body."""
 
     def __init__(self, folder):
         self.folder = folder
@@ -158,7 +159,7 @@ class WrongBodies:
 
     def try_crate(self, crate, screen):
         watch, log = Stopwatch(), OUT / f"wrong-bodies-{crate}.log"
-        words = [ROOT / "tools/try-wrong-body", "--proved", self.folder, crate]
+        words = ["nice", ROOT / "tools/try-wrong-body", "--proved", self.folder, crate]
         counts = counts_of(words, log, screen, on_start=self.on_start)
         screen.say(f"    {crate}: wrong bodies: {counts}, {watch}")
         return counts

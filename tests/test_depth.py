@@ -1,5 +1,5 @@
-"""Formulas that are a million nodes deep, or as wide, on a stack of 8 MiB: printed, in a style, and dropped after a refusal.
-Formulas a quarter as deep, on a quarter of that stack: cut off, and dropped after a refused request for memory.
+"""Formulas that are a million nodes deep, or as wide, on a stack of 8 MiB: printed. Formulas a quarter as deep, on a quarter of that
+stack: in a style, cut off, and dropped after a refusal or a refused request for memory. Both leave 8 bytes of stack for a node.
 
 Each kind of node and each place in it is tried, nested in itself; `productions.py` has them.
 """
@@ -48,6 +48,12 @@ class Depth(support.Case):
         self.expect(done, 1, b"", faulty.ERROR + NO_MEMORY.encode() + b"\n")
 
 
+class Shallow(Depth):
+    """A quarter of the depth on a quarter of the stack shows the same in a quarter of the time."""
+    nodes = Depth.nodes // 4
+    stack = Depth.stack // 4
+
+
 @support.requires("cc")
 class Printed(Depth):
     """The whole markup."""
@@ -58,7 +64,7 @@ class Printed(Depth):
 
 
 @support.requires("cc")
-class Styled(Depth):
+class Styled(Shallow):
     """The whole markup of the node in bold."""
 
     def judge(self, kind):
@@ -66,7 +72,7 @@ class Styled(Depth):
         self.answers("\\mathbf{" + kind.nested(levels) + "}", kind.styled_contents(levels))
 
 
-class Dropped(Depth):
+class Dropped(Shallow):
     """The whole node is the member of a group that is never closed."""
 
     def judge(self, kind):
@@ -74,10 +80,8 @@ class Dropped(Depth):
 
 
 @support.requires("cc")
-class Cut(Depth):
+class Cut(Shallow):
     """The text ends in the innermost place."""
-    nodes = Depth.nodes // 4
-    stack = Depth.stack // 4
 
     def judge(self, kind):
         levels = kind.levels(self.nodes)
@@ -92,10 +96,8 @@ class Cut(Depth):
 
 
 @support.requires("cc")
-class WithoutMemory(Depth):
+class WithoutMemory(Shallow):
     """An allocation fails while the tree is deep or wide: the one after three quarters of them."""
-    nodes = Depth.nodes // 4
-    stack = Depth.stack // 4
 
     def judge(self, kind):
         formula = kind.nested(kind.levels(self.nodes))

@@ -10,6 +10,7 @@ from tests import faulty, support
 from tests.faulty import ERROR, Fault
 
 UNREAD = ERROR + b"The input could not be read.\n"
+USAGE = b"usage: latex2mathml inline | block | document | html PATH\n"
 NO_TEXT = ERROR + b"The input is not UTF-8 text.\n"
 
 FORMULA = rb"a<\frac12"
@@ -17,11 +18,16 @@ OF_FORMULA = faulty.math("<mi>a</mi><mo>&lt;</mo><mfrac><mn>1</mn><mn>2</mn></mf
 DOCUMENT = "é $x$ é".encode()
 OF_DOCUMENT = "é ".encode() + faulty.X + " é".encode()
 
-LESS = faulty.math("<mi>x</mi><mo>&lt;</mo><mi>y</mi>") + b"\n"
+OF_LESS = "<mi>x</mi><mo>&lt;</mo><mi>y</mi>"
+LESS = faulty.math(OF_LESS) + b"\n"
 ENERGY = faulty.math("<mi>E</mi><mo>=</mo><mi>m</mi><msup><mi>c</mi><mn>2</mn></msup>") + b" is"
 
 # words of the program, with inputs and their answers
-ANSWERS = {"inline": [(FORMULA, OF_FORMULA), (b"x<y", LESS)], "document": [(DOCUMENT, OF_DOCUMENT), (b"$E = m c^2$ is", ENERGY)]}
+ANSWERS = {
+    "inline": [(FORMULA, OF_FORMULA), (b"x<y", LESS)],
+    "block": [(b"x<y", faulty.math(OF_LESS, "block") + b"\n")],
+    "document": [(DOCUMENT, OF_DOCUMENT), (b"$E = m c^2$ is", ENERGY)],
+}
 
 # an error of the device, an interruption, and a call that would have to wait
 READ_ERRORS = {"an error": 5, "an interruption": 4, "a wait": 11}
@@ -144,6 +150,53 @@ class Outputs(Streams):
 for word, (name, error) in itertools.product(ANSWERS, WRITE_ERRORS.items()):
     setattr(Outputs, case_name(f"{word} {name} at each write"),
             lambda self, word=word, error=error: self.stops_at_each_write(word, error))
+
+
+@support.requires("cc")
+class Errors(Streams):
+    """Standard error takes one byte a call and stops after some bytes. It then has the first bytes of what is due, and nothing else
+    changes."""
+
+    def each_end(self, due):
+        """Some numbers of bytes after which standard error stops, up to more than are due."""
+        for taken in (0, 1, 9, len(due) // 2, len(due) - 1, len(due), len(due) + 41):
+            with self.subTest(taken=taken):
+                yield taken
+
+    def test_wrong_words(self):
+        """They leave the input to the next reader."""
+        for taken in self.each_end(USAGE):
+            with open_input(b"x") as source:
+                done, _ = self.run_with("inlines", source, errors=taken)
+                self.expect(done, 2, b"", USAGE[:taken])
+                self.assertEqual(source.read(), b"x")
+
+    def test_inputs(self):
+        for word, (given, _) in ((word, pair) for word, pairs in ANSWERS.items() for pair in pairs):
+            for taken in self.each_end(UNREAD):
+                done, _ = self.run_with(word, given, fault=Fault("read", 2, 2, 5), step=1, errors=taken)
+                self.expect(done, 1, b"", UNREAD[:taken])
+
+    def test_outputs(self):
+        for error in WRITE_ERRORS.values():
+            for taken in self.each_end(stopped(2)):
+                done, _ = self.run_with("inline", b"x<y", fault=Fault("write", 3, 3, error), step=1, errors=taken)
+                self.expect(done, 1, LESS[:2], stopped(2)[:taken])
+
+    def test_files(self):
+        """The stream of the input is not read, and all files are converted."""
+        with support.scratch() as folder:
+            b, c = folder / "b.html", folder / "c.html"
+            lines = ERROR + f"{b}: The number of dollar sings found is invalid.\n".encode()
+            lines += ERROR + f'{c}: The token "RBrace" is expected, but the token "EOF" is found."\n'.encode()
+            for taken in self.each_end(lines):
+                for name, text in (("a", b"$x$"), ("b", b"$$$"), ("c", b"{$x$ ${$")):
+                    (folder / f"{name}.html").write_bytes(text)
+                with open_input(b"x<y") as source:
+                    done, _ = faulty.run_with([faulty.program(), "html", folder], stdin=source, errors=taken)
+                    self.expect(done, 1, b"", lines[:taken])
+                    self.assertEqual(source.read(), b"x<y")
+                self.assertEqual((folder / "a.html").read_bytes(), faulty.X)
 
 
 class Pipes(Streams):

@@ -1,5 +1,5 @@
-"""Allocations that fail, in calls of the library, in `run`, and in the whole program: each one in turn, and then each one with all
-that follow it, until a run makes fewer allocations.
+"""Allocations that fail, in calls of the library and in the whole program: each one in turn, and then each one with all that follow
+it, until a run makes fewer allocations.
 """
 import itertools
 import unittest
@@ -18,6 +18,7 @@ OF_ERROR_FUNCTION = (
     "<mi>erf</mi><mo>(</mo><mi>x</mi><mo>)</mo><mo>=</mo><mfrac><mn>2</mn><msqrt><mi>π</mi></msqrt></mfrac>"
     "<msubsup><mo>∫</mo><mn>0</mn><mi>x</mi></msubsup><msup><mi>e</mi><mrow><mo>-</mo><msup><mi>t</mi><mn>2</mn></msup></mrow></msup>"
     '<mspace width="0.167em"/><mi>d</mi><mi>t</mi>')
+OF_LESS = "<mi>x</mi><mo>&lt;</mo><mi>y</mi>"
 OF_FOO = r'<mtext>[PARSE ERROR: Undefined("Command(\"foo\")")]</mtext>'
 ENERGY = "$E = m c^2$ is"
 OF_ENERGY = faulty.math("<mi>E</mi><mo>=</mo><mi>m</mi><msup><mi>c</mi><mn>2</mn></msup>") + b" is"
@@ -55,6 +56,8 @@ CALLS = {
 # an argument of the program, its input, and its status and streams
 RUNS = {
     "inline": ("inline", ERROR_FUNCTION, 0, faulty.math(OF_ERROR_FUNCTION) + b"\n", b""),
+    "inline, three leaves": ("inline", "x<y", 0, faulty.math(OF_LESS) + b"\n", b""),
+    "block, three leaves": ("block", "x<y", 0, faulty.math(OF_LESS, "block") + b"\n", b""),
     "block": ("block", RULES, 0, faulty.math(OF_RULES, "block") + b"\n", b""),
     "block, an unknown command": ("block", r"\foo", 0, faulty.math(OF_FOO, "block") + b"\n", b""),
     "inline, an open group": ("inline", "{x", 1, b"", faulty.ERROR + OPEN_GROUP + b"\n"),
@@ -138,15 +141,6 @@ def serve(word, text, status, out, errors, way):
     return case
 
 
-def run_of_each_job(way):
-    """A test of the program's crate, which checks the outcome itself."""
-    def case(self):
-        tests = support.ROOT / "crates/latex2mathml_app/out/latex2mathml_app_tests"
-        self.assertTrue(tests.exists(), f"{tests} is missing, which rt ci and rt test build")
-        self.in_turn([tests, "tests::memory::runs_without_memory"], way, lambda done, _: self.expect(done, 0, None, None), marked=True)
-    return case
-
-
 def walk_of_library(way):
     """The result of `convert_html`: a line for each member of its list."""
     def case(self):
@@ -187,7 +181,6 @@ for way in WAYS:
     for name, given in RUNS.items():
         add(Program, f"{way.__name__} of {name}", serve(*given, way))
     add(Library, f"{way.__name__} of convert_html", walk_of_library(way))
-    add(Program, f"{way.__name__} of run", run_of_each_job(way))
     add(Program, f"{way.__name__} of html", walk_of_program(way))
 
 if __name__ == "__main__":

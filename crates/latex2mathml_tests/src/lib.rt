@@ -1,19 +1,10 @@
-//! Tests of what neither the program nor the library for C can show: values made by hand, counts, streams that fail, and the
-//! example callers.
+//! Tests of what neither the program nor the library for C can show: counts, faults, streams that fail, and laws.
 #![tactic(auto)]
 
 #[cfg(test)]
-mod attributes;
-#[cfg(test)]
-mod callers;
-#[cfg(test)]
-mod characters;
-#[cfg(test)]
-mod commands;
-#[cfg(test)]
-mod copies;
-#[cfg(test)]
 mod counts;
+#[cfg(test)]
+mod faults;
 #[cfg(test)]
 mod files;
 #[cfg(test)]
@@ -21,16 +12,8 @@ mod large;
 #[cfg(test)]
 mod laws;
 #[cfg(test)]
-mod nodes;
-#[cfg(test)]
 mod reading;
-#[cfg(test)]
-mod refusals;
 #[cfg(test)]
 mod refused_counts;
 #[cfg(test)]
-mod samples;
-#[cfg(test)]
 mod streams;
-#[cfg(test)]
-mod tokens;

@@ -1,9 +1,9 @@
 //! Nodes made by hand, of each kind: their markup.
 
 use crate::samples::{Frame, Pair, Sample, Triple, Words, applied, leaf, leaves as leaves_of};
-use latex2mathml::DisplayStyle;
-use latex2mathml::ast::Node;
-use latex2mathml::attribute::{Accent, ColumnAlign, LineThickness, Variant};
+use latex2mathml_nodes::ast::Node;
+use latex2mathml_tokens::DisplayStyle;
+use latex2mathml_tokens::attribute::{Accent, ColumnAlign, LineThickness, Variant};
 use std::alloc::{AllocError, Global};
 use std::test::Fail;
 

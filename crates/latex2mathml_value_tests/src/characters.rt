@@ -1,10 +1,10 @@
 //! Each ASCII character, and others of each length, through each text that is printed.
 
 use crate::samples::Words;
-use latex2mathml::LatexError;
-use latex2mathml::ast::Node;
-use latex2mathml::attribute::Variant;
-use latex2mathml::token::Token;
+use latex2mathml_nodes::ast::Node;
+use latex2mathml_tokens::LatexError;
+use latex2mathml_tokens::attribute::Variant;
+use latex2mathml_tokens::token::Token;
 use std::alloc::{AllocError, Global};
 use std::test::Fail;
 

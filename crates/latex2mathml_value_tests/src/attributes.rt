@@ -1,7 +1,7 @@
 //! The texts of attributes.
 
-use latex2mathml::DisplayStyle;
-use latex2mathml::attribute::{Accent, ColumnAlign, LineThickness, Variant};
+use latex2mathml_tokens::DisplayStyle;
+use latex2mathml_tokens::attribute::{Accent, ColumnAlign, LineThickness, Variant};
 use std::test::Fail;
 
 #[test]

@@ -1,7 +1,7 @@
-//! Refusals and faults made by hand: their texts, copies and equality.
+//! Refusals made by hand: their texts, copies and equality.
 
-use latex2mathml::token::Token;
-use latex2mathml::{FileFault, LatexError, WriteCause};
+use latex2mathml_tokens::LatexError;
+use latex2mathml_tokens::token::Token;
 use std::alloc::{AllocError, Global};
 use std::test::Fail;
 
@@ -159,46 +159,6 @@ fn different_refusals_differ(rt: HostRuntime) -> Result<(), Fail> {
         for (j, (b, second)) in samples.iter().enumerate() {
             assert!(rt; (*a == *b) == (i == j), "{first} {second}");
         }
-    }
-    Ok(())
-}
-
-/// The texts of the faults, kind by kind.
-static FAULTS: [&str; 8] = [
-    "The directory could not be listed.",
-    "An entry of the directory could not be read.",
-    "The directory lies deeper than 64 levels.",
-    "The input could not be read.",
-    "The input is not UTF-8 text.",
-    "Memory could not be found.",
-    "The file could not be created anew.",
-    "The output stopped after 2 bytes.",
-];
-
-/// The fault of this number.
-fn fault(number: usize) -> FileFault {
-    match number {
-        0 => FileFault::List,
-        1 => FileFault::Entry,
-        2 => FileFault::TooDeep,
-        3 => FileFault::Read,
-        4 => FileFault::NotText,
-        5 => FileFault::Refused(LatexError::OutOfMemory),
-        6 => FileFault::Create,
-        _ => FileFault::Write {
-            written: 2,
-            cause: WriteCause::Failed,
-        },
-    }
-}
-
-#[test]
-fn faults(rt: HostRuntime) -> Result<(), Fail> {
-    for (number, text) in FAULTS.iter().enumerate() {
-        assert!(rt;
-            fault(number).to_string(rt.alloc())?.as_str() == *text,
-            "{text}"
-        );
     }
     Ok(())
 }

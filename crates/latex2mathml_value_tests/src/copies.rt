@@ -1,9 +1,9 @@
 //! Copies and equality of nodes of each kind.
 
 use crate::samples::{Frame, Pair, Sample, Triple, Words};
-use latex2mathml::DisplayStyle;
-use latex2mathml::ast::Node;
-use latex2mathml::attribute::{Accent, ColumnAlign, LineThickness, Variant};
+use latex2mathml_nodes::ast::Node;
+use latex2mathml_tokens::DisplayStyle;
+use latex2mathml_tokens::attribute::{Accent, ColumnAlign, LineThickness, Variant};
 use std::alloc::{AllocError, Global};
 use std::test::Fail;
 

@@ -1,8 +1,8 @@
 //! Nodes made by hand, of plain values. Only what takes one node, text or list in its hands at a time is cheap to prove.
 
-use latex2mathml::DisplayStyle;
-use latex2mathml::ast::Node;
-use latex2mathml::attribute::{Accent, ColumnAlign, LineThickness, Variant};
+use latex2mathml_nodes::ast::Node;
+use latex2mathml_tokens::DisplayStyle;
+use latex2mathml_tokens::attribute::{Accent, ColumnAlign, LineThickness, Variant};
 use std::alloc::{AllocError, Global};
 
 /// A kind of node that holds a text.

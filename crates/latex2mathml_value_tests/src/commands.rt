@@ -1,6 +1,6 @@
 //! The tokens of names that no formula spells.
 
-use latex2mathml::token::Token;
+use latex2mathml_tokens::token::Token;
 use std::test::Fail;
 
 #[test]

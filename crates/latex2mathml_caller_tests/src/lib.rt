@@ -1,0 +1,5 @@
+//! Tests of the example callers.
+#![tactic(auto)]
+
+#[cfg(test)]
+mod callers;

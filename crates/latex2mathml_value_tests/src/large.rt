@@ -1,0 +1,275 @@
+//! Large values: deeply nested nodes, nodes with many members, and each call that allocates, at small and at large sizes. Each call
+//! succeeds if there is memory.
+
+use crate::samples::{Frame, Pair, Triple, Words, applied, leaf};
+use latex2mathml_nodes::ast::Node;
+use latex2mathml_tokens::LatexError;
+use latex2mathml_tokens::attribute::{Accent, ColumnAlign, LineThickness};
+use latex2mathml_tokens::token::Token;
+use std::alloc::{AllocError, Global};
+use std::test::Fail;
+
+/// This many copies of the character.
+fn repeated(alloc: Global, c: char, count: usize) -> Result<String, AllocError> {
+    let mut text = String::new(alloc);
+    for _ in 0..count {
+        text.push(c)?;
+    }
+    Ok(text)
+}
+
+/// A node inside each kind that carries scripts or limits, in each of its places.
+fn scripted(alloc: Global, x: Node) -> Result<Node, AllocError> {
+    let mut x = x;
+    for pair in [Pair::Subscript, Pair::Superscript, Pair::Under] {
+        x = pair.of(alloc, x, leaf('a'))?;
+        x = pair.of(alloc, leaf('a'), x)?;
+    }
+    for triple in [Triple::SubSup, Triple::UnderOver] {
+        x = triple.of(alloc, x, leaf('a'), leaf('b'))?;
+        x = triple.of(alloc, leaf('a'), x, leaf('b'))?;
+        x = triple.of(alloc, leaf('a'), leaf('b'), x)?;
+    }
+    Ok(x)
+}
+
+/// A node inside each other kind that holds one node or two, in each of its places.
+fn framed(alloc: Global, x: Node) -> Result<Node, AllocError> {
+    let mut x = applied(alloc, "sin", x)?;
+    for frame in [
+        Frame::Over('^', Accent::True),
+        Frame::Under('_', Accent::False),
+        Frame::Root,
+        Frame::Fence("(", ")"),
+        Frame::Slash,
+        Frame::Style(None),
+    ] {
+        x = frame.around(alloc, x)?;
+    }
+    for pair in [
+        Pair::Overset,
+        Pair::Underset,
+        Pair::Root,
+        Pair::Fraction(LineThickness::Medium),
+    ] {
+        x = pair.of(alloc, x, leaf('a'))?;
+        x = pair.of(alloc, leaf('a'), x)?;
+    }
+    Ok(x)
+}
+
+/// What may be before and after a node in a list: nodes that hold none, and nodes that hold one.
+fn beside(alloc: Global, is_compound: bool) -> Result<Node, AllocError> {
+    if is_compound {
+        Frame::Slash.around(alloc, leaf('a'))
+    } else {
+        Ok(leaf('a'))
+    }
+}
+
+/// The node between others of the list, which may be missing.
+fn between(
+    alloc: Global,
+    before: Option<bool>,
+    x: Node,
+    after: Option<bool>,
+) -> Result<Vec<Node>, AllocError> {
+    let mut nodes = Vec::new(alloc);
+    if let Some(is_compound) = before {
+        nodes.push(beside(alloc, is_compound)?)?;
+    }
+    nodes.push(x)?;
+    if let Some(is_compound) = after {
+        nodes.push(beside(alloc, is_compound)?)?;
+    }
+    Ok(nodes)
+}
+
+/// A node inside rows and matrices: alone, first, last and between nodes, which may hold nodes themselves.
+fn listed(alloc: Global, x: Node) -> Result<Node, AllocError> {
+    let mut x = x;
+    for (before, after) in [
+        (None, None),
+        (None, Some(false)),
+        (Some(false), None),
+        (None, Some(true)),
+        (Some(true), None),
+    ] {
+        x = Node::Row(between(alloc, before, x, after)?);
+    }
+    x = Node::Matrix(between(alloc, None, x, Some(false))?, ColumnAlign::Left);
+    let cells = between(alloc, Some(true), x, Some(true))?;
+    Ok(Node::Matrix(cells, ColumnAlign::Center))
+}
+
+const LEVELS: usize = 100_000;
+
+/// Trees that could not be dropped by recursion with a stack of 8 MiB, even if only one kind in one place recursed.
+#[test]
+fn deep_scripts_are_dropped(rt: HostRuntime) -> Result<(), Fail> {
+    let mut x = leaf('x');
+    for _ in 0..LEVELS {
+        x = scripted(rt.alloc(), x)?;
+    }
+    assert!(rt; matches!(&x, Node::UnderOver { .. }));
+    Ok(())
+}
+
+#[test]
+fn deep_frames_are_dropped(rt: HostRuntime) -> Result<(), Fail> {
+    let mut x = leaf('x');
+    for _ in 0..LEVELS {
+        x = framed(rt.alloc(), x)?;
+    }
+    assert!(rt; matches!(&x, Node::Frac(..)));
+    Ok(())
+}
+
+#[test]
+fn deep_lists_are_dropped(rt: HostRuntime) -> Result<(), Fail> {
+    let mut x = leaf('x');
+    for _ in 0..LEVELS {
+        x = listed(rt.alloc(), x)?;
+    }
+    assert!(rt; matches!(&x, Node::Matrix(..)));
+    Ok(())
+}
+
+/// A row of this many letters, followed by `last`.
+fn wide_row(alloc: Global, count: usize, last: Node) -> Result<Node, AllocError> {
+    let mut members = Vec::new(alloc);
+    for _ in 0..count {
+        members.push(leaf('x'))?;
+    }
+    members.push(last)?;
+    Ok(Node::Row(members))
+}
+
+/// Whether a text is these parts, one of them many times over.
+fn is_repeated(text: &str, before: &str, part: &str, count: usize, after: &str) -> bool {
+    let Some(mut rest) = text.strip_prefix(before) else {
+        return false;
+    };
+    for _ in 0..count {
+        match rest.strip_prefix(part) {
+            Some(behind) => rest = behind,
+            None => return false,
+        }
+    }
+    rest == after
+}
+
+/// Whether a row of so many members and one more equals its copy, differs from a row that differs in the last, and
+/// prints; all are dropped then.
+fn row_is_whole(alloc: Global, count: usize) -> Result<bool, AllocError> {
+    let row = wide_row(alloc, count, leaf('<'))?;
+    let other = wide_row(alloc, count, leaf('>'))?;
+    let copy = row.clone(alloc)?;
+    let markup = copy.to_string(alloc)?;
+    let is_printed = is_repeated(
+        markup.as_str(),
+        "<mrow>",
+        "<mi>x</mi>",
+        count,
+        "<mo>&lt;</mo></mrow>",
+    );
+    Ok(copy == row && row != other && is_printed)
+}
+
+#[test]
+fn wide_rows(rt: HostRuntime) -> Result<(), Fail> {
+    for count in [60_000, 1 << 20] {
+        assert!(rt; row_is_whole(rt.alloc(), count)?, "{count}");
+    }
+    Ok(())
+}
+
+/// Around a page of memory, and past what a buffer or a limit would hold.
+const SIZES: [usize; 4] = [1, 4096, 4097, 8 << 20];
+
+/// `\z` is no command of the table.
+fn command_is_itself(alloc: Global, size: usize) -> Result<bool, AllocError> {
+    let name = repeated(alloc, 'z', size)?;
+    let token = Token::from_command(alloc, name.as_str())?;
+    let copy = token.clone(alloc)?;
+    Ok(copy == token && token == Token::Command(name))
+}
+
+fn number_is_copied(alloc: Global, size: usize) -> Result<bool, AllocError> {
+    let number = Token::Number(repeated(alloc, '7', size)?);
+    Ok(number.clone(alloc)? == number)
+}
+
+#[test]
+fn tokens(rt: HostRuntime) -> Result<(), Fail> {
+    for size in SIZES {
+        assert!(rt; command_is_itself(rt.alloc(), size)?, "{size}");
+        assert!(rt; number_is_copied(rt.alloc(), size)?, "{size}");
+    }
+    Ok(())
+}
+
+/// Whether such a node with a text of this length is copied, and prints.
+fn node_is_whole(
+    alloc: Global,
+    kind: Words,
+    size: usize,
+    before: &str,
+    after: &str,
+) -> Result<bool, AllocError> {
+    let text = repeated(alloc, 'z', size)?;
+    let node = kind.of(alloc, text.as_str())?;
+    let copy = node.clone(alloc)?;
+    let printed = copy.to_string(alloc)?;
+    Ok(copy == node && is_repeated(printed.as_str(), before, "z", size, after))
+}
+
+#[test]
+fn nodes(rt: HostRuntime) -> Result<(), Fail> {
+    for (kind, before, after) in [
+        (Words::Number, "<mn>", "</mn>"),
+        (Words::Function, "<mi>", "</mi>"),
+        (
+            Words::Undefined,
+            "<mtext>[PARSE ERROR: Undefined(\"",
+            "\")]</mtext>",
+        ),
+    ] {
+        for size in SIZES {
+            assert!(rt;
+                node_is_whole(rt.alloc(), kind, size, before, after)?,
+                "{size}"
+            );
+        }
+    }
+    Ok(())
+}
+
+/// A refusal with a text of this length.
+fn refusal(alloc: Global, size: usize) -> Result<LatexError, AllocError> {
+    Ok(LatexError::UnexpectedToken {
+        expected: Token::EOF,
+        got: Token::Command(repeated(alloc, 'z', size)?),
+    })
+}
+
+fn refusal_is_copied(alloc: Global, size: usize) -> Result<bool, AllocError> {
+    let refusal = refusal(alloc, size)?;
+    Ok(refusal.clone(alloc)? == refusal)
+}
+
+/// Whether it prints.
+fn refusal_is_told(alloc: Global, size: usize) -> Result<bool, AllocError> {
+    let said = refusal(alloc, size)?.to_string(alloc)?;
+    let before = "The token \"EOF\" is expected, but the token \"Command(\"";
+    Ok(is_repeated(said.as_str(), before, "z", size, "\")\" is found.\""))
+}
+
+#[test]
+fn refusals(rt: HostRuntime) -> Result<(), Fail> {
+    for size in SIZES {
+        assert!(rt; refusal_is_copied(rt.alloc(), size)?, "{size}");
+        assert!(rt; refusal_is_told(rt.alloc(), size)?, "{size}");
+    }
+    Ok(())
+}
