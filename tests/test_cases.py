@@ -3,7 +3,7 @@ import unittest
 
 from tests import cases
 from tests.answers import WAYS, AnswerCase, Code, shown
-from tests.support import scratch
+from tests.support import built, run, scratch
 
 WHITE_SPACE = [space * count for space in (b" ", b"\t", b"\n", b"\r") for count in (1, 1000)]
 NO_WHITE_SPACE = ["\u000c".encode(), "\u00a0".encode()]
@@ -41,6 +41,20 @@ class CaseOfFile(AnswerCase):
                     self.assertNotEqual(way("inline", given), (Code.DONE, answer), f"{case.place}, place {number}: {shown(given)} by {name}")
 
 
+    def counts(self, case):
+        """The steps of a formula: a command takes 1 to 9 comparisons."""
+        done = run([built("latex2mathml_single_calls"), "steps", case.input])
+        outcome, steps = done.stdout.decode().splitlines()
+        found = dict(reversed(part.split()) for part in steps.split(", "))
+        kind, *wanted = case.answer.decode().split(", ")
+        self.assertEqual(outcome.partition(":")[0], kind, case.place)
+        for count, name in map(str.split, wanted):
+            if name.startswith("command"):
+                self.assertIn(int(found["comparisons"]), range(int(count), 9 * int(count) + 1), case.place)
+            else:
+                self.assertEqual(found[f"{name.removesuffix('s')}s"], count, f"{case.place}: {name}")
+
+
 def code_of(case):
     """The code of the library for C for a refused text."""
     try:
@@ -57,6 +71,7 @@ KINDS = [
     ("documents/*.txt", CaseOfFile.document),
     ("document_refusals.txt", CaseOfFile.refused_document),
     ("white_space.txt", CaseOfFile.white_space),
+    ("counts.txt", CaseOfFile.counts),
 ]
 
 

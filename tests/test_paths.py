@@ -1,6 +1,6 @@
 """Converts the files of a folder, each by its own path and all by the folder's, and checks their contents."""
 from tests.cases import math
-from tests.support import Case, program, run, scratch
+from tests.support import Case, built, program, run, scratch
 
 ERROR = b"LaTeX2MathML Error: "
 UNPAIRED = b": The number of dollar sings found is invalid.\n"
@@ -33,6 +33,12 @@ class Paths(Case):
             beginning = slashes.encode() or b"/"
             self.html(f"{self.folder}{slashes}", beginning + b"b.html" + UNPAIRED + beginning + b"f.html" + NOT_UTF8)
             self.holds(CONVERTED)
+
+    def test_call_of_the_library(self):
+        """The same list as that of the program, by the library's own call for files."""
+        done = run([built("latex2mathml_single_calls"), "convert_html", self.folder])
+        self.expect(done, stdout=b"".join(str(self.folder / name).encode() + fault for name, fault in [("b.html", UNPAIRED), ("f.html", NOT_UTF8)]))
+        self.holds(CONVERTED)
 
     def test_files_that_are_left_alone(self):
         for name in (".html", "c.htm", "c.HTML", "d/e.html", "d/html", "e.html", "g.html.txt", "none.html", "none", "a.html/"):

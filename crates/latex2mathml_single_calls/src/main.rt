@@ -1,5 +1,5 @@
 //! Makes one call of the library, with a mark before it and one after it, and prints its answer: `tests/test_memory.py`
-//! refuses requests for memory between the marks.
+//! refuses requests for memory between the marks. For a formula it can also print the steps that it took.
 #![tactic(auto)]
 
 mod copies;
@@ -52,6 +52,16 @@ fn counted_formula(rt: &HostRuntime, latex: &str) -> io::Result<()> {
     Ok(())
 }
 
+/// The answer or the refusal, and the steps that it took.
+fn steps(rt: &HostRuntime, latex: &str) -> io::Result<()> {
+    let (answer, steps) = latex_to_mathml_counted(rt.alloc(), latex, DisplayStyle::Inline);
+    tell(rt, &answer)?;
+    println!(rt;
+        "{} tokens, {} frames, {} comparisons",
+        steps.tokens, steps.frames, steps.comparisons
+    )
+}
+
 fn document(rt: &HostRuntime, input: &str) -> io::Result<()> {
     mark(rt.alloc(), BEGINNING)?;
     let answer = replace(rt.alloc(), input);
@@ -98,6 +108,7 @@ fn call(rt: &HostRuntime) -> io::Result<bool> {
     match name.as_str() {
         "latex_to_mathml" => formula(rt, text)?,
         "latex_to_mathml_counted" => counted_formula(rt, text)?,
+        "steps" => steps(rt, text)?,
         "replace" => document(rt, text)?,
         "read_document" => reading(rt, text)?,
         "convert_html" => files(rt, text)?,

@@ -1,8 +1,6 @@
-//! Tests of what neither the program nor the library for C can show: counts, faults, streams that fail, and laws.
+//! Tests of what neither the program nor the library for C can show: faults, streams that fail, and laws.
 #![tactic(auto)]
 
-#[cfg(test)]
-mod counts;
 #[cfg(test)]
 mod faults;
 #[cfg(test)]
@@ -13,7 +11,5 @@ mod large;
 mod laws;
 #[cfg(test)]
 mod reading;
-#[cfg(test)]
-mod refused_counts;
 #[cfg(test)]
 mod streams;
