@@ -1,5 +1,6 @@
 pub mod Changes
 pub mod Forests
+pub mod Groups
 pub mod Markups
 pub mod Puts
 pub mod Styles

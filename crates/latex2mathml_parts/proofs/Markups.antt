@@ -1,26 +1,15 @@
 -- The markup of trees, as it is written: the parts of it that are fixed stand together.
-use Rattle.std.proofs.Common.{◌≡◌, ℕ, List, [], ◌∷◌, ◌++◌, ap, append-nil, append_assoc, codes, refl, subst, sym, ◌∙◌, Option, Some, None}
+use Rattle.std.proofs.Common.{◌≡◌, ℕ, List, [], ◌∷◌, ◌++◌, ap, append-nil, append_assoc, codes, refl, sym, ◌∙◌, Option, Some, None}
 use Rattle.std.specs.Char.{encode_utf8}
 use Rattle.std.specs.Fmt.{digits}
-use Rattle.std.specs.Prelude.{IfOk, OnOk, Ok, Err, Result}
 use Rattle.latex2mathml_trees.specs.Print.{print}
 use Rattle.latex2mathml_trees.specs.Productions.{binomial_tree, coefficient, labelled_overbrace_tree, prime_mark, labelled_underbrace_tree}
 use Rattle.latex2mathml_trees.specs.Tree.{Tree, operator, superscript}
 use Rattle.latex2mathml_parts.specs.Forms.{in_style}
 use Rattle.latex2mathml_tokens.specs.declared.attribute.Variant.{Variant}
-use Rattle.latex2mathml_parts.specs.Works.{Writes, binomial_close, binomial_open}
-use Rattle.latex2mathml_parts.specs.declared.form.Part.{Part}
-use Rattle.latex2mathml_parts.specs.declared.work.Work.{Work}
+use Rattle.latex2mathml_parts.specs.Shapes.{binomial_close, binomial_open}
 use Rattle.latex2mathml_tokens.specs.declared.DisplayStyle.{DisplayStyle}
 use Rattle.latex2mathml_tokens.specs.declared.DisplayStyle.TheVariants.{Block, Inline}
-
-pub ok_map : {T E P Q : Type 0} (r : Result T E) → (P → Q) → OnOk r P → OnOk r Q
-ok_map (Ok x) f h = f h
-ok_map (Err e) f h = tt
-
--- what is written is the same markup
-pub same_markup : {E : Type 0} (r : Result ℕ E) (texts : List (List ℕ)) (ps : List Part) (old : List ℕ) (ws : List Work) (new : List ℕ) (vs : List Work) (a b : List ℕ) → a ≡ b → IfOk r (λ next. Writes texts ps old ws a new vs (Some next)) → IfOk r (λ next. Writes texts ps old ws b new vs (Some next))
-same_markup r texts ps old ws new vs a b e h = subst (λ l. IfOk r (λ next. Writes texts ps old ws l new vs (Some next))) e h
 
 pub three : (a x b rest : List ℕ) → (a ++ (x ++ b)) ++ rest ≡ a ++ (x ++ (b ++ rest))
 three a x b rest = append_assoc a (x ++ b) rest ∙ ap (λ l. a ++ l) (append_assoc x b rest)

@@ -4,15 +4,15 @@ use Rattle.std.proofs.lemmas.List.{reverse-append}
 use Rattle.std.proofs.lemmas.Grind.{flat_map-append}
 use Rattle.std.proofs.lemmas.List.Sums.{sum_by-append}
 use Rattle.std.specs.List.{flat_map}
-use Rattle.latex2mathml_trees.specs.Print.{member_print, members_print, print, prints}
 use Rattle.latex2mathml_trees.specs.Tree.{Tree, trees_of}
 use Rattle.latex2mathml_trees.specs.Weight.{weights}
 use Rattle.latex2mathml_tokens.specs.declared.attribute.Variant.{Variant}
-use Rattle.latex2mathml_parts.specs.Forms.{all_in, in_style}
+use Rattle.latex2mathml_parts.specs.Forms.{all_in}
 use Rattle.latex2mathml_parts.specs.Parts.{top}
-use Rattle.latex2mathml_parts.specs.Works.{AreIn, IsIn, cells_in, due, print_weight, prints_in, work_print}
-use Rattle.latex2mathml_parts.specs.declared.form.Part.{Part}
+use Rattle.latex2mathml_parts.specs.Shapes.{print_weight}
+use Rattle.latex2mathml_parts.specs.Works.{AreIn, IsIn, due, work_print}
 use Rattle.latex2mathml_parts.specs.declared.work.Work.{Work}
+use Rattle.latex2mathml_parts.specs.declared.write.Writer.{Writer}
 use Rattle.latex2mathml_parts.proofs.Styles.{weights-in}
 
 pub sized_opened : (a v b c rest : List ℕ) → (a ++ (v ++ (b ++ (v ++ c)))) ++ rest ≡ a ++ (v ++ (b ++ (v ++ (c ++ rest))))
@@ -22,35 +22,25 @@ sized_opened a v b c rest =
 
 -- A work is put on the list, or taken from it.
 
-pub are_in-push : (ps : List Part) (ws : List Work) (w : Work) → AreIn ps ws → IsIn ps w → AreIn ps (ws ++ w ∷ [])
-are_in-push ps [] w h i = (i, tt)
-are_in-push ps (v ∷ ws) w h i = (h.0, are_in-push ps ws w h.1 i)
+pub are_in-push : (w : Writer) (ks : List Work) (k : Work) → AreIn w ks → IsIn w k → AreIn w (ks ++ k ∷ [])
+are_in-push w [] k h i = (i, tt)
+are_in-push w (v ∷ ks) k h i = (h.0, are_in-push w ks k h.1 i)
 
-pub are_in-pop : (ps : List Part) (ws : List Work) (w : Work) → AreIn ps (ws ++ w ∷ []) → AreIn ps ws × IsIn ps w
-are_in-pop ps [] w h = (tt, h.0)
-are_in-pop ps (v ∷ ws) w h = let k = are_in-pop ps ws w h.1 in ((h.0, k.0), k.1)
+are_in-pop : (w : Writer) (ks : List Work) (k : Work) → AreIn w (ks ++ k ∷ []) → AreIn w ks × IsIn w k
+are_in-pop w [] k h = (tt, h.0)
+are_in-pop w (v ∷ ks) k h = let r = are_in-pop w ks k h.1 in ((h.0, r.0), r.1)
 
-pub popped_in : (ps : List Part) (ws vs : List Work) (w : Work) → ws ≡ vs ++ w ∷ [] → AreIn ps ws → AreIn ps vs × IsIn ps w
-popped_in ps ws vs w e h = are_in-pop ps vs w (subst (AreIn ps) e h)
+pub popped_in : (w : Writer) (ks vs : List Work) (k : Work) → ks ≡ vs ++ k ∷ [] → AreIn w ks → AreIn w vs × IsIn w k
+popped_in w ks vs k e h = are_in-pop w vs k (subst (AreIn w) e h)
 
-pub due-push : (texts : List (List ℕ)) (ps : List Part) (ws : List Work) (w : Work) → due texts ps (ws ++ w ∷ []) ≡ work_print texts ps w ++ due texts ps ws
-due-push texts ps ws w = ap (flat_map (work_print texts ps)) (reverse-append ws (w ∷ []))
-
--- a work is done, and the rest is due
-pub done : (texts : List (List ℕ)) (ps : List Part) (ws vs us : List Work) (w : Work) (out new whole : List ℕ) → ws ≡ vs ++ w ∷ [] → new ++ due texts ps us ≡ out ++ (work_print texts ps w ++ due texts ps vs) → out ++ due texts ps ws ≡ whole → new ++ due texts ps us ≡ whole
-done texts ps ws vs us w out new whole e f g = f ∙ ap (λ l. out ++ l) (sym (ap (due texts ps) e ∙ due-push texts ps vs w)) ∙ g
+pub due-push : (w : Writer) (ks : List Work) (k : Work) → due w (ks ++ k ∷ []) ≡ work_print w k ++ due w ks
+due-push w ks k = ap (flat_map (work_print w)) (reverse-append ks (k ∷ []))
 
 -- What is written, and what is put on the list, are the print together.
 
 -- a tag is written, and what follows is due
 pub behind_tag : (old now before body rest d : List ℕ) → now ≡ old ++ before → rest ≡ body ++ d → now ++ rest ≡ old ++ ((before ++ body) ++ d)
 behind_tag old now before body rest d e f = rw (e, f) (append_assoc old before (body ++ d) ∙ ap (λ l. old ++ l) (sym (append_assoc before body d)))
-
--- a tag and an operator are written, and what follows is due
-pub behind_two : (old mid now before sign body rest d : List ℕ) → mid ≡ old ++ before → now ≡ mid ++ sign → rest ≡ body ++ d → now ++ rest ≡ old ++ ((before ++ (sign ++ body)) ++ d)
-behind_two old mid now before sign body rest d e f g =
-    behind_tag old now (before ++ sign) body rest d (f ∙ ap (λ l. l ++ sign) e ∙ append_assoc old before sign) g
-    ∙ ap (λ l. old ++ (l ++ d)) (append_assoc before sign body)
 
 -- what is put on the list, the last first
 pub one_due : (x after d d1 : List ℕ) → d1 ≡ after ++ d → x ++ d1 ≡ (x ++ after) ++ d
@@ -61,10 +51,6 @@ two_due x y after d d1 d2 e f = one_due x (y ++ after) d d2 (f ∙ one_due y aft
 
 pub three_due : (x y z after d d1 d2 d3 : List ℕ) → d1 ≡ after ++ d → d2 ≡ z ++ d1 → d3 ≡ y ++ d2 → x ++ d3 ≡ (x ++ (y ++ (z ++ after))) ++ d
 three_due x y z after d d1 d2 d3 e f g = one_due x (y ++ (z ++ after)) d d3 (g ∙ two_due y z after d d1 d2 e f)
-
--- a tree is the one that another name is for
-pub tree_named : (x y : Tree) (d e : List ℕ) → e ≡ print x ++ d → x ≡ y → e ≡ print y ++ d
-tree_named x y d e f g = f ∙ ap (λ t. print t ++ d) g
 
 -- Members.
 
@@ -90,15 +76,6 @@ weight_step j (t ∷ ts) us h f = rw f (sum_of t (take j ts))
 pub length_step : (j : ℕ) (ts us : List Tree) → suc j ≤ length ts → us ≡ drop 1 ts → j ≤ length us
 length_step j [] us h f = absurd (omega arith)
 length_step j (t ∷ ts) us h f = rw f (omega arith)
-
--- the members of a row or of a matrix in a style
-pub prints-in : (s : Option Variant) (xs : List Tree) → prints (all_in s (trees_of xs)) ≡ prints_in s xs
-prints-in s [] = refl
-prints-in s (x ∷ xs) = ap (λ l. print (in_style s x) ++ l) (prints-in s xs)
-
-pub cells-in : (s : Option Variant) (xs : List Tree) → members_print (all_in s (trees_of xs)) ≡ cells_in s xs
-cells-in s [] = refl
-cells-in s (x ∷ xs) = ap (λ l. member_print (in_style s x) (print (in_style s x)) ++ l) (cells-in s xs)
 
 weights_of : (xs : List Tree) → sum_by print_weight xs ≡ weights (trees_of xs) * 8
 weights_of [] = refl

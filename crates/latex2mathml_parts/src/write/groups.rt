@@ -1,16 +1,50 @@
 //! Groups of trees: rows and matrices.
-ghost use Rattle.std.specs.Prelude.{◌≡◌, ◌+◌, ◌<◌, ◌≤◌, ◌++◌, OnOk, codes, length, reverse, string_bytes, take, None};
+ghost use Rattle.std.specs.Prelude.{◌≡◌, ◌+◌, ◌<◌, ◌≤◌, ◌++◌, OnOk, length, reverse, string_bytes, sum_by, take, None};
 ghost use Rattle.latex2mathml_trees.specs.Print.{print};
-ghost use Rattle.latex2mathml_trees.specs.Tree.{matrix, row, trees_of};
-ghost use Rattle.latex2mathml_parts.specs.Forms.{AreWhole, all_in, aside, forest, outer};
-ghost use Rattle.latex2mathml_parts.specs.Works.{AreIn, print_weight, Writes, load};
-ghost use Rattle.latex2mathml_tokens.specs.Attributes.{align_text};
+ghost use Rattle.latex2mathml_trees.specs.Tree.{trees_of};
+ghost use Rattle.latex2mathml_parts.specs.Forms.{all_in, outer};
+ghost use Rattle.latex2mathml_parts.specs.Groups.{group_close, group_open, member_in, members_in, tree_of_group};
+ghost use Rattle.latex2mathml_parts.specs.Shapes.{print_weight};
+ghost use Rattle.latex2mathml_parts.specs.Works.{AreIn, IsIn, IsPlace, IsWhole, Leaves, Writes, due, load, tree_at, trees_at, work_print, work_weight};
 
-use crate::form::Part;
+use crate::form::Form;
+use crate::kind::Kind;
+use crate::list::{before_last, part_at};
 use crate::work::Work;
-use crate::write::works::{push, push_cells, push_members};
+use crate::write::Writer;
 use latex2mathml_tokens::attribute::{ColumnAlign, Variant};
 use std::alloc::AllocError;
+
+/// What trees are members of.
+#[derive(Clone, Copy)]
+pub(crate) enum Group {
+    Row,
+    Matrix(ColumnAlign),
+}
+
+impl Group {
+    /// What stands before the members.
+    fn open(self) -> &'static str
+        ensures { result.now ≡ group_open self }
+    {
+        match self {
+            Group::Row => "<mrow>",
+            Group::Matrix(ColumnAlign::Center) => "<mtable><mtr><mtd>",
+            Group::Matrix(ColumnAlign::Left) => "<mtable columnalign=\"left\"><mtr><mtd>",
+            Group::Matrix(ColumnAlign::Right) => "<mtable columnalign=\"right\"><mtr><mtd>",
+        }
+    }
+
+    /// What stands after them.
+    fn close(self) -> &'static str
+        ensures { result.now ≡ group_close self }
+    {
+        match self {
+            Group::Row => "</mrow>",
+            Group::Matrix(_) => "</mtd></mtr></mtable>",
+        }
+    }
+}
 
 /// The style of letters in a row that has a style of its own: the outer one stays.
 pub(crate) fn outer(style: Option<Variant>, own: Option<Variant>) -> Option<Variant>
@@ -22,64 +56,89 @@ pub(crate) fn outer(style: Option<Variant>, own: Option<Variant>) -> Option<Vari
     }
 }
 
-/// Writes a row of so many trees.
-pub(crate) fn write_row(
-    count: usize,
-    style: Option<Variant>,
-    end: usize,
-    texts: &[String],
-    list: &[Part],
-    works: &mut Vec<Work>,
-    out: &mut String,
-) -> Result<(), AllocError>
-    requires whole { AreWhole (aside texts.now) list.now }
-    requires all { count ≤ length (forest (aside texts.now) (take end list.now)) }
-    requires within { end ≤ length list.now }
-    requires inside { AreIn list.now works.old.items }
-    ensures inside { OnOk result (AreIn list.now works.new.items) }
-    ensures print { OnOk result (Writes (aside texts.now) list.now (string_bytes out.old) works.old.items
-        (print (row (all_in style (trees_of (reverse (take count (forest (aside texts.now) (take end list.now)))))))) (string_bytes out.new) works.new.items None) }
-    ensures weight { OnOk result (load (aside texts.now) list.now works.new.items < load (aside texts.now) list.now works.old.items + print_weight (row (all_in style (trees_of (reverse (take count (forest (aside texts.now) (take end list.now)))))))) }
-{
-    out.push_str("<mrow>")?;
-    push(Work::Markup("</mrow>"), texts, list, works)?;
-    push_members(count, style, end, texts, list, works)?;
-    Ok(())
-}
+impl Writer<'_, '_> {
+    /// Writes what stands before a group of so many trees, and puts them and what stands after them on the list.
+    pub(crate) fn write_group(
+        &self,
+        group: Group,
+        count: usize,
+        style: Option<Variant>,
+        end: usize,
+        works: &mut Vec<Work>,
+        out: &mut String,
+    ) -> Result<(), AllocError>
+        requires whole { IsWhole self.now }
+        requires all { count ≤ length (trees_at self.now end) }
+        requires within { end ≤ length self.now.list.now }
+        requires inside { AreIn self.now works.old.items }
+        ensures print { OnOk result (Writes self.now (string_bytes out.old) works.old.items
+            (print (tree_of_group group (all_in style (trees_of (reverse (take count (trees_at self.now end)))))))
+            (string_bytes out.new) works.new.items None) }
+        ensures left { OnOk result (Leaves self.now works.old.items
+            (print_weight (tree_of_group group (all_in style (trees_of (reverse (take count (trees_at self.now end))))))) works.new.items None) }
+    {
+        out.push_str(group.open())?;
+        self.push(Work::Markup(group.close()), works)?;
+        self.push_members(group, count, style, end, works)?;
+        Ok(())
+    }
 
-/// Writes a matrix of so many members.
-pub(crate) fn write_matrix(
-    count: usize,
-    style: Option<Variant>,
-    align: ColumnAlign,
-    end: usize,
-    texts: &[String],
-    list: &[Part],
-    works: &mut Vec<Work>,
-    out: &mut String,
-) -> Result<(), AllocError>
-    requires whole { AreWhole (aside texts.now) list.now }
-    requires all { count ≤ length (forest (aside texts.now) (take end list.now)) }
-    requires within { end ≤ length list.now }
-    requires inside { AreIn list.now works.old.items }
-    ensures inside { OnOk result (AreIn list.now works.new.items) }
-    ensures print { OnOk result (Writes (aside texts.now) list.now (string_bytes out.old) works.old.items
-        (print (matrix (all_in style (trees_of (reverse (take count (forest (aside texts.now) (take end list.now)))))) align)) (string_bytes out.new) works.new.items None) }
-    ensures weight { OnOk result (load (aside texts.now) list.now works.new.items < load (aside texts.now) list.now works.old.items + print_weight (matrix (all_in style (trees_of (reverse (take count (forest (aside texts.now) (take end list.now)))))) align)) }
-{
-    out.push_str(table_open(align))?;
-    push(Work::Markup("</mtd></mtr></mtable>"), texts, list, works)?;
-    push_cells(count, style, end, texts, list, works)?;
-    Ok(())
-}
+    /// Puts so many members of a group on the list, the first uppermost.
+    fn push_members(
+        &self,
+        group: Group,
+        count: usize,
+        style: Option<Variant>,
+        end: usize,
+        works: &mut Vec<Work>,
+    ) -> Result<(), AllocError>
+        requires whole { IsWhole self.now }
+        requires all { count ≤ length (trees_at self.now end) }
+        requires within { end ≤ length self.now.list.now }
+        requires inside { AreIn self.now works.old.items }
+        ensures inside { OnOk result (AreIn self.now works.new.items) }
+        ensures print { OnOk result (due self.now works.new.items
+            ≡ members_in group style (reverse (take count (trees_at self.now end))) ++ due self.now works.old.items) }
+        ensures weight { OnOk result (load self.now works.new.items
+            ≤ load self.now works.old.items + sum_by print_weight (take count (trees_at self.now end))) }
+    {
+        let mut place = end;
+        let mut left = count;
+        'members: while left > 0 {
+            self.push(self.member(group, place, style), works)?;
+            place = before_last(place, self.texts, self.list);
+            left -= 1;
+        }
+        Ok(())
+    }
 
-/// What stands before the members of a matrix.
-fn table_open(align: ColumnAlign) -> &'static str
-    ensures { result.now ≡ codes "<mtable" ++ (align_text align ++ codes "><mtr><mtd>") }
-{
-    match align {
-        ColumnAlign::Center => "<mtable><mtr><mtd>",
-        ColumnAlign::Left => "<mtable columnalign=\"left\"><mtr><mtd>",
-        ColumnAlign::Right => "<mtable columnalign=\"right\"><mtr><mtd>",
+    /// A member of a group: a tree, or in a matrix the end of a cell or of a row of the matrix.
+    fn member(&self, group: Group, end: usize, style: Option<Variant>) -> Work
+        requires whole { IsWhole self.now }
+        requires place { IsPlace self.now end }
+        ensures inside { IsIn self.now result }
+        ensures print { work_print self.now result ≡ member_in group style (tree_at self.now end) }
+        ensures weight { work_weight self.now result ≤ print_weight (tree_at self.now end) }
+    {
+        match group {
+            Group::Row => Work::Tree(end, style),
+            Group::Matrix(_) => match part_at(end, self.texts, self.list).form {
+                Form::Of(Kind::NewLine) => Work::Markup("</mtd></mtr><mtr><mtd>"),
+                Form::Of(Kind::Ampersand) => Work::Markup("</mtd><mtd>"),
+                _ => Work::Tree(end, style),
+            },
+        }
+    }
+
+    /// Puts a work on the list.
+    pub(crate) fn push(&self, work: Work, works: &mut Vec<Work>) -> Result<(), AllocError>
+        requires one { IsIn self.now work }
+        requires inside { AreIn self.now works.old.items }
+        ensures inside { OnOk result (AreIn self.now works.new.items) }
+        ensures print { OnOk result (due self.now works.new.items ≡ work_print self.now work ++ due self.now works.old.items) }
+        ensures weight { OnOk result (load self.now works.new.items ≡ load self.now works.old.items + work_weight self.now work) }
+    {
+        let _ = self;
+        Ok(works.push(work)?)
     }
 }

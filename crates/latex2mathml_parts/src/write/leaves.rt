@@ -4,7 +4,7 @@ ghost use Rattle.latex2mathml_trees.specs.Print.{print};
 ghost use Rattle.latex2mathml_trees.specs.Tree.{Tree, letter, number, operator, sized_paren, slashed, space};
 ghost use Rattle.latex2mathml_parts.specs.Forms.{given, put_form};
 ghost use Rattle.latex2mathml_parts.specs.Parts.{arity, put, top};
-ghost use Rattle.latex2mathml_parts.specs.Works.{sign_print};
+ghost use Rattle.latex2mathml_parts.specs.Shapes.{sign_print};
 ghost use Rattle.latex2mathml_tokens.specs.Escape.{content, content_char};
 ghost use Rattle.latex2mathml_tokens.specs.Names.{paren_text, size_text};
 

@@ -1,237 +1,103 @@
-//! What stands first of a tree of one operand or two, by the kind of its part. The rest is put on the list.
-ghost use Rattle.std.specs.Prelude.{◌≡◌, ◌+◌, ◌<◌, ◌≤◌, IfOk, OnOk, length, string_bytes, take, Some};
+//! What stands first of a tree with operands. The rest is put on the list.
+ghost use Rattle.std.specs.Prelude.{◌≡◌, ◌+◌, ◌<◌, ◌≤◌, ◌++◌, IfOk, OnOk, length, string_bytes, Option, Some};
 ghost use Rattle.latex2mathml_trees.specs.Print.{print};
-ghost use Rattle.latex2mathml_parts.specs.Forms.{AreWhole, aside, forest};
-ghost use Rattle.latex2mathml_parts.specs.Parts.{arity};
-ghost use Rattle.latex2mathml_parts.specs.Works.{AreIn, load, print_weight, tree_at, tree_of_kind, Writes};
+ghost use Rattle.latex2mathml_tokens.specs.declared.attribute.Variant.{Variant};
+ghost use Rattle.latex2mathml_parts.specs.Forms.{in_style};
+ghost use Rattle.latex2mathml_parts.specs.Parts.{arity, put, top};
+ghost use Rattle.latex2mathml_parts.specs.Shapes.{count_of, opening, operands_print, operands_weight, print_weight};
+ghost use Rattle.latex2mathml_parts.specs.Works.{AreIn, IsIn, IsPlace, IsWhole, Leaves, Writes, due, load, tree_at, trees_at, work_print, work_weight};
 
-use crate::form::Part;
 use crate::kind::Kind;
+use crate::list::before_last;
 use crate::work::Work;
-use crate::write::fences::{closing_markup, opening_markup};
-use crate::write::names::limited_markup;
-use crate::write::shapes::{
-    write_braced, write_labelled, write_limit, write_limits, write_one, write_swapped,
-    write_swapped_limits, write_two,
-};
-use crate::write::tables::{binomial_close, binomial_open};
+use crate::write::Writer;
+use crate::write::leaves::write_operator;
+use crate::write::shapes::{Operands, Shape, shape_of};
 use std::alloc::AllocError;
 
-/// Writes what stands first of the tree of a part of one operand, after so many parts, and returns the operand's place.
-#[inline(always)]
-pub(crate) fn write_one_operand(
-    kind: Kind,
-    end: usize,
-    texts: &[String],
-    list: &[Part],
-    works: &mut Vec<Work>,
-    out: &mut String,
-) -> Result<usize, AllocError>
-    requires one { arity kind ≡ 1 }
-    requires whole { AreWhole (aside texts.now) list.now }
-    requires fits { 1 ≤ length (forest (aside texts.now) (take end list.now)) }
-    requires within { end ≤ length list.now }
-    requires inside { AreIn list.now works.old.items }
-    ensures inside { OnOk result (AreIn list.now works.new.items) }
-    ensures next { IfOk result (λ next. (0 < next) × (next ≤ length list.now)) }
-    ensures print { IfOk result (λ next. Writes (aside texts.now) list.now (string_bytes out.old) works.old.items
-        (print (tree_of_kind (aside texts.now) list.now end kind.entry)) (string_bytes out.new) works.new.items (Some next)) }
-    ensures weight { IfOk result (λ next. load (aside texts.now) list.now works.new.items + print_weight (tree_at (aside texts.now) list.now next)
-        < load (aside texts.now) list.now works.old.items + print_weight (tree_of_kind (aside texts.now) list.now end kind.entry)) }
-{
-    match kind {
-        Kind::Primed => write_one(
-            "<msup>",
-            Work::Markup("<mo>′</mo></msup>"),
-            end,
-            texts,
-            list,
-            works,
-            out,
-        ),
-        Kind::Over(c, accent) => write_one(
-            "<mover>",
-            Work::SignOver(c, accent),
-            end,
-            texts,
-            list,
-            works,
-            out,
-        ),
-        Kind::Under(c, accent) => write_one(
-            "<munder>",
-            Work::SignUnder(c, accent),
-            end,
-            texts,
-            list,
-            works,
-            out,
-        ),
-        Kind::Sqrt => write_one(
-            "<msqrt>",
-            Work::Markup("</msqrt>"),
-            end,
-            texts,
-            list,
-            works,
-            out,
-        ),
-        Kind::Overbrace(c) => write_braced("<mover>", c, "</mover>", end, texts, list, works, out),
-        Kind::Underbrace(c) => write_braced(
-            "<munder>",
-            c,
-            "</munder>",
-            end,
-            texts,
-            list,
-            works,
-            out,
-        ),
-        Kind::LimitBelow(c) => write_limit(
-            "<munder>",
-            c,
-            "</munder>",
-            end,
-            texts,
-            list,
-            works,
-            out,
-        ),
-        Kind::LimitAbove(c) => write_limit("<mover>", c, "</mover>", end, texts, list, works, out),
-        Kind::LimitSub(c) => write_limit("<msub>", c, "</msub>", end, texts, list, works, out),
-        Kind::LimitSup(c) => write_limit("<msup>", c, "</msup>", end, texts, list, works, out),
-        Kind::LimitUnder(name) => write_one(
-            limited_markup(name),
-            Work::Markup("</munder>"),
-            end,
-            texts,
-            list,
-            works,
-            out,
-        ),
-        Kind::Fenced(opening, close) => write_one(
-            opening_markup(opening),
-            Work::Markup(closing_markup(close)),
-            end,
-            texts,
-            list,
-            works,
-            out,
-        ),
-        Kind::Number(_) | Kind::Letter(_, _) | Kind::Operator(_) | Kind::Paren(_) => unreachable!(),
-        Kind::Ampersand | Kind::NewLine | Kind::Space(_) | Kind::Function(_) => unreachable!(),
-        Kind::Limit(_) | Kind::SizedParen(_, _) | Kind::Sub | Kind::Sup => unreachable!(),
-        Kind::Frac | Kind::Binom(_) | Kind::Overset | Kind::Underset => unreachable!(),
-        Kind::Root | Kind::OverbraceWith(_) | Kind::UnderbraceWith(_) => unreachable!(),
-        Kind::LimitsBelowAbove(_) | Kind::LimitsAboveBelow(_) => unreachable!(),
-        Kind::LimitsSubSup(_) | Kind::LimitsSupSub(_) => unreachable!(),
+impl Writer<'_, '_> {
+    /// Writes what stands first of the tree of a part with operands, after so many parts. Returns the operand that is
+    /// next.
+    #[inline(always)]
+    pub(crate) fn write_operands(
+        &self,
+        kind: Kind,
+        end: usize,
+        works: &mut Vec<Work>,
+        out: &mut String,
+    ) -> Result<Option<usize>, AllocError>
+        requires some { 0 < arity kind }
+        requires whole { IsWhole self.now }
+        requires fits { arity kind ≤ length (trees_at self.now end) }
+        requires within { end ≤ length self.now.list.now }
+        requires inside { AreIn self.now works.old.items }
+        ensures print { IfOk result (λ next. (style : Option Variant) → Writes self.now (string_bytes out.old) works.old.items
+            (print (in_style style (top (put kind.entry (trees_at self.now end))))) (string_bytes out.new) works.new.items next) }
+        ensures left { IfOk result (Leaves self.now works.old.items (print_weight (top (put kind.entry (trees_at self.now end)))) works.new.items) }
+    {
+        let shape = shape_of(kind);
+        write_opening(shape.before, shape.sign, out)?;
+        let next = self.push_operands(shape, end, works)?;
+        Ok(Some(next))
+    }
+
+    /// Puts operands and what stands after them on the list, but for the one that is next.
+    #[inline(always)]
+    fn push_operands(
+        &self,
+        shape: Shape,
+        end: usize,
+        works: &mut Vec<Work>,
+    ) -> Result<usize, AllocError>
+        requires whole { IsWhole self.now }
+        requires fits { count_of shape.operands ≤ length (trees_at self.now end) }
+        requires within { end ≤ length self.now.list.now }
+        requires after { IsIn self.now shape.after × (work_weight self.now shape.after ≡ 1) }
+        requires inside { AreIn self.now works.old.items }
+        ensures inside { OnOk result (AreIn self.now works.new.items) }
+        ensures next { IfOk result (IsPlace self.now) }
+        ensures print { IfOk result (λ next. print (tree_at self.now next) ++ due self.now works.new.items
+            ≡ operands_print shape.operands shape.before.now (trees_at self.now end) (work_print self.now shape.after)
+            ++ due self.now works.old.items) }
+        ensures weight { IfOk result (λ next. load self.now works.new.items + print_weight (tree_at self.now next)
+            < load self.now works.old.items + operands_weight shape.operands (trees_at self.now end) + 4) }
+    {
+        self.push(shape.after, works)?;
+        match shape.operands {
+            Operands::One => Ok(end),
+            Operands::Two => {
+                let first = before_last(end, self.texts, self.list);
+                self.push(Work::Tree(end, None), works)?;
+                Ok(first)
+            }
+            Operands::Swapped => {
+                let second = before_last(end, self.texts, self.list);
+                self.push(Work::Tree(second, None), works)?;
+                Ok(end)
+            }
+            Operands::Labelled(brace) => {
+                let first = before_last(end, self.texts, self.list);
+                self.push(Work::Tree(end, None), works)?;
+                self.push(Work::Operator(brace, ""), works)?;
+                self.push(Work::Markup(shape.before), works)?;
+                Ok(first)
+            }
+        }
     }
 }
 
-/// The same of a part of two operands.
+/// Writes what stands before the operands.
 #[inline(always)]
-pub(crate) fn write_two_operands(
-    kind: Kind,
-    end: usize,
-    texts: &[String],
-    list: &[Part],
-    works: &mut Vec<Work>,
+fn write_opening(
+    before: &'static str,
+    sign: Option<char>,
     out: &mut String,
-) -> Result<usize, AllocError>
-    requires two { arity kind ≡ 2 }
-    requires whole { AreWhole (aside texts.now) list.now }
-    requires fits { 2 ≤ length (forest (aside texts.now) (take end list.now)) }
-    requires within { end ≤ length list.now }
-    requires inside { AreIn list.now works.old.items }
-    ensures inside { OnOk result (AreIn list.now works.new.items) }
-    ensures next { IfOk result (λ next. (0 < next) × (next ≤ length list.now)) }
-    ensures print { IfOk result (λ next. Writes (aside texts.now) list.now (string_bytes out.old) works.old.items
-        (print (tree_of_kind (aside texts.now) list.now end kind.entry)) (string_bytes out.new) works.new.items (Some next)) }
-    ensures weight { IfOk result (λ next. load (aside texts.now) list.now works.new.items + print_weight (tree_at (aside texts.now) list.now next)
-        < load (aside texts.now) list.now works.old.items + print_weight (tree_of_kind (aside texts.now) list.now end kind.entry)) }
+) -> Result<(), AllocError>
+    ensures { OnOk result (string_bytes out.new ≡ string_bytes out.old ++ opening before.now sign) }
 {
-    match kind {
-        Kind::Sub => write_two("<msub>", "</msub>", end, texts, list, works, out),
-        Kind::Sup => write_two("<msup>", "</msup>", end, texts, list, works, out),
-        Kind::Frac => write_two("<mfrac>", "</mfrac>", end, texts, list, works, out),
-        Kind::Binom(display) => write_two(
-            binomial_open(display),
-            binomial_close(display),
-            end,
-            texts,
-            list,
-            works,
-            out,
-        ),
-        Kind::Overset => write_swapped("<mover>", "</mover>", end, texts, list, works, out),
-        Kind::Underset => write_swapped("<munder>", "</munder>", end, texts, list, works, out),
-        Kind::Root => write_swapped("<mroot>", "</mroot>", end, texts, list, works, out),
-        Kind::OverbraceWith(c) => write_labelled(
-            "<mover>",
-            c,
-            "</mover></mover>",
-            end,
-            texts,
-            list,
-            works,
-            out,
-        ),
-        Kind::UnderbraceWith(c) => write_labelled(
-            "<munder>",
-            c,
-            "</munder></munder>",
-            end,
-            texts,
-            list,
-            works,
-            out,
-        ),
-        Kind::LimitsBelowAbove(c) => write_limits(
-            "<munderover>",
-            c,
-            "</munderover>",
-            end,
-            texts,
-            list,
-            works,
-            out,
-        ),
-        Kind::LimitsAboveBelow(c) => write_swapped_limits(
-            "<munderover>",
-            c,
-            "</munderover>",
-            end,
-            texts,
-            list,
-            works,
-            out,
-        ),
-        Kind::LimitsSubSup(c) => write_limits(
-            "<msubsup>",
-            c,
-            "</msubsup>",
-            end,
-            texts,
-            list,
-            works,
-            out,
-        ),
-        Kind::LimitsSupSub(c) => write_swapped_limits(
-            "<msubsup>",
-            c,
-            "</msubsup>",
-            end,
-            texts,
-            list,
-            works,
-            out,
-        ),
-        Kind::Number(_) | Kind::Letter(_, _) | Kind::Operator(_) | Kind::Paren(_) => unreachable!(),
-        Kind::Ampersand | Kind::NewLine | Kind::Space(_) | Kind::Function(_) => unreachable!(),
-        Kind::Limit(_) | Kind::SizedParen(_, _) => unreachable!(),
-        Kind::Primed | Kind::Over(_, _) | Kind::Under(_, _) | Kind::Sqrt => unreachable!(),
-        Kind::Overbrace(_) | Kind::Underbrace(_) | Kind::LimitBelow(_) => unreachable!(),
-        Kind::LimitAbove(_) | Kind::LimitSub(_) | Kind::LimitSup(_) => unreachable!(),
-        Kind::LimitUnder(_) | Kind::Fenced(_, _) => unreachable!(),
+    out.push_str(before)?;
+    match sign {
+        None => Ok(()),
+        Some(c) => write_operator(c, out),
     }
 }

@@ -1,283 +1,138 @@
-//! What stands first of a tree of one operand or two, by where the operands stand in it. The rest is put on the list.
-ghost use Rattle.std.specs.Prelude.{◌≡◌, ◌+◌, ◌<◌, ◌≤◌, ◌++◌, IfOk, OnOk, length, string_bytes, take, Some};
+//! What stands around the operands of a part, by its kind.
+ghost use Rattle.std.specs.Prelude.{◌≡◌, ◌+◌, ◌<◌, ◌≤◌, ◌++◌, List, None, Option, Some};
 ghost use Rattle.latex2mathml_trees.specs.Print.{print};
-ghost use Rattle.latex2mathml_trees.specs.Tree.{operator};
-ghost use Rattle.latex2mathml_parts.specs.Forms.{AreWhole, aside, forest};
-ghost use Rattle.latex2mathml_parts.specs.Works.{AreIn, IsIn, due, print_weight, tree_at, work_print, work_weight, Writes, load, earlier};
+ghost use Rattle.latex2mathml_trees.specs.Tree.{Tree};
+ghost use Rattle.latex2mathml_tokens.specs.declared.attribute.Variant.{Variant};
+ghost use Rattle.latex2mathml_parts.specs.Forms.{in_style};
+ghost use Rattle.latex2mathml_parts.specs.Parts.{arity, put, top};
+ghost use Rattle.latex2mathml_parts.specs.Shapes.{count_of, opening, operands_print, operands_weight, print_weight};
+ghost use Rattle.latex2mathml_parts.specs.Works.{IsIn, work_print, work_weight};
+ghost use Rattle.latex2mathml_parts.specs.declared.work.Work.{Work};
+ghost use Rattle.latex2mathml_parts.specs.declared.write.Writer.{Writer};
+ghost use Rattle.latex2mathml_parts.specs.declared.write.shapes.Operands.{Operands};
 
-use crate::form::Part;
-use crate::list::before_last;
+use crate::kind::Kind;
 use crate::work::Work;
-use crate::write::leaves::write_operator;
-use crate::write::works::{push, push_plain};
-use std::alloc::AllocError;
+use crate::write::fences::{closing_markup, opening_markup};
+use crate::write::names::limited_markup;
+use crate::write::tables::{binomial_close, binomial_open};
 
-/// Writes a tree, which is next, and then a work.
-pub(crate) fn write_one(
-    before: &'static str,
-    after: Work,
-    end: usize,
-    texts: &[String],
-    list: &[Part],
-    works: &mut Vec<Work>,
-    out: &mut String,
-) -> Result<usize, AllocError>
-    requires after { IsIn list.now after }
-    requires one { 1 ≤ length (forest (aside texts.now) (take end list.now)) }
-    requires within { end ≤ length list.now }
-    requires inside { AreIn list.now works.old.items }
-    ensures inside { OnOk result (AreIn list.now works.new.items) }
-    ensures next { IfOk result (λ next. (0 < next) × (next ≤ length list.now)) }
-    ensures print { IfOk result (λ next. Writes (aside texts.now) list.now (string_bytes out.old) works.old.items
-        (before.now ++ (print (tree_at (aside texts.now) list.now end) ++ work_print (aside texts.now) list.now after)) (string_bytes out.new) works.new.items (Some next)) }
-    ensures weight { IfOk result (λ next. load (aside texts.now) list.now works.new.items + print_weight (tree_at (aside texts.now) list.now next)
-        ≡ load (aside texts.now) list.now works.old.items + print_weight (tree_at (aside texts.now) list.now end) + work_weight (aside texts.now) list.now after) }
-{
-    out.push_str(before)?;
-    push(after, texts, list, works)?;
-    Ok(end)
+/// The operands of a part, and their order in the markup.
+#[derive(Clone, Copy)]
+pub(crate) enum Operands {
+    One,
+    Two,
+    /// The last one, and then the one before it.
+    Swapped,
+    /// The first of two, and then a brace with the last one as its label.
+    Labelled(char),
 }
 
-/// Writes a tree, which is next, and then a brace.
-pub(crate) fn write_braced(
-    before: &'static str,
-    brace: char,
-    after: &'static str,
-    end: usize,
-    texts: &[String],
-    list: &[Part],
-    works: &mut Vec<Work>,
-    out: &mut String,
-) -> Result<usize, AllocError>
-    requires one { 1 ≤ length (forest (aside texts.now) (take end list.now)) }
-    requires within { end ≤ length list.now }
-    requires inside { AreIn list.now works.old.items }
-    ensures inside { OnOk result (AreIn list.now works.new.items) }
-    ensures next { IfOk result (λ next. (0 < next) × (next ≤ length list.now)) }
-    ensures print { IfOk result (λ next. Writes (aside texts.now) list.now (string_bytes out.old) works.old.items
-        (before.now ++ (print (tree_at (aside texts.now) list.now end) ++ (print (operator brace) ++ after.now))) (string_bytes out.new) works.new.items (Some next)) }
-    ensures weight { IfOk result (λ next. load (aside texts.now) list.now works.new.items + print_weight (tree_at (aside texts.now) list.now next)
-        ≡ load (aside texts.now) list.now works.old.items + print_weight (tree_at (aside texts.now) list.now end) + 2) }
-{
-    out.push_str(before)?;
-    push(Work::Markup(after), texts, list, works)?;
-    push(Work::Operator(brace), texts, list, works)?;
-    Ok(end)
+/// What stands around the operands of a part.
+#[derive(Clone, Copy)]
+pub(crate) struct Shape {
+    pub(crate) before: &'static str,
+    /// An operator that follows.
+    pub(crate) sign: Option<char>,
+    pub(crate) operands: Operands,
+    pub(crate) after: Work,
 }
 
-/// Writes an operator, and then its one limit, which is next.
-pub(crate) fn write_limit(
-    before: &'static str,
-    sign: char,
-    after: &'static str,
-    end: usize,
-    texts: &[String],
-    list: &[Part],
-    works: &mut Vec<Work>,
-    out: &mut String,
-) -> Result<usize, AllocError>
-    requires one { 1 ≤ length (forest (aside texts.now) (take end list.now)) }
-    requires within { end ≤ length list.now }
-    requires inside { AreIn list.now works.old.items }
-    ensures inside { OnOk result (AreIn list.now works.new.items) }
-    ensures next { IfOk result (λ next. (0 < next) × (next ≤ length list.now)) }
-    ensures print { IfOk result (λ next. Writes (aside texts.now) list.now (string_bytes out.old) works.old.items
-        (before.now ++ (print (operator sign) ++ (print (tree_at (aside texts.now) list.now end) ++ after.now))) (string_bytes out.new) works.new.items (Some next)) }
-    ensures weight { IfOk result (λ next. load (aside texts.now) list.now works.new.items + print_weight (tree_at (aside texts.now) list.now next)
-        ≡ load (aside texts.now) list.now works.old.items + print_weight (tree_at (aside texts.now) list.now end) + 1) }
-{
-    out.push_str(before)?;
-    write_operator(sign, out)?;
-    push(Work::Markup(after), texts, list, works)?;
-    Ok(end)
-}
-
-/// Puts two trees on the list, of which the earlier one is next, and what stands after them.
-fn two(
-    after: &'static str,
-    end: usize,
-    texts: &[String],
-    list: &[Part],
-    works: &mut Vec<Work>,
-) -> Result<usize, AllocError>
-    requires whole { AreWhole (aside texts.now) list.now }
-    requires two { 2 ≤ length (forest (aside texts.now) (take end list.now)) }
-    requires within { end ≤ length list.now }
-    requires inside { AreIn list.now works.old.items }
-    ensures inside { OnOk result (AreIn list.now works.new.items) }
-    ensures next { IfOk result (λ next. (0 < next) × (next ≤ length list.now)) }
-    ensures print { IfOk result (λ next. print (tree_at (aside texts.now) list.now next) ++ due (aside texts.now) list.now works.new.items
-        ≡ (print (earlier (aside texts.now) list.now end) ++ (print (tree_at (aside texts.now) list.now end) ++ after.now)) ++ due (aside texts.now) list.now works.old.items) }
-    ensures weight { IfOk result (λ next. load (aside texts.now) list.now works.new.items + print_weight (tree_at (aside texts.now) list.now next)
-        ≡ load (aside texts.now) list.now works.old.items + print_weight (earlier (aside texts.now) list.now end) + print_weight (tree_at (aside texts.now) list.now end) + 1) }
-{
-    let earlier = before_last(end, texts, list);
-    push(Work::Markup(after), texts, list, works)?;
-    push_plain(end, texts, list, works)?;
-    Ok(earlier)
-}
-
-/// Puts two trees on the list, of which the later one is next, and what stands after them.
-fn two_swapped(
-    after: &'static str,
-    end: usize,
-    texts: &[String],
-    list: &[Part],
-    works: &mut Vec<Work>,
-) -> Result<usize, AllocError>
-    requires whole { AreWhole (aside texts.now) list.now }
-    requires two { 2 ≤ length (forest (aside texts.now) (take end list.now)) }
-    requires within { end ≤ length list.now }
-    requires inside { AreIn list.now works.old.items }
-    ensures inside { OnOk result (AreIn list.now works.new.items) }
-    ensures next { IfOk result (λ next. (0 < next) × (next ≤ length list.now)) }
-    ensures print { IfOk result (λ next. print (tree_at (aside texts.now) list.now next) ++ due (aside texts.now) list.now works.new.items
-        ≡ (print (tree_at (aside texts.now) list.now end) ++ (print (earlier (aside texts.now) list.now end) ++ after.now)) ++ due (aside texts.now) list.now works.old.items) }
-    ensures weight { IfOk result (λ next. load (aside texts.now) list.now works.new.items + print_weight (tree_at (aside texts.now) list.now next)
-        ≡ load (aside texts.now) list.now works.old.items + print_weight (earlier (aside texts.now) list.now end) + print_weight (tree_at (aside texts.now) list.now end) + 1) }
-{
-    let earlier = before_last(end, texts, list);
-    push(Work::Markup(after), texts, list, works)?;
-    push_plain(earlier, texts, list, works)?;
-    Ok(end)
-}
-
-/// Writes two trees, the earlier one first. Scripts and fractions do, so it is worth inlining.
+/// The shape of a part that has operands.
 #[inline(always)]
-pub(crate) fn write_two(
-    before: &'static str,
-    after: &'static str,
-    end: usize,
-    texts: &[String],
-    list: &[Part],
-    works: &mut Vec<Work>,
-    out: &mut String,
-) -> Result<usize, AllocError>
-    requires whole { AreWhole (aside texts.now) list.now }
-    requires two { 2 ≤ length (forest (aside texts.now) (take end list.now)) }
-    requires within { end ≤ length list.now }
-    requires inside { AreIn list.now works.old.items }
-    ensures inside { OnOk result (AreIn list.now works.new.items) }
-    ensures next { IfOk result (λ next. (0 < next) × (next ≤ length list.now)) }
-    ensures print { IfOk result (λ next. Writes (aside texts.now) list.now (string_bytes out.old) works.old.items
-        (before.now ++ (print (earlier (aside texts.now) list.now end) ++ (print (tree_at (aside texts.now) list.now end) ++ after.now))) (string_bytes out.new) works.new.items (Some next)) }
-    ensures weight { IfOk result (λ next. load (aside texts.now) list.now works.new.items + print_weight (tree_at (aside texts.now) list.now next)
-        ≡ load (aside texts.now) list.now works.old.items + print_weight (earlier (aside texts.now) list.now end) + print_weight (tree_at (aside texts.now) list.now end) + 1) }
+pub(crate) fn shape_of(kind: Kind) -> Shape
+    requires { 0 < arity kind }
+    ensures operands { count_of result.operands ≡ arity kind.entry }
+    ensures after { (w : Writer) → IsIn w result.after × (work_weight w result.after ≡ 1) }
+    ensures print { (w : Writer) (style : Option Variant) (ts : List Tree) → opening result.before.now result.sign
+        ++ operands_print result.operands result.before.now ts (work_print w result.after)
+        ≡ print (in_style style (top (put kind.entry ts))) }
+    ensures weight { (ts : List Tree) → operands_weight result.operands ts + 4 ≤ print_weight (top (put kind.entry ts)) }
 {
-    out.push_str(before)?;
-    let next = two(after, end, texts, list, works)?;
-    Ok(next)
+    match kind {
+        Kind::Primed => around("<msup>", Operands::One, "<mo>′</mo></msup>"),
+        Kind::Sqrt => around("<msqrt>", Operands::One, "</msqrt>"),
+        Kind::LimitUnder(name) => around(limited_markup(name), Operands::One, "</munder>"),
+        Kind::Fenced(opening, close) => {
+            around(
+                opening_markup(opening),
+                Operands::One,
+                closing_markup(close),
+            )
+        }
+        Kind::Over(c, accent) => before_work("<mover>", Work::Sign(c, accent, "</mo></mover>")),
+        Kind::Under(c, accent) => before_work("<munder>", Work::Sign(c, accent, "</mo></munder>")),
+        Kind::Overbrace(c) => before_work("<mover>", Work::Operator(c, "</mover>")),
+        Kind::Underbrace(c) => before_work("<munder>", Work::Operator(c, "</munder>")),
+        Kind::LimitBelow(c) => after_sign("<munder>", c, Operands::One, "</munder>"),
+        Kind::LimitAbove(c) => after_sign("<mover>", c, Operands::One, "</mover>"),
+        Kind::LimitSub(c) => after_sign("<msub>", c, Operands::One, "</msub>"),
+        Kind::LimitSup(c) => after_sign("<msup>", c, Operands::One, "</msup>"),
+        Kind::LimitsBelowAbove(c) => after_sign("<munderover>", c, Operands::Two, "</munderover>"),
+        Kind::LimitsAboveBelow(c) => after_sign(
+            "<munderover>",
+            c,
+            Operands::Swapped,
+            "</munderover>",
+        ),
+        Kind::LimitsSubSup(c) => after_sign("<msubsup>", c, Operands::Two, "</msubsup>"),
+        Kind::LimitsSupSub(c) => after_sign("<msubsup>", c, Operands::Swapped, "</msubsup>"),
+        Kind::Sub => around("<msub>", Operands::Two, "</msub>"),
+        Kind::Sup => around("<msup>", Operands::Two, "</msup>"),
+        Kind::Frac => around("<mfrac>", Operands::Two, "</mfrac>"),
+        Kind::Binom(display) => {
+            around(
+                binomial_open(display),
+                Operands::Two,
+                binomial_close(display),
+            )
+        }
+        Kind::Overset => around("<mover>", Operands::Swapped, "</mover>"),
+        Kind::Underset => around("<munder>", Operands::Swapped, "</munder>"),
+        Kind::Root => around("<mroot>", Operands::Swapped, "</mroot>"),
+        Kind::OverbraceWith(c) => around("<mover>", Operands::Labelled(c), "</mover></mover>"),
+        Kind::UnderbraceWith(c) => around("<munder>", Operands::Labelled(c), "</munder></munder>"),
+        Kind::Number(_) | Kind::Letter(_, _) | Kind::Operator(_) | Kind::Paren(_) => unreachable!(),
+        Kind::Ampersand | Kind::NewLine | Kind::Space(_) | Kind::Function(_) => unreachable!(),
+        Kind::Limit(_) | Kind::SizedParen(_, _) => unreachable!(),
+    }
 }
 
-/// Writes two trees, the later one first.
-pub(crate) fn write_swapped(
-    before: &'static str,
-    after: &'static str,
-    end: usize,
-    texts: &[String],
-    list: &[Part],
-    works: &mut Vec<Work>,
-    out: &mut String,
-) -> Result<usize, AllocError>
-    requires whole { AreWhole (aside texts.now) list.now }
-    requires two { 2 ≤ length (forest (aside texts.now) (take end list.now)) }
-    requires within { end ≤ length list.now }
-    requires inside { AreIn list.now works.old.items }
-    ensures inside { OnOk result (AreIn list.now works.new.items) }
-    ensures next { IfOk result (λ next. (0 < next) × (next ≤ length list.now)) }
-    ensures print { IfOk result (λ next. Writes (aside texts.now) list.now (string_bytes out.old) works.old.items
-        (before.now ++ (print (tree_at (aside texts.now) list.now end) ++ (print (earlier (aside texts.now) list.now end) ++ after.now))) (string_bytes out.new) works.new.items (Some next)) }
-    ensures weight { IfOk result (λ next. load (aside texts.now) list.now works.new.items + print_weight (tree_at (aside texts.now) list.now next)
-        ≡ load (aside texts.now) list.now works.old.items + print_weight (earlier (aside texts.now) list.now end) + print_weight (tree_at (aside texts.now) list.now end) + 1) }
+/// Operands between two texts.
+#[inline(always)]
+fn around(before: &'static str, operands: Operands, after: &'static str) -> Shape
+    ensures { result ≡ record { before = before.entry; sign = None; operands = operands; after = Work.Markup after.entry } }
 {
-    out.push_str(before)?;
-    let next = two_swapped(after, end, texts, list, works)?;
-    Ok(next)
+    Shape {
+        before,
+        sign: None,
+        operands,
+        after: Work::Markup(after),
+    }
 }
 
-/// Writes an operator and its two limits, the earlier one first.
-pub(crate) fn write_limits(
-    before: &'static str,
-    sign: char,
-    after: &'static str,
-    end: usize,
-    texts: &[String],
-    list: &[Part],
-    works: &mut Vec<Work>,
-    out: &mut String,
-) -> Result<usize, AllocError>
-    requires whole { AreWhole (aside texts.now) list.now }
-    requires two { 2 ≤ length (forest (aside texts.now) (take end list.now)) }
-    requires within { end ≤ length list.now }
-    requires inside { AreIn list.now works.old.items }
-    ensures inside { OnOk result (AreIn list.now works.new.items) }
-    ensures next { IfOk result (λ next. (0 < next) × (next ≤ length list.now)) }
-    ensures print { IfOk result (λ next. Writes (aside texts.now) list.now (string_bytes out.old) works.old.items
-        (before.now ++ (print (operator sign) ++ (print (earlier (aside texts.now) list.now end) ++ (print (tree_at (aside texts.now) list.now end) ++ after.now)))) (string_bytes out.new) works.new.items (Some next)) }
-    ensures weight { IfOk result (λ next. load (aside texts.now) list.now works.new.items + print_weight (tree_at (aside texts.now) list.now next)
-        ≡ load (aside texts.now) list.now works.old.items + print_weight (earlier (aside texts.now) list.now end) + print_weight (tree_at (aside texts.now) list.now end) + 1) }
+/// The same, with an operator before the operands.
+#[inline(always)]
+fn after_sign(before: &'static str, sign: char, operands: Operands, after: &'static str) -> Shape
+    ensures { result ≡ record { before = before.entry; sign = Some sign; operands = operands; after = Work.Markup after.entry } }
 {
-    out.push_str(before)?;
-    write_operator(sign, out)?;
-    let next = two(after, end, texts, list, works)?;
-    Ok(next)
+    Shape {
+        before,
+        sign: Some(sign),
+        operands,
+        after: Work::Markup(after),
+    }
 }
 
-/// Writes an operator and its two limits, the later one first.
-pub(crate) fn write_swapped_limits(
-    before: &'static str,
-    sign: char,
-    after: &'static str,
-    end: usize,
-    texts: &[String],
-    list: &[Part],
-    works: &mut Vec<Work>,
-    out: &mut String,
-) -> Result<usize, AllocError>
-    requires whole { AreWhole (aside texts.now) list.now }
-    requires two { 2 ≤ length (forest (aside texts.now) (take end list.now)) }
-    requires within { end ≤ length list.now }
-    requires inside { AreIn list.now works.old.items }
-    ensures inside { OnOk result (AreIn list.now works.new.items) }
-    ensures next { IfOk result (λ next. (0 < next) × (next ≤ length list.now)) }
-    ensures print { IfOk result (λ next. Writes (aside texts.now) list.now (string_bytes out.old) works.old.items
-        (before.now ++ (print (operator sign) ++ (print (tree_at (aside texts.now) list.now end) ++ (print (earlier (aside texts.now) list.now end) ++ after.now)))) (string_bytes out.new) works.new.items (Some next)) }
-    ensures weight { IfOk result (λ next. load (aside texts.now) list.now works.new.items + print_weight (tree_at (aside texts.now) list.now next)
-        ≡ load (aside texts.now) list.now works.old.items + print_weight (earlier (aside texts.now) list.now end) + print_weight (tree_at (aside texts.now) list.now end) + 1) }
+/// One operand before an operator or a sign.
+#[inline(always)]
+fn before_work(before: &'static str, after: Work) -> Shape
+    ensures { result ≡ record { before = before.entry; sign = None; operands = Operands.One; after = after } }
 {
-    out.push_str(before)?;
-    write_operator(sign, out)?;
-    let next = two_swapped(after, end, texts, list, works)?;
-    Ok(next)
-}
-
-/// Writes a tree, which is next, and then a brace with its label. The earlier tree stands at the brace.
-pub(crate) fn write_labelled(
-    before: &'static str,
-    brace: char,
-    after: &'static str,
-    end: usize,
-    texts: &[String],
-    list: &[Part],
-    works: &mut Vec<Work>,
-    out: &mut String,
-) -> Result<usize, AllocError>
-    requires whole { AreWhole (aside texts.now) list.now }
-    requires two { 2 ≤ length (forest (aside texts.now) (take end list.now)) }
-    requires within { end ≤ length list.now }
-    requires inside { AreIn list.now works.old.items }
-    ensures inside { OnOk result (AreIn list.now works.new.items) }
-    ensures next { IfOk result (λ next. (0 < next) × (next ≤ length list.now)) }
-    ensures print { IfOk result (λ next. Writes (aside texts.now) list.now (string_bytes out.old) works.old.items
-        (before.now ++ (print (earlier (aside texts.now) list.now end) ++ (before.now ++ (print (operator brace) ++ (print (tree_at (aside texts.now) list.now end) ++ after.now))))) (string_bytes out.new) works.new.items (Some next)) }
-    ensures weight { IfOk result (λ next. load (aside texts.now) list.now works.new.items + print_weight (tree_at (aside texts.now) list.now next)
-        ≡ load (aside texts.now) list.now works.old.items + print_weight (earlier (aside texts.now) list.now end) + print_weight (tree_at (aside texts.now) list.now end) + 3) }
-{
-    let earlier = before_last(end, texts, list);
-    out.push_str(before)?;
-    push(Work::Markup(after), texts, list, works)?;
-    push_plain(end, texts, list, works)?;
-    push(Work::Operator(brace), texts, list, works)?;
-    push(Work::Markup(before), texts, list, works)?;
-    Ok(earlier)
+    Shape {
+        before,
+        sign: None,
+        operands: Operands::One,
+        after,
+    }
 }

@@ -5,7 +5,7 @@ ghost use Rattle.latex2mathml_trees.specs.Tree.{letter, number, operator, space}
 ghost use Rattle.latex2mathml_tokens.specs.Attributes.{variant_text};
 ghost use Rattle.latex2mathml_tokens.specs.Escape.{value};
 ghost use Rattle.latex2mathml_tokens.specs.Names.{size_text};
-ghost use Rattle.latex2mathml_parts.specs.Works.{binomial_close, binomial_open};
+ghost use Rattle.latex2mathml_parts.specs.Shapes.{binomial_close, binomial_open};
 ghost use Rattle.latex2mathml_tokens.specs.declared.attribute.Variant.TheVariants.{Italic};
 
 use latex2mathml_tokens::DisplayStyle;

@@ -1,0 +1,31 @@
+-- Groups of trees: the members, and what stands around them.
+use Rattle.std.specs.Prelude.{ℕ, List, ◌++◌, Option, codes}
+use Rattle.std.specs.List.{flat_map}
+use Rattle.latex2mathml_trees.specs.Print.{member_print, print}
+use Rattle.latex2mathml_trees.specs.Tree.{Tree, Trees, matrix, row}
+use Rattle.latex2mathml_tokens.specs.Attributes.{align_text}
+use Rattle.latex2mathml_tokens.specs.declared.attribute.Variant.{Variant}
+use Rattle.latex2mathml_parts.specs.Forms.{in_style}
+use Rattle.latex2mathml_parts.specs.declared.write.groups.Group.{Group}
+use Rattle.latex2mathml_parts.specs.declared.write.groups.Group.TheVariants as group
+
+-- the tree of a group
+abbrev pub tree_of_group : Group → Trees → Tree
+tree_of_group group.Row members = row members
+tree_of_group (group.Matrix align) members = matrix members align
+
+abbrev pub group_open : Group → List ℕ
+group_open group.Row = codes "<mrow>"
+group_open (group.Matrix align) = codes "<mtable" ++ (align_text align ++ codes "><mtr><mtd>")
+
+abbrev pub group_close : Group → List ℕ
+group_close group.Row = codes "</mrow>"
+group_close (group.Matrix align) = codes "</mtd></mtr></mtable>"
+
+-- the print of a member in a style, and of several
+abbrev pub member_in : Group → Option Variant → Tree → List ℕ
+member_in group.Row style x = print (in_style style x)
+member_in (group.Matrix align) style x = member_print (in_style style x) (print (in_style style x))
+
+abbrev pub members_in : Group → Option Variant → List Tree → List ℕ
+members_in g style = flat_map (member_in g style)
