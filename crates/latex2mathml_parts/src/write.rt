@@ -20,7 +20,7 @@ use crate::kind::Kind;
 use crate::list::part_at;
 use crate::parts::Parts;
 use crate::work::Work;
-use crate::write::fences::stretched_markup;
+use crate::write::fences::Elements;
 use crate::write::groups::{Group, outer};
 use crate::write::leaves::{
     given, write_char, write_letter, write_operator, write_sign, write_slashed, write_text,
@@ -187,7 +187,7 @@ impl Writer<'_, '_> {
                 Ok(None)
             }
             Form::StretchedParen(paren) => {
-                out.push_str(stretched_markup(paren))?;
+                out.push_str(Elements::of(paren).stretched)?;
                 Ok(None)
             }
         }

@@ -8,130 +8,78 @@ ghost use Rattle.latex2mathml_tokens.specs.Names.{paren_text};
 
 use latex2mathml_tokens::names::Paren;
 
-/// A parenthesis.
-pub(crate) fn paren_markup(paren: Paren) -> &'static str
-    ensures { result.now ≡ print (other_operator (paren_text paren)) }
-{
-    match paren {
-        Paren::LeftRound => "<mo>(</mo>",
-        Paren::RightRound => "<mo>)</mo>",
-        Paren::LeftSquare => "<mo>[</mo>",
-        Paren::RightSquare => "<mo>]</mo>",
-        Paren::Bar => "<mo>|</mo>",
-        Paren::Assign => "<mo>:=</mo>",
-        Paren::LeftAngle => "<mo>⟨</mo>",
-        Paren::RightAngle => "<mo>⟩</mo>",
-        Paren::LeftBrace => "<mo>{</mo>",
-        Paren::RightBrace => "<mo>}</mo>",
-        Paren::DoubleBar => "<mo>∥</mo>",
-        Paren::LeftCeiling => "<mo>⌈</mo>",
-        Paren::RightCeiling => "<mo>⌉</mo>",
-        Paren::LeftFloor => "<mo>⌊</mo>",
-        Paren::RightFloor => "<mo>⌋</mo>",
-        Paren::LeftTortoise => "<mo>⦗</mo>",
-        Paren::RightTortoise => "<mo>⦘</mo>",
-        Paren::LeftDouble => "<mo>⟦</mo>",
-        Paren::RightDouble => "<mo>⟧</mo>",
+/// The elements of a parenthesis.
+#[derive(Clone, Copy)]
+pub(crate) struct Elements {
+    pub(crate) plain: &'static str,
+    /// One that grows.
+    pub(crate) stretched: &'static str,
+    /// An opening fence, and what stands before it.
+    pub(crate) opening: &'static str,
+    /// A closing fence, and what stands after it.
+    pub(crate) closing: &'static str,
+}
+
+macro_rules! elements {
+    ($text:literal) => {
+        Elements {
+            plain: concat!("<mo>", $text, "</mo>"),
+            stretched: concat!("<mo stretchy=\"true\">", $text, "</mo>"),
+            opening: concat!("<mrow><mo stretchy=\"true\" form=\"prefix\">", $text, "</mo>"),
+            closing: concat!("<mo stretchy=\"true\" form=\"postfix\">", $text, "</mo></mrow>"),
+        }
+    };
+}
+
+impl Elements {
+    /// The elements of this parenthesis. It is inlined, so that only the one that is used is looked up.
+    #[inline(always)]
+    pub(crate) fn of(paren: Paren) -> Elements
+        ensures plain { result.plain.now ≡ print (other_operator (paren_text paren)) }
+        ensures stretched { result.stretched.now ≡ print (stretched true (paren_text paren)) }
+        ensures opening { result.opening.now ≡ codes "<mrow><mo stretchy=\"true\" form=\"prefix\">" ++ (content (paren_text paren) ++ codes "</mo>") }
+        ensures closing { result.closing.now ≡ codes "<mo stretchy=\"true\" form=\"postfix\">" ++ (content (paren_text paren) ++ codes "</mo></mrow>") }
+    {
+        match paren {
+            Paren::LeftRound => elements!("("),
+            Paren::RightRound => elements!(")"),
+            Paren::LeftSquare => elements!("["),
+            Paren::RightSquare => elements!("]"),
+            Paren::Bar => elements!("|"),
+            Paren::Assign => elements!(":="),
+            Paren::LeftAngle => elements!("⟨"),
+            Paren::RightAngle => elements!("⟩"),
+            Paren::LeftBrace => elements!("{"),
+            Paren::RightBrace => elements!("}"),
+            Paren::DoubleBar => elements!("∥"),
+            Paren::LeftCeiling => elements!("⌈"),
+            Paren::RightCeiling => elements!("⌉"),
+            Paren::LeftFloor => elements!("⌊"),
+            Paren::RightFloor => elements!("⌋"),
+            Paren::LeftTortoise => elements!("⦗"),
+            Paren::RightTortoise => elements!("⦘"),
+            Paren::LeftDouble => elements!("⟦"),
+            Paren::RightDouble => elements!("⟧"),
+        }
     }
 }
 
-/// A parenthesis that grows.
-pub(crate) fn stretched_markup(paren: Paren) -> &'static str
-    ensures { result.now ≡ print (stretched true (paren_text paren)) }
-{
-    match paren {
-        Paren::LeftRound => "<mo stretchy=\"true\">(</mo>",
-        Paren::RightRound => "<mo stretchy=\"true\">)</mo>",
-        Paren::LeftSquare => "<mo stretchy=\"true\">[</mo>",
-        Paren::RightSquare => "<mo stretchy=\"true\">]</mo>",
-        Paren::Bar => "<mo stretchy=\"true\">|</mo>",
-        Paren::Assign => "<mo stretchy=\"true\">:=</mo>",
-        Paren::LeftAngle => "<mo stretchy=\"true\">⟨</mo>",
-        Paren::RightAngle => "<mo stretchy=\"true\">⟩</mo>",
-        Paren::LeftBrace => "<mo stretchy=\"true\">{</mo>",
-        Paren::RightBrace => "<mo stretchy=\"true\">}</mo>",
-        Paren::DoubleBar => "<mo stretchy=\"true\">∥</mo>",
-        Paren::LeftCeiling => "<mo stretchy=\"true\">⌈</mo>",
-        Paren::RightCeiling => "<mo stretchy=\"true\">⌉</mo>",
-        Paren::LeftFloor => "<mo stretchy=\"true\">⌊</mo>",
-        Paren::RightFloor => "<mo stretchy=\"true\">⌋</mo>",
-        Paren::LeftTortoise => "<mo stretchy=\"true\">⦗</mo>",
-        Paren::RightTortoise => "<mo stretchy=\"true\">⦘</mo>",
-        Paren::LeftDouble => "<mo stretchy=\"true\">⟦</mo>",
-        Paren::RightDouble => "<mo stretchy=\"true\">⟧</mo>",
-    }
-}
-
-/// An opening fence, and what stands before it.
+/// An opening fence, which may be missing, and what stands before it.
 pub(crate) fn opening_markup(fence: Option<Paren>) -> &'static str
     ensures { result.now ≡ codes "<mrow><mo stretchy=\"true\" form=\"prefix\">" ++ (content (fence_text fence) ++ codes "</mo>") }
 {
     match fence {
         None => "<mrow><mo stretchy=\"true\" form=\"prefix\"></mo>",
-        Some(paren) => opening_paren(paren),
+        Some(paren) => Elements::of(paren).opening,
     }
 }
 
-/// The same of a parenthesis.
-fn opening_paren(paren: Paren) -> &'static str
-    ensures { result.now ≡ codes "<mrow><mo stretchy=\"true\" form=\"prefix\">" ++ (content (paren_text paren) ++ codes "</mo>") }
-{
-    match paren {
-        Paren::LeftRound => "<mrow><mo stretchy=\"true\" form=\"prefix\">(</mo>",
-        Paren::RightRound => "<mrow><mo stretchy=\"true\" form=\"prefix\">)</mo>",
-        Paren::LeftSquare => "<mrow><mo stretchy=\"true\" form=\"prefix\">[</mo>",
-        Paren::RightSquare => "<mrow><mo stretchy=\"true\" form=\"prefix\">]</mo>",
-        Paren::Bar => "<mrow><mo stretchy=\"true\" form=\"prefix\">|</mo>",
-        Paren::Assign => "<mrow><mo stretchy=\"true\" form=\"prefix\">:=</mo>",
-        Paren::LeftAngle => "<mrow><mo stretchy=\"true\" form=\"prefix\">⟨</mo>",
-        Paren::RightAngle => "<mrow><mo stretchy=\"true\" form=\"prefix\">⟩</mo>",
-        Paren::LeftBrace => "<mrow><mo stretchy=\"true\" form=\"prefix\">{</mo>",
-        Paren::RightBrace => "<mrow><mo stretchy=\"true\" form=\"prefix\">}</mo>",
-        Paren::DoubleBar => "<mrow><mo stretchy=\"true\" form=\"prefix\">∥</mo>",
-        Paren::LeftCeiling => "<mrow><mo stretchy=\"true\" form=\"prefix\">⌈</mo>",
-        Paren::RightCeiling => "<mrow><mo stretchy=\"true\" form=\"prefix\">⌉</mo>",
-        Paren::LeftFloor => "<mrow><mo stretchy=\"true\" form=\"prefix\">⌊</mo>",
-        Paren::RightFloor => "<mrow><mo stretchy=\"true\" form=\"prefix\">⌋</mo>",
-        Paren::LeftTortoise => "<mrow><mo stretchy=\"true\" form=\"prefix\">⦗</mo>",
-        Paren::RightTortoise => "<mrow><mo stretchy=\"true\" form=\"prefix\">⦘</mo>",
-        Paren::LeftDouble => "<mrow><mo stretchy=\"true\" form=\"prefix\">⟦</mo>",
-        Paren::RightDouble => "<mrow><mo stretchy=\"true\" form=\"prefix\">⟧</mo>",
-    }
-}
-
-/// A closing fence, and what stands after it.
+/// A closing fence, which may be missing, and what stands after it.
 pub(crate) fn closing_markup(fence: Option<Paren>) -> &'static str
     ensures { result.now ≡ codes "<mo stretchy=\"true\" form=\"postfix\">" ++ (content (fence_text fence) ++ codes "</mo></mrow>") }
 {
     match fence {
         None => "<mo stretchy=\"true\" form=\"postfix\"></mo></mrow>",
-        Some(paren) => closing_paren(paren),
-    }
-}
-
-/// The same of a parenthesis.
-fn closing_paren(paren: Paren) -> &'static str
-    ensures { result.now ≡ codes "<mo stretchy=\"true\" form=\"postfix\">" ++ (content (paren_text paren) ++ codes "</mo></mrow>") }
-{
-    match paren {
-        Paren::LeftRound => "<mo stretchy=\"true\" form=\"postfix\">(</mo></mrow>",
-        Paren::RightRound => "<mo stretchy=\"true\" form=\"postfix\">)</mo></mrow>",
-        Paren::LeftSquare => "<mo stretchy=\"true\" form=\"postfix\">[</mo></mrow>",
-        Paren::RightSquare => "<mo stretchy=\"true\" form=\"postfix\">]</mo></mrow>",
-        Paren::Bar => "<mo stretchy=\"true\" form=\"postfix\">|</mo></mrow>",
-        Paren::Assign => "<mo stretchy=\"true\" form=\"postfix\">:=</mo></mrow>",
-        Paren::LeftAngle => "<mo stretchy=\"true\" form=\"postfix\">⟨</mo></mrow>",
-        Paren::RightAngle => "<mo stretchy=\"true\" form=\"postfix\">⟩</mo></mrow>",
-        Paren::LeftBrace => "<mo stretchy=\"true\" form=\"postfix\">{</mo></mrow>",
-        Paren::RightBrace => "<mo stretchy=\"true\" form=\"postfix\">}</mo></mrow>",
-        Paren::DoubleBar => "<mo stretchy=\"true\" form=\"postfix\">∥</mo></mrow>",
-        Paren::LeftCeiling => "<mo stretchy=\"true\" form=\"postfix\">⌈</mo></mrow>",
-        Paren::RightCeiling => "<mo stretchy=\"true\" form=\"postfix\">⌉</mo></mrow>",
-        Paren::LeftFloor => "<mo stretchy=\"true\" form=\"postfix\">⌊</mo></mrow>",
-        Paren::RightFloor => "<mo stretchy=\"true\" form=\"postfix\">⌋</mo></mrow>",
-        Paren::LeftTortoise => "<mo stretchy=\"true\" form=\"postfix\">⦗</mo></mrow>",
-        Paren::RightTortoise => "<mo stretchy=\"true\" form=\"postfix\">⦘</mo></mrow>",
-        Paren::LeftDouble => "<mo stretchy=\"true\" form=\"postfix\">⟦</mo></mrow>",
-        Paren::RightDouble => "<mo stretchy=\"true\" form=\"postfix\">⟧</mo></mrow>",
+        Some(paren) => Elements::of(paren).closing,
     }
 }
