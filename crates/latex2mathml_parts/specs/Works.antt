@@ -1,5 +1,5 @@
 -- What is still to be written of a list of parts, as markup. The work that was put last is done first.
-use Rattle.std.specs.Prelude.{◌≡◌, ℕ, ◌+◌, ◌<◌, ◌≤◌, List, [], ◌∷◌, ◌++◌, Option, Some, None, length, reverse, sum_by, take}
+use Rattle.std.specs.Prelude.{◌≡◌, ℕ, ◌+◌, ◌<◌, ◌≤◌, List, [], ◌∷◌, ◌++◌, Option, Some, None, codes, length, reverse, sum_by, take}
 use Rattle.std.specs.List.{flat_map}
 use Rattle.latex2mathml_trees.specs.Print.{print}
 use Rattle.latex2mathml_trees.specs.Tree.{Tree, operator}
@@ -29,8 +29,11 @@ IsPlace w end = (0 < end) × (end ≤ length w.list.now)
 abbrev pub work_print : Writer → Work → List ℕ
 work_print w (work.Tree end style) = print (in_style style (tree_at w end))
 work_print w (work.Markup markup) = markup.now
-work_print w (work.Operator c after) = print (operator c) ++ after.now
-work_print w (work.Sign c accent after) = sign_print c accent after.now
+work_print w (work.Operator c) = print (operator c)
+work_print w (work.BraceOver c) = print (operator c) ++ codes "</mover>"
+work_print w (work.BraceUnder c) = print (operator c) ++ codes "</munder>"
+work_print w (work.SignOver c accent) = sign_print c accent (codes "</mo></mover>")
+work_print w (work.SignUnder c accent) = sign_print c accent (codes "</mo></munder>")
 
 abbrev pub due : Writer → List Work → List ℕ
 due w ws = flat_map (work_print w) (reverse ws)

@@ -8,8 +8,13 @@ pub(crate) enum Work {
     /// The last tree of so many parts, in a style.
     Tree(usize, Option<Variant>),
     Markup(&'static str),
-    /// An operator, and what stands after it.
-    Operator(char, &'static str),
-    /// The sign over a tree or under it, and what stands after it.
-    Sign(char, Accent, &'static str),
+    Operator(char),
+    /// The brace over a tree, and the end of its element.
+    BraceOver(char),
+    /// The brace under a tree, and the end of its element.
+    BraceUnder(char),
+    /// The sign over a tree, and the end of its element.
+    SignOver(char, Accent),
+    /// The sign under a tree, and the end of its element.
+    SignUnder(char, Accent),
 }

@@ -23,7 +23,8 @@ use crate::work::Work;
 use crate::write::fences::Elements;
 use crate::write::groups::{Group, outer};
 use crate::write::leaves::{
-    given, write_char, write_letter, write_operator, write_sign, write_slashed, write_text,
+    given, write_brace, write_char, write_letter, write_operator, write_sign, write_slashed,
+    write_text,
 };
 use latex2mathml_tokens::attribute::Variant;
 use latex2mathml_trees::append::append_undefined;
@@ -88,11 +89,11 @@ impl Writer<'_, '_> {
         match work {
             Work::Tree(end, style) => self.write_down(end, style, works, out),
             Work::Markup(markup) => out.push_str(markup),
-            Work::Operator(c, after) => {
-                write_operator(c, out)?;
-                out.push_str(after)
-            }
-            Work::Sign(c, accent, after) => write_sign(c, accent, after, out),
+            Work::Operator(c) => write_operator(c, out),
+            Work::BraceOver(c) => write_brace(c, "</mover>", out),
+            Work::BraceUnder(c) => write_brace(c, "</munder>", out),
+            Work::SignOver(c, accent) => write_sign(c, accent, "</mo></mover>", out),
+            Work::SignUnder(c, accent) => write_sign(c, accent, "</mo></munder>", out),
         }
     }
 

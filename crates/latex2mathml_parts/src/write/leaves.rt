@@ -116,6 +116,14 @@ pub(crate) fn write_slashed(form: Form, out: &mut String) -> Result<bool, AllocE
     }
 }
 
+/// Writes the brace over a tree or under it, and what stands after it.
+pub(crate) fn write_brace(c: char, after: &'static str, out: &mut String) -> Result<(), AllocError>
+    ensures { OnOk result (string_bytes out.new ≡ string_bytes out.old ++ (print (operator c) ++ after.now)) }
+{
+    write_operator(c, out)?;
+    out.push_str(after)
+}
+
 /// Writes the sign over a tree or under it, and what stands after it.
 pub(crate) fn write_sign(
     c: char,

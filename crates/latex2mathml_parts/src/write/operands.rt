@@ -78,7 +78,7 @@ impl Writer<'_, '_> {
             Operands::Labelled(brace) => {
                 let first = before_last(end, self.texts, self.list);
                 self.push(Work::Tree(end, None), works)?;
-                self.push(Work::Operator(brace, ""), works)?;
+                self.push(Work::Operator(brace), works)?;
                 self.push(Work::Markup(shape.before), works)?;
                 Ok(first)
             }

@@ -60,10 +60,10 @@ pub(crate) fn shape_of(kind: Kind) -> Shape
                 closing_markup(close),
             )
         }
-        Kind::Over(c, accent) => before_work("<mover>", Work::Sign(c, accent, "</mo></mover>")),
-        Kind::Under(c, accent) => before_work("<munder>", Work::Sign(c, accent, "</mo></munder>")),
-        Kind::Overbrace(c) => before_work("<mover>", Work::Operator(c, "</mover>")),
-        Kind::Underbrace(c) => before_work("<munder>", Work::Operator(c, "</munder>")),
+        Kind::Over(c, accent) => before_work("<mover>", Work::SignOver(c, accent)),
+        Kind::Under(c, accent) => before_work("<munder>", Work::SignUnder(c, accent)),
+        Kind::Overbrace(c) => before_work("<mover>", Work::BraceOver(c)),
+        Kind::Underbrace(c) => before_work("<munder>", Work::BraceUnder(c)),
         Kind::LimitBelow(c) => after_sign("<munder>", c, Operands::One, "</munder>"),
         Kind::LimitAbove(c) => after_sign("<mover>", c, Operands::One, "</mover>"),
         Kind::LimitSub(c) => after_sign("<msub>", c, Operands::One, "</msub>"),

@@ -1,4 +1,4 @@
-use Rattle.std.proofs.Common.{◌++◌, ap, append-nil, drop, ◌∙◌}
+use Rattle.std.proofs.Common.{◌++◌, ap, drop, ◌∙◌}
 use Rattle.latex2mathml_trees.specs.Print.{print}
 use Rattle.latex2mathml_trees.specs.Tree.{operator}
 use Rattle.latex2mathml_parts.specs.Parts.{top}
@@ -44,4 +44,4 @@ returns-in_ok-push-in-Labelled-3-clause-print c =
     (c.in_ok-push-in-Labelled-3.ensures.print
     ∙ three_due tag brace last after d _ _ _ c.in_ok-push.ensures.print
     (c.in_ok-push-in-Labelled.ensures.print ∙ ap (λ x. print x ++ due w c.push.new.works.items) (plain (top ts)))
-    (c.in_ok-push-in-Labelled-2.ensures.print ∙ ap (λ l. l ++ due w c.push-in-Labelled.new.works.items) (append-nil brace))))
+    c.in_ok-push-in-Labelled-2.ensures.print))
