@@ -14,10 +14,6 @@ use Rattle.latex2mathml_tokens.specs.declared.DisplayStyle.TheVariants.{Block, I
 pub three : (a x b rest : List ℕ) → (a ++ (x ++ b)) ++ rest ≡ a ++ (x ++ (b ++ rest))
 three a x b rest = append_assoc a (x ++ b) rest ∙ ap (λ l. a ++ l) (append_assoc x b rest)
 
--- a text between two others, of which each is between fixed texts
-pub between : (a o b c e d before x after : List ℕ) → before ≡ a ++ (o ++ b) → after ≡ c ++ (e ++ d) → before ++ (x ++ after) ≡ a ++ (o ++ (b ++ (x ++ (c ++ (e ++ d)))))
-between a o b c e d before x after p q = ap (λ l. l ++ (x ++ after)) p ∙ three a o b (x ++ after) ∙ ap (λ l. a ++ (o ++ (b ++ (x ++ l)))) q
-
 -- the bytes of the prime are computed
 prime_print : codes "<mo>" ++ (0xE2 ∷ 0x80 ∷ 0xB2 ∷ codes "</mo></msup>") ≡ print prime_mark ++ codes "</msup>"
 unfolding encode_utf8
