@@ -1,4 +1,5 @@
 pub mod Changes
+pub mod Encoding
 pub mod Forests
 pub mod Groups
 pub mod Markups

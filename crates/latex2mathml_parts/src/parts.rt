@@ -19,6 +19,9 @@ use latex2mathml_tokens::token::text::TokenText;
 use std::alloc::{AllocError, Global};
 use std::marker::Model;
 
+/// For how many parts room is asked for at once.
+const ROOM: usize = 16;
+
 /// The parts of the trees that were read and are not yet written, in postfix order, with the texts that were spelled out.
 /// Contracts see the list of the trees, the last first.
 #[derive(Drop)]
@@ -58,6 +61,15 @@ impl<'a> Parts<'a> {
             texts: Vec::new(alloc),
             works: Vec::new(alloc),
         }
+    }
+
+    /// Asks for room for a node of common length at once, so that the lists do not grow for each part.
+    #[inline(always)]
+    pub fn make_room(&mut self) -> Result<(), AllocError>
+        ensures { self.new ≡ self.old }
+    {
+        self.list.reserve(ROOM)?;
+        self.works.reserve(ROOM)
     }
 
     /// Drops all parts, and keeps their room.

@@ -7,13 +7,15 @@ ghost use Rattle.latex2mathml_parts.specs.Parts.{arity, put, top};
 ghost use Rattle.latex2mathml_parts.specs.Shapes.{sign_print};
 ghost use Rattle.latex2mathml_tokens.specs.Escape.{content, content_char};
 ghost use Rattle.latex2mathml_tokens.specs.Names.{paren_text, size_text};
+ghost use Rattle.latex2mathml_tokens.specs.declared.attribute.Variant.TheVariants.{Italic};
 
 use crate::form::Form;
 use crate::kind::Kind;
 use crate::write::fences::Elements;
 use crate::write::names::{function_markup, limit_markup};
 use crate::write::tables::{
-    digit_markup, letter_markup, letter_open, operator_markup, size_open, space_markup,
+    command_operator_markup, digit_markup, greek_markup, letter_markup, letter_open,
+    operator_markup, size_open, space_markup,
 };
 use latex2mathml_tokens::attribute::{Accent, Variant};
 use latex2mathml_tokens::names::{Paren, Size};
@@ -65,10 +67,20 @@ pub(crate) fn write_letter(c: char, variant: Variant, out: &mut String) -> Resul
     if let Variant::Italic = variant {
         return match letter_markup(c) {
             Some(markup) => out.push_str(markup),
-            None => write_char("<mi>", c, "</mi>", out),
+            None => write_other_letter(c, out),
         };
     }
     write_char(letter_open(variant), c, "</mi>", out)
+}
+
+/// Writes an italic letter that is not ASCII.
+fn write_other_letter(c: char, out: &mut String) -> Result<(), AllocError>
+    ensures { OnOk result (string_bytes out.new ≡ string_bytes out.old ++ print (letter c Italic)) }
+{
+    match greek_markup(c) {
+        Some(markup) => out.push_str(markup),
+        None => write_char("<mi>", c, "</mi>", out),
+    }
 }
 
 /// Writes an operator.
@@ -82,8 +94,18 @@ pub(crate) fn write_operator(c: char, out: &mut String) -> Result<(), AllocError
         }
         _ => match operator_markup(c) {
             Some(markup) => out.push_str(markup),
-            None => write_char("<mo>", c, "</mo>", out),
+            None => write_other_operator(c, out),
         },
+    }
+}
+
+/// Writes an operator that is not ASCII.
+fn write_other_operator(c: char, out: &mut String) -> Result<(), AllocError>
+    ensures { OnOk result (string_bytes out.new ≡ string_bytes out.old ++ (codes "<mo>" ++ (content_char c ++ codes "</mo>"))) }
+{
+    match command_operator_markup(c) {
+        Some(markup) => out.push_str(markup),
+        None => write_char("<mo>", c, "</mo>", out),
     }
 }
 

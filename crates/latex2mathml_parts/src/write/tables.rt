@@ -3,7 +3,7 @@ ghost use Rattle.std.specs.Prelude.{◌≡◌, ◌++◌, IfSome, codes};
 ghost use Rattle.latex2mathml_trees.specs.Print.{print};
 ghost use Rattle.latex2mathml_trees.specs.Tree.{letter, number, operator, space};
 ghost use Rattle.latex2mathml_tokens.specs.Attributes.{variant_text};
-ghost use Rattle.latex2mathml_tokens.specs.Escape.{value};
+ghost use Rattle.latex2mathml_tokens.specs.Escape.{content_char, value};
 ghost use Rattle.latex2mathml_tokens.specs.Names.{size_text};
 ghost use Rattle.latex2mathml_parts.specs.Shapes.{binomial_close, binomial_open};
 ghost use Rattle.latex2mathml_tokens.specs.declared.attribute.Variant.TheVariants.{Italic};
@@ -73,6 +73,46 @@ pub(crate) fn letter_markup(c: char) -> Option<&'static str>
     })
 }
 
+/// An italic letter that is Greek.
+#[tactic(auto, unfolding(crate::proofs::Encoding::encode_utf8))]
+pub(crate) fn greek_markup(c: char) -> Option<&'static str>
+    ensures { IfSome result (λ markup. markup.now ≡ print (letter c Italic)) }
+{
+    match c {
+        'α' => Some("<mi>α</mi>"),
+        'β' => Some("<mi>β</mi>"),
+        'γ' => Some("<mi>γ</mi>"),
+        'δ' => Some("<mi>δ</mi>"),
+        'ε' => Some("<mi>ε</mi>"),
+        'ζ' => Some("<mi>ζ</mi>"),
+        'η' => Some("<mi>η</mi>"),
+        'θ' => Some("<mi>θ</mi>"),
+        'ι' => Some("<mi>ι</mi>"),
+        'κ' => Some("<mi>κ</mi>"),
+        'λ' => Some("<mi>λ</mi>"),
+        'μ' => Some("<mi>μ</mi>"),
+        'ν' => Some("<mi>ν</mi>"),
+        'ξ' => Some("<mi>ξ</mi>"),
+        'ο' => Some("<mi>ο</mi>"),
+        'π' => Some("<mi>π</mi>"),
+        'ρ' => Some("<mi>ρ</mi>"),
+        'ς' => Some("<mi>ς</mi>"),
+        'σ' => Some("<mi>σ</mi>"),
+        'τ' => Some("<mi>τ</mi>"),
+        'υ' => Some("<mi>υ</mi>"),
+        'φ' => Some("<mi>φ</mi>"),
+        'χ' => Some("<mi>χ</mi>"),
+        'ψ' => Some("<mi>ψ</mi>"),
+        'ω' => Some("<mi>ω</mi>"),
+        'ϑ' => Some("<mi>ϑ</mi>"),
+        'ϕ' => Some("<mi>ϕ</mi>"),
+        'ϖ' => Some("<mi>ϖ</mi>"),
+        'ϱ' => Some("<mi>ϱ</mi>"),
+        'ϵ' => Some("<mi>ϵ</mi>"),
+        _ => None,
+    }
+}
+
 /// An operator that is ASCII and has no command.
 pub(crate) fn operator_markup(c: char) -> Option<&'static str>
     ensures { IfSome result (λ markup. markup.now ≡ print (operator c)) }
@@ -93,6 +133,26 @@ pub(crate) fn operator_markup(c: char) -> Option<&'static str>
         ':' => "<mo>:</mo>",
         _ => return None,
     })
+}
+
+/// An operator of a frequent command.
+#[tactic(auto, unfolding(crate::proofs::Encoding::encode_utf8))]
+pub(crate) fn command_operator_markup(c: char) -> Option<&'static str>
+    ensures { IfSome result (λ markup. markup.now ≡ codes "<mo>" ++ (content_char c ++ codes "</mo>")) }
+{
+    match c {
+        '±' => Some("<mo>±</mo>"),
+        '·' => Some("<mo>·</mo>"),
+        '×' => Some("<mo>×</mo>"),
+        '→' => Some("<mo>→</mo>"),
+        '∈' => Some("<mo>∈</mo>"),
+        '−' => Some("<mo>−</mo>"),
+        '∗' => Some("<mo>∗</mo>"),
+        '≠' => Some("<mo>≠</mo>"),
+        '≤' => Some("<mo>≤</mo>"),
+        '≥' => Some("<mo>≥</mo>"),
+        _ => None,
+    }
 }
 
 /// A number of one digit.
