@@ -19,7 +19,7 @@ use latex2mathml_tokens::{DisplayStyle, LatexError};
 use std::alloc::{AllocError, Global};
 
 /// Room for the markup of most formulas, in bytes. It is asked for at once, and grows for longer ones.
-const ROOM: usize = 512;
+const ROOM: usize = 1024;
 
 /// Appends the `math` element of the tokens that are left. Each node is written and dropped before the next is read, so
 /// memory for one node is enough.
@@ -92,6 +92,7 @@ fn append_node<'a>(
     ensures counted { Counted (opens (lexeme_tok lexeme.entry)) parser.old parser.new }
 {
     let Some(leaf) = symbol(lexeme) else {
+        parser.parts.make_room()?;
         let state = parser.begin(lexeme)?;
         return append_rest(parser, state, markup);
     };
@@ -102,6 +103,7 @@ fn append_node<'a>(
             Ok(true)
         }
         Some(_) => {
+            parser.parts.make_room()?;
             let state = parser.leaf(leaf)?;
             append_rest(parser, state, markup)
         }

@@ -5,8 +5,7 @@ use Rattle.latex2mathml_formulas.proofs.formula.append_node.Goals as goal
 
 pub returns-in_default-clause-node : goal.returns-in_default-clause-node
 returns-in_default-clause-node c = λ input e.
-    let p = c.args.parser.now in
-    c.append_rest.ensures.node input (c.in_ok-state.ensures.holds input (node_begun input _ _ (trees_in p.parts) (lexeme_tok c.args.lexeme) c.requires e))
+    c.append_rest.ensures.node input (c.in_ok-state.ensures.holds input (node_begun input _ _ (trees_in c.make_room.new.self) (lexeme_tok c.args.lexeme) c.requires e))
 
 pub returns-in_ok-write_leaf-in-None-clause-node : goal.returns-in_ok-write_leaf-in-None-clause-node
 returns-in_ok-write_leaf-in-None-clause-node c = λ input e.
@@ -17,4 +16,4 @@ returns-in_ok-state-in-Some-mark-clause-node c = λ input e.
     let p = c.args.parser.now in
     c.append_rest-in-Some-mark.ensures.node input
     (c.in_ok-state-in-Some-mark.ensures.holds input
-    (leaf_begun input p.reader.list c.mark.new.self.list p.frames.stack.items (trees_in p.parts) (lexeme_tok c.args.lexeme) _ c.requires e c.mark.ensures.list c.in-Some.ensures.1))
+    (leaf_begun input p.reader.list c.mark.new.self.list p.frames.stack.items (trees_in c.make_room-in-Some-mark.new.self) (lexeme_tok c.args.lexeme) _ c.requires e c.mark.ensures.list c.in-Some.ensures.1))
