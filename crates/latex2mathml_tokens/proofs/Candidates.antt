@@ -2,12 +2,14 @@
 use Rattle.std.proofs.Common.{◌≡◌, ℕ, zero, suc, ◌+◌, ◌-◌, ◌<◌, ◌≤◌, true, false, not, cond, List, [], ◌∷◌, Some, None, map, take, drop, get_or, length, refl, sym, ap, subst, ◌∙◌, add-one, arith}
 use Rattle.std.proofs.lemmas.Bool.{and_parts, not-true}
 use Rattle.std.proofs.lemmas.List.{drop-map, take-map}
-use Rattle.std.specs.List.{slice_range}
+use Rattle.std.proofs.lemmas.List.Elements.{All-drop, All-take}
+use Rattle.std.specs.List.{AllPass, slice_range}
 use Rattle.std.specs.Prelude.{nat_le, slice_get}
 use Rattle.std.specs.Str.{bytes_eq}
 use Rattle.latex2mathml_tokens.specs.Commands.{command_entries, entry_token}
 use Rattle.latex2mathml_tokens.specs.Entries.{entry_of}
 use Rattle.latex2mathml_tokens.specs.Index.{begins_with, divides, none_begins_with, stand_between}
+use Rattle.latex2mathml_tokens.specs.Keys.{has_key}
 use Rattle.latex2mathml_tokens.specs.Ordered.{ascending}
 use Rattle.latex2mathml_tokens.specs.Tok.{Tok}
 use Rattle.latex2mathml_tokens.specs.declared.token.meaning.Entry.{Entry}
@@ -93,3 +95,6 @@ same_between entries name byte from to e f h k =
 
 pub ordered_between : (entries : List Entry) (from to : ℕ) → ascending (map entry_of entries) ≡ true → ascending (map entry_of (slice_range entries from to)) ≡ true
 ordered_between entries from to h = rw (part_of entries from to) (ascending-take (to - from) _ (ascending-drop from _ h))
+
+pub keyed_between : (entries : List Entry) (from to : ℕ) → AllPass has_key entries → AllPass has_key (slice_range entries from to)
+keyed_between entries from to h = All-take (λ e. has_key e ≡ true) (to - from) (drop from entries) (All-drop (λ e. has_key e ≡ true) from entries h)

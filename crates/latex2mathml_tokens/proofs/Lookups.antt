@@ -15,6 +15,9 @@ use Rattle.latex2mathml_tokens.specs.Tok.{Tok}
 use Rattle.latex2mathml_tokens.specs.declared.token.meaning.Entry.{Entry}
 use Rattle.latex2mathml_tokens.specs.Entries.{entry_of}
 use Rattle.std.proofs.lemmas.List.{map-append, length-take, length-drop}
+use Rattle.std.proofs.lemmas.List.Elements.{All-drop, All-get_or, All-take}
+use Rattle.std.specs.List.{AllPass}
+use Rattle.latex2mathml_tokens.specs.Keys.{has_key}
 use Rattle.std.proofs.Math.Nat.{pow-suc, mul-le-mul_right}
 use Rattle.std.proofs.Math.Pow.{pow_mono}
 
@@ -132,6 +135,7 @@ pub record Narrowed (table entries : List Entry) (name : List ℕ) (n : ℕ) : T
   pub halved : length entries * 2 ^ n ≤ 511
   pub some : 0 < length table → 0 < length entries + n
   pub few : n ≤ 9
+  pub keyed : AllPass has_key entries
 
 -- the entries before the one at m, that entry, and the entries after it
 split_entries : (entries : List Entry) (m : ℕ) (d : Entry) → m < length entries → map entry_of entries ≡ map entry_of (take m entries) ++ entry_of (get_or entries m d) ∷ map entry_of (drop (m + 1) entries)
@@ -175,6 +179,7 @@ half_left table entries name n d inv h less =
       halved = half_le _ (length entries) n (take_half entries) inv.halved;
       few = at_most_nine (length entries) n h inv.halved;
       some = λ _. omega arith;
+      keyed = All-take (λ e. has_key e ≡ true) m entries inv.keyed;
     }
 
 -- and the right half if it is greater
@@ -192,6 +197,7 @@ half_right table entries name n d inv h greater =
       halved = half_le _ (length entries) n (drop_half entries h) inv.halved;
       few = at_most_nine (length entries) n h inv.halved;
       some = λ _. omega arith;
+      keyed = All-drop (λ e. has_key e ≡ true) (m + 1) entries inv.keyed;
     }
 
 -- the middle entry is the result if its name is equal
@@ -210,9 +216,15 @@ pub none_left : (table entries : List Entry) (name : List ℕ) (n : ℕ) → Nar
 none_left table [] name n inv h = inv.same
 none_left table (r ∷ entries) name n inv h = absurd (omega arith)
 
+-- the middle entry has its key
+pub middle_keyed : (table entries : List Entry) (name : List ℕ) (n : ℕ) (d : Entry) → Narrowed table entries name n → (length entries == 0) ≡ false → has_key (get_or entries (length entries / 2) d) ≡ true
+middle_keyed table entries name n d inv h =
+    let some : 0 < length entries = nonempty entries h in
+    All-get_or (λ e. has_key e ≡ true) entries (length entries / 2) d (omega arith) inv.keyed
+
 -- before the first comparison
-pub whole_table : (table : List Entry) (name : List ℕ) → ascending (map entry_of table) ≡ true → length table < 512 → Narrowed table table name 0
-whole_table table name a few = record { same = refl; ordered = InOrder-ascending _ a; halved = omega arith; some = λ h. omega arith; few = omega arith }
+pub whole_table : (table : List Entry) (name : List ℕ) → ascending (map entry_of table) ≡ true → length table < 512 → AllPass has_key table → Narrowed table table name 0
+whole_table table name a few keyed = record { same = refl; ordered = InOrder-ascending _ a; halved = omega arith; some = λ h. omega arith; few = omega arith; keyed = keyed }
 
 -- the two halves, for the search's own variables
 pub kept_left : (table entries entries' : List Entry) (name : List ℕ) (n n' : ℕ) (d : Entry) (o : Ordering) → Narrowed table entries name n → (length entries == 0) ≡ false → o ≡ slice_cmp nat_cmp name (get_or entries (length entries / 2) d).name.now → o ≡ Less → entries' ≡ take (length entries / 2) entries → n' ≡ n + 1 → Narrowed table entries' name n'

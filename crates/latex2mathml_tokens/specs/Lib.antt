@@ -5,6 +5,7 @@ pub mod Discreteness
 pub mod Entries
 pub mod Escape
 pub mod Index
+pub mod Keys
 pub mod Lexemes
 pub mod Names
 pub mod Ordered

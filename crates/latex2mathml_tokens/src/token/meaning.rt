@@ -11,10 +11,12 @@ use crate::lexeme::Lexeme;
 use crate::names::{FunctionName, LimitName, Paren, Size};
 use crate::token::Token;
 
-/// An entry of the command table: a command's name without its backslash, and what it stands for.
+/// An entry of the command table: a command's name without its backslash, its key, and what it stands for.
 #[derive(Clone, Copy)]
 pub(crate) struct Entry {
     pub(crate) name: &'static str,
+    /// The name's first eight bytes as a number.
+    pub(crate) key: u64,
     pub(crate) meaning: Meaning,
 }
 

@@ -4,7 +4,7 @@ use Rattle.latex2mathml_tokens.proofs.Lookups.{whole_table, kept_left, kept_righ
 use Rattle.latex2mathml_tokens.proofs.token.search.search.Goals as goal
 
 pub loop-entries-init : goal.loop-entries-init
-loop-entries-init c = whole_table _ _ c.requires.ordered c.requires.few
+loop-entries-init c = whole_table _ _ c.requires.ordered c.requires.few c.requires.keyed
 
 pub returns-in-Equal-clause-entry : goal.returns-in-Equal-clause-entry
 returns-in-Equal-clause-entry c = found _ _ _ _ _ _ c.loop-entries.invariant (sym c.is_empty.ensures ∙ c.loop-entries-test.true) c.compare.ensures.order c.in-Equal.is
