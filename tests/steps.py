@@ -127,13 +127,13 @@ class Proofs(Command):
 
 
 class WrongBodies:
-    """Tries the wrong bodies of crates, beside what else runs. Half of the processors are for them, and only while no proof needs
-    these: other crates wait for a proof, and nothing waits for a wrong body."""
+    """Tries the wrong bodies of crates, beside what else runs. They get the processors that no proof needs: other crates wait for a
+    proof, and nothing waits for a wrong body."""
 
     def __init__(self, folder):
         self.folder = folder
         self.counts = Counts()
-        self.pool = concurrent.futures.ThreadPoolExecutor(max(1, len(os.sched_getaffinity(0)) // 2))
+        self.pool = concurrent.futures.ThreadPoolExecutor(len(os.sched_getaffinity(0)))
         self.trials, self.running = [], []
         self.is_over = False
 
