@@ -42,6 +42,26 @@ impl<'a> From<Refusal> for Token {
     }
 }
 """,
+    "src/reader.rt": """pub(crate) mod names;
+
+#[derive(Drop)]
+pub(crate) struct Reader<'a> {
+    rest: &'a str,
+}
+""",
+    "src/reader/names.rt": """impl<'a> Reader<'a> {
+    /// A name.
+    #[cycle(names)]
+    fn name(&self) -> &str {
+        self.rest
+    }
+}
+
+#[cycle(names)]
+fn all(reader: &Reader) -> usize {
+    reader.name().len()
+}
+""",
 }
 
 BODIES = {
@@ -51,6 +71,8 @@ BODIES = {
     "d_constant": "file: src/lib.rt\nold: LEAST: u32 = 3\nnew: LEAST: u32 = 4\n",
     "e_from": "file: src/token.rt\nold: Token::Refused\nnew: Token::Letter\n",
     "f_first": "file: src/lib.rt\nold: >=\nnew: >\n",
+    "h_method": "file: src/reader/names.rt\nold: self.rest\nnew: \"\"\n",
+    "i_other": "file: src/reader/names.rt\nold: reader.name().len()\nnew: 0\n",
     "g_nothing": "file: src/lib.rt\nold: mod token;\nnew: mod token; mod more;\n",
 }
 
@@ -92,14 +114,19 @@ class Trials(unittest.TestCase):
         for name, functions in [
             ("a_clone", {"token::Token::clone"}), ("c_display", {"token::TokenDisplay::fmt"}), ("d_constant", {"first"}),
             ("e_from", {"token::TokenFromRefusal::from"}), ("f_first", {"first"}), ("g_nothing", set()),
+            ("h_method", {"reader::Reader::name"}), ("i_other", {"reader::names::all"}),
         ]:
             with self.subTest(name):
-                self.assertEqual(self.body(name).functions(self.folder), functions)
+                self.assertEqual({it.name for it in self.body(name).functions(self.folder)}, functions)
+
+    def test_functions_of_a_cycle_have_one_proof(self):
+        proofs = [{it.proof for it in self.body(name).functions(self.folder)} for name in ("h_method", "i_other", "f_first")]
+        self.assertEqual(proofs, [{"+names"}, {"+names"}, {"first"}])
 
     def test_no_round_changes_a_function_twice(self):
         groups = rounds([self.body(name) for name in BODIES], self.folder)
         self.assertEqual([[it.path.stem for it in group] for group in groups],
-                         [["a_clone", "c_display", "d_constant", "e_from"], ["b_clone", "f_first"], ["g_nothing"]])
+                         [["a_clone", "c_display", "d_constant", "e_from", "h_method"], ["b_clone", "f_first", "i_other"], ["g_nothing"]])
 
     def try_these(self, names, output):
         prover = Prover("\n".join(output))
@@ -115,6 +142,16 @@ class Trials(unittest.TestCase):
         self.assertEqual(refused, {"a_clone": True, "c_display": True})
         self.assertEqual(prover.checks, [["token::Token::clone", "token::TokenDisplay::fmt"]])
         self.assertEqual(prover.alone, [])
+
+    def test_an_error_of_its_cycle_refuses(self):
+        """It stands in the one proof of the cycle, or at each of its functions."""
+        for lines in (["./proofs/reader/+names/Answers.antt:8:1: error: `all-returns`: the two types differ"],
+                      [f"fn one::reader::{name}: no proof: expected answers in ./proofs/reader/+names/Answers.antt; `search` did not prove `x`"
+                       for name in ("Reader::name", "names::all")]):
+            with self.subTest(lines[0]):
+                prover, refused = self.try_these(["h_method"], [*lines, "only=2 proved=0"])
+                self.assertEqual(refused, {"h_method": True})
+                self.assertEqual(prover.checks, [["reader::Reader::name"]])
 
     def test_one_without_an_error_is_tried_alone(self):
         for line in ("fn one::token::TokenDisplay::fmt: proved",

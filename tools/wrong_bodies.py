@@ -7,51 +7,90 @@ alone, as `rt must-fail` does.
 """
 import os
 import re
+from typing import NamedTuple
 
 JOBS = ["--jobs", "1"]
 
 FUNCTION = re.compile(r' *(?:pub(?:\(\w+\))? )?(?:const )?(?:extern "C" )?fn (\w+)')
 CONSTANT = re.compile(r"(?:pub(?:\(\w+\))? )?(?:const|static) (\w+):")
 IMPL = re.compile(r"impl\b(?:<[^{]*?>)? (?:(?P<trait>\S+) for )?(?P<type>\w+)")
+CYCLE = re.compile(r" *#\[cycle\((\w+)\)\]")
+TYPE = re.compile(r"^(?:pub(?:\(\w+\))? )?(?:struct|enum) (\w+)", re.M)
 
 # What a check says of a function that is not proved, other than that it calls one that is not.
-UNPROVED = re.compile(r"fn \w+?::(?P<function>\S+): .*(?P<error>`search` did not prove .*)")
+UNPROVED = re.compile(r"fn \w+?::(?P<function>\S+): (?:.*\./proofs/(?:\S+/)?(?P<cycle>\+\w+)/)?.*(?P<error>`search` did not prove .*)")
 REFUSED = re.compile(r"(?:\./)?(?P<file>proofs/(?P<function>\S+)/\w+\.antt):\d+:\d+: error: (?P<error>.*)")
 # These say little: the edit may have taken away what the proof names.
 MISSING = re.compile(r"has no field|is not in scope|has no `|was not admitted")
 
 
+class Function(NamedTuple):
+    """A function, named as the prover names it: `token::Token::clone`."""
+    name: str
+    # what its proof is called: functions that call each other have one proof, such as `+print`
+    proof: str
+
+
+def modules_of(file):
+    """The names of the modules that lead to a file: `token` and `text` for `src/token/text.rt`."""
+    names = file.removeprefix("src/").removesuffix(".rt").split("/")
+    return [] if names in (["lib"], ["main"]) else names
+
+
+def types_in(folder):
+    """The types of the crate in this folder, each with the modules that lead to it."""
+    types = {}
+    for path in sorted((folder / "src").rglob("*.rt")):
+        for name in TYPE.findall(path.read_text(encoding="utf-8")):
+            types[name] = modules_of(path.relative_to(folder).as_posix())
+    return types
+
+
 class Source:
     """A file of code, which says what functions an edit of a line changes."""
 
-    def __init__(self, file, text):
-        names = file.removeprefix("src/").removesuffix(".rt").split("/")
-        self.modules = [] if names in (["lib"], ["main"]) else names
+    def __init__(self, file, text, types):
+        self.modules, self.types = modules_of(file), types
         self.lines = text.split("\n")
 
     def functions_at(self, number):
         """The functions that an edit of this line changes, the first line being 0: the one that has the line, or those of the file
-        that name the constant that has it. They are named as the prover names them: `token::Token::clone`."""
+        that name the constant that has it."""
         for at in range(number, -1, -1):
             function, constant = FUNCTION.match(self.lines[at]), CONSTANT.match(self.lines[at])
             if function:
-                owner = self.owner_of(at) if self.lines[at].startswith(" ") else []
-                return {"::".join([*self.modules, *owner, function[1]])}
+                owner = self.owner_of(at) if self.lines[at].startswith(" ") else self.modules
+                name, cycle = "::".join([*owner, function[1]]), self.cycle_at(at)
+                return {Function(name, f"+{cycle}" if cycle else name)}
             if constant:
                 return self.users_of(constant[1])
             if at < number and self.lines[at] == "}":
                 break
         return set()
 
+    def cycle_at(self, number):
+        """The cycle of the function with this line, if its attributes name one."""
+        for line in reversed(self.lines[:number]):
+            if found := CYCLE.match(line):
+                return found[1]
+            if not re.match(r" *(#\[|///)", line):
+                return None
+        return None
+
     def users_of(self, constant):
         places = [at for at, line in enumerate(self.lines) if re.search(rf"\b{constant}\b", line) and not CONSTANT.match(line)]
         return set().union(*map(self.functions_at, places))
 
     def owner_of(self, number):
-        """The name of the `impl` with this line: `Token` for its own functions, `TokenPartialEq` for those of a trait."""
+        """The names that lead to the functions of the `impl` with this line. A type's own functions are named by the module of the
+        type, as `token` and `Token`. Those of a trait are named by that of the `impl`, as `token`, `text` and `TokenDisplay`."""
         heads = (IMPL.match(it) for it in reversed(self.lines[:number]))
         found = next(filter(None, heads), None)
-        return [found["type"] + trait_name(found["trait"] or "")] if found else []
+        if not found:
+            return self.modules
+        if found["trait"]:
+            return [*self.modules, found["type"] + trait_name(found["trait"])]
+        return [*self.types.get(found["type"], self.modules), found["type"]]
 
 
 def trait_name(trait):
@@ -69,40 +108,46 @@ class WrongBody:
 
     def functions(self, folder):
         """The functions that it changes in the crate in this folder; none if it cannot be applied."""
-        found, text, source = set(), "", None
+        found, text, source, types = set(), "", None, types_in(folder)
         for line in self.text.split("\n"):
             word, _, rest = line.partition(": ")
             if word == "file" and (folder / rest).is_file():
                 text = (folder / rest).read_text(encoding="utf-8")
-                source = Source(rest, text)
+                source = Source(rest, text, types)
             elif word == "old" and rest in text:
                 found |= source.functions_at(text.count("\n", 0, text.index(rest)))
         return found
 
 
 def rounds(bodies, folder):
-    """The wrong bodies in groups: no two of a group change the same function, and one that changes none is alone."""
+    """The wrong bodies in groups: no two of a group change what one proof is of, and one that changes no function is alone."""
     groups = []
     for body in bodies:
-        functions = body.functions(folder)
+        proofs = {it.proof for it in body.functions(folder)}
         for group, changed in groups:
-            if functions and changed and not functions & changed:
+            if proofs and changed and not proofs & changed:
                 group.append(body)
-                changed |= functions
+                changed |= proofs
                 break
         else:
-            groups.append(([body], functions))
+            groups.append(([body], proofs))
     return [group for group, _ in groups]
 
 
 def errors_in(output):
-    """The first error in each function that a check reports."""
+    """The first error in each proof that a check reports."""
     found = {}
     for line in output.split("\n"):
         error = UNPROVED.match(line) or REFUSED.match(line)
         if error and not MISSING.search(error["error"]):
-            found.setdefault(error["function"].replace("/", "::"), error["error"])
+            found.setdefault(proof_of(error), error["error"])
     return found
+
+
+def proof_of(error):
+    """What the proof is called that an error is in: by its function, or by its cycle, as `ast/print/+print` does."""
+    name = error.groupdict().get("cycle") or error["function"]
+    return name[name.index("+"):] if "+" in name else name.replace("/", "::")
 
 
 class Trial:
@@ -125,7 +170,8 @@ class Trial:
         """Tries wrong bodies in one check of the functions that they change, and returns an error for each of them that has one
         in such a function."""
         changed = {it: sorted(it.functions(self.folder)) for it in bodies}
-        asked = sorted({function for it in bodies for function in changed[it]})
+        asked = sorted({function.name for it in bodies for function in changed[it]})
+        proofs = {function.proof for it in bodies for function in changed[it]}
         texts, _ = self.rt.edited("\n".join(it.text for it in bodies), os.fspath(self.folder))
         if not asked or not texts:
             return {}
@@ -135,6 +181,6 @@ class Trial:
         if not is_whole or any(self.rt.unread(it, texts) for it in lines):
             return {}
         errors = errors_in(ran.stdout)
-        if not errors.keys() <= {*asked}:
+        if not errors.keys() <= proofs:
             return {}  # one of them is wrong in more than the functions that it changes
-        return {it: f"{function}: {errors[function]}" for it in bodies for function in changed[it] if function in errors}
+        return {it: f"{name}: {errors[proof]}" for it in bodies for name, proof in changed[it] if proof in errors}
