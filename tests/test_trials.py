@@ -1,11 +1,12 @@
 """`tools/try-wrong-body` tries wrong bodies that change different functions in one check, and refuses none that this check does not
 report. The prover is another program here, which prints what it would print."""
+import pathlib
 import re
 import types
 import unittest
 
 from tests.support import ROOT, scratch
-from tools.wrong_bodies import Trial, WrongBody, errors_in, rounds
+from tools.wrong_bodies import Trial, WrongBody, copy_with_holes, errors_in, functions_in, rounds
 
 CODE = {
     "src/lib.rt": """//! A crate.
@@ -61,7 +62,40 @@ pub(crate) struct Reader<'a> {
 fn all(reader: &Reader) -> usize {
     reader.name().len()
 }
+
+impl Drop for Reader<'_> {
+    fn drop(&mut self) {
+        self.end();
+    }
+}
 """,
+    "src/site.rt": """pub trait Site {
+    fn list(&self) -> Vec<String>;
+}
+
+impl Site for Disk {
+    fn list(&self) -> Vec<String> {
+        entries()
+    }
+}
+
+fn walk(site: &impl Site) {
+    list(site);
+    walk(site);
+}
+
+fn list(site: &impl Site) {
+    site.list();
+}
+""",
+}
+
+PROOFS = {
+    "proofs/token/Token/clone/Answers.antt": "answers of clone",
+    "proofs/site/walk/Answers.antt": "none",
+    "proofs/site/+walk/Answers.antt": "answers of walk",
+    "proofs/site/list/Answers.antt": "answers of list",
+    "proofs/Order.antt": "lemmas",
 }
 
 BODIES = {
@@ -73,8 +107,14 @@ BODIES = {
     "f_first": "file: src/lib.rt\nold: >=\nnew: >\n",
     "h_method": "file: src/reader/names.rt\nold: self.rest\nnew: \"\"\n",
     "i_other": "file: src/reader/names.rt\nold: reader.name().len()\nnew: 0\n",
+    "j_itself": "file: src/site.rt\nold:     list(site);\nnew:     list(site); list(site);\n",
     "g_nothing": "file: src/lib.rt\nold: mod token;\nnew: mod token; mod more;\n",
 }
+
+
+def holes_in(folder):
+    """The proofs in a copy of a crate that are holes."""
+    return {it.parent.relative_to(folder / "proofs").as_posix() for it in folder.rglob("Proof.antt")}
 
 
 class Prover:
@@ -83,13 +123,14 @@ class Prover:
     rtlib = types.SimpleNamespace(STALE=re.compile("Run the lower steps again"))
 
     def __init__(self, output):
-        self.output, self.checks, self.alone = output, [], []
+        self.output, self.checks, self.alone, self.holes = output, [], [], []
 
     def edited(self, text, folder):
         return (None, "an 'old:' text is not there") if "old: none" in text else ({"src/lib.rt": "", "src/token.rt": ""}, None)
 
     def checked(self, crate, texts, flags, kept):
         self.checks.append([it.removeprefix("--only=") for it in flags if it.startswith("--only=")])
+        self.holes.append("--allow-holes" in flags and holes_in(pathlib.Path(crate.folder)))
         return types.SimpleNamespace(stdout=self.output, returncode=1)
 
     def unread(self, line, changed):
@@ -103,7 +144,7 @@ class Prover:
 class Trials(unittest.TestCase):
     def setUp(self):
         self.folder = self.enterContext(scratch()) / "one"
-        for file, text in [*CODE.items(), *((f"must-fail/{name}.edit", text) for name, text in BODIES.items())]:
+        for file, text in [*CODE.items(), *PROOFS.items(), *((f"must-fail/{name}.edit", text) for name, text in BODIES.items())]:
             (self.folder / file).parent.mkdir(parents=True, exist_ok=True)
             (self.folder / file).write_text(text)
 
@@ -114,23 +155,46 @@ class Trials(unittest.TestCase):
         for name, functions in [
             ("a_clone", {"token::Token::clone"}), ("c_display", {"token::TokenDisplay::fmt"}), ("d_constant", {"first"}),
             ("e_from", {"token::TokenFromRefusal::from"}), ("f_first", {"first"}), ("g_nothing", set()),
-            ("h_method", {"reader::Reader::name"}), ("i_other", {"reader::names::all"}),
+            ("h_method", {"reader::Reader::name"}), ("i_other", {"reader::names::all"}), ("j_itself", {"site::walk"}),
         ]:
             with self.subTest(name):
                 self.assertEqual({it.name for it in self.body(name).functions(self.folder)}, functions)
 
     def test_functions_of_a_cycle_have_one_proof(self):
-        proofs = [{it.proof for it in self.body(name).functions(self.folder)} for name in ("h_method", "i_other", "f_first")]
-        self.assertEqual(proofs, [{"+names"}, {"+names"}, {"first"}])
+        proofs = [{it.proof for it in self.body(name).functions(self.folder)} for name in ("h_method", "i_other", "j_itself", "f_first")]
+        self.assertEqual(proofs, [{"+names"}, {"+names"}, {"+walk"}, {"first"}])
+
+    def test_the_functions_of_a_crate(self):
+        self.assertEqual({it.name for it in functions_in(self.folder)}, {
+            "first", "second", "token::Token::clone", "token::TokenDisplay::fmt", "token::TokenFromRefusal::from", "reader::Reader::name",
+            "reader::names::all", "reader::Reader::drop", "site::DiskSite::list", "site::walk", "site::list",
+        })
+
+    def test_what_is_not_changed_has_a_hole_for_a_proof(self):
+        with scratch() as room:
+            made = copy_with_holes(self.folder, room, {"token::Token::clone", "first"})
+            self.assertEqual(holes_in(made), {
+                "second", "token/TokenDisplay/fmt", "token/TokenFromRefusal/from", "reader/Reader/drop", "site/DiskSite/list", "site/list",
+            })
+            self.assertEqual((made / "proofs/site/list/Proof.antt").read_text(), """use Rattle.one.proofs.site.list.Statement.{statement}
+
+pub list_spec : {M : Type 1} → statement M
+list_spec = ?
+""")
+            kept = {file for file in PROOFS if (made / file).exists()}
+            self.assertEqual(kept, PROOFS.keys() - {"proofs/site/list/Answers.antt"})
+            self.assertEqual((made / "src/site.rt").read_text(), CODE["src/site.rt"])
 
     def test_no_round_changes_a_function_twice(self):
         groups = rounds([self.body(name) for name in BODIES], self.folder)
         self.assertEqual([[it.path.stem for it in group] for group in groups],
-                         [["a_clone", "c_display", "d_constant", "e_from", "h_method"], ["b_clone", "f_first", "i_other"], ["g_nothing"]])
+                         [["a_clone", "c_display", "d_constant", "e_from", "h_method", "j_itself"],
+                          ["b_clone", "f_first", "i_other"], ["g_nothing"]])
 
     def try_these(self, names, output):
         prover = Prover("\n".join(output))
-        told = dict(zip(names, Trial(prover, None, self.folder, self.folder).try_all([self.body(name) for name in names])))
+        trial = Trial(prover, types.SimpleNamespace(folder=self.folder), self.folder, self.folder)
+        told = dict(zip(names, trial.try_all([self.body(name) for name in names])))
         return prover, {name: refused for name, (refused, _) in told.items()}
 
     def test_an_error_of_its_own_refuses(self):
@@ -141,6 +205,8 @@ class Trials(unittest.TestCase):
         ])
         self.assertEqual(refused, {"a_clone": True, "c_display": True})
         self.assertEqual(prover.checks, [["token::Token::clone", "token::TokenDisplay::fmt"]])
+        self.assertIn("second", prover.holes[0])
+        self.assertTrue(prover.holes[0].isdisjoint({"token/Token/clone", "token/TokenDisplay/fmt"}))
         self.assertEqual(prover.alone, [])
 
     def test_an_error_of_its_cycle_refuses(self):

@@ -1,21 +1,35 @@
 """Wrong bodies: edits of the code that the prover must refuse, `crates/CRATE/must-fail/NAME.edit`.
 
 `rt must-fail` checks the crate once for each of them. Here those that change different functions share a check: the prover
-proves a function from the contracts of the functions that it calls, so no body can hide what is wrong with another one. A wrong
-body is refused if the check reports an error in a function that it changes. If it reports none, the wrong body is tried again
-alone, as `rt must-fail` does.
+proves a function from the contracts of the functions that it calls, so no body can hide what is wrong with another one. For the
+same reason the functions that no wrong body changes are not proved again: their proofs are holes, so the prover takes their
+contracts as they are. A wrong body is refused if the check reports an error in a function that it changes. If it reports none,
+the wrong body is tried again alone, as `rt must-fail` does.
 """
+import copy
+import itertools
 import os
+import pathlib
 import re
+import shutil
+import tempfile
 from typing import NamedTuple
 
 JOBS = ["--jobs", "1"]
 
 FUNCTION = re.compile(r' *(?:pub(?:\(\w+\))? )?(?:const )?(?:extern "C" )?fn (\w+)')
 CONSTANT = re.compile(r"(?:pub(?:\(\w+\))? )?(?:const|static) (\w+):")
+TRAIT = re.compile(r"(?:pub(?:\(\w+\))? )?trait \w+")
 IMPL = re.compile(r"impl\b(?:<[^{]*?>)? (?:(?P<trait>\S+) for )?(?P<type>\w+)")
 CYCLE = re.compile(r" *#\[cycle\((\w+)\)\]")
 TYPE = re.compile(r"^(?:pub(?:\(\w+\))? )?(?:struct|enum) (\w+)", re.M)
+
+# The proof of a function with no proof.
+HOLE = """use Rattle.{crate}.proofs.{path}.Statement.{{statement}}
+
+pub {name}_spec : {{M : Type 1}} → statement M
+{name}_spec = ?
+"""
 
 # What a check says of a function that is not proved, other than that it calls one that is not.
 UNPROVED = re.compile(r"fn \w+?::(?P<function>\S+): (?:.*\./proofs/(?:\S+/)?(?P<cycle>\+\w+)/)?.*(?P<error>`search` did not prove .*)")
@@ -27,7 +41,7 @@ MISSING = re.compile(r"has no field|is not in scope|has no `|was not admitted")
 class Function(NamedTuple):
     """A function, named as the prover names it: `token::Token::clone`."""
     name: str
-    # what its proof is called: functions that call each other have one proof, such as `+print`
+    # what its proof is called: functions that call each other have one proof, such as `+print`, and so has one that calls itself
     proof: str
 
 
@@ -60,13 +74,23 @@ class Source:
             function, constant = FUNCTION.match(self.lines[at]), CONSTANT.match(self.lines[at])
             if function:
                 owner = self.owner_of(at) if self.lines[at].startswith(" ") else self.modules
-                name, cycle = "::".join([*owner, function[1]]), self.cycle_at(at)
-                return {Function(name, f"+{cycle}" if cycle else name)}
+                return {Function("::".join([*owner, function[1]]), self.proof_at(at, owner, function[1]))}
             if constant:
                 return self.users_of(constant[1])
             if at < number and self.lines[at] == "}":
                 break
         return set()
+
+    def proof_at(self, number, owner, name):
+        """What the proof of the function with this line is called."""
+        cycle = self.cycle_at(number) or (name if self.calls_itself(number, name) else None)
+        return f"+{cycle}" if cycle else "::".join([*owner, name])
+
+    def calls_itself(self, number, name):
+        indent = re.match(" *", self.lines[number])[0]
+        call = rf"\b(?:self\.|Self::){name}\(" if indent else rf"(?<![.:\w]){name}\("
+        body = itertools.takewhile(lambda line: line != indent + "}", self.lines[number + 1:])
+        return any(re.search(call, line) for line in body)
 
     def cycle_at(self, number):
         """The cycle of the function with this line, if its attributes name one."""
@@ -77,18 +101,28 @@ class Source:
                 return None
         return None
 
+    def functions(self):
+        """All functions of the file."""
+        lines = [at for at, line in enumerate(self.lines) if FUNCTION.match(line) and not self.is_in_trait(at)]
+        return set().union(*map(self.functions_at, lines))
+
+    def is_in_trait(self, number):
+        heads = (line for line in reversed(self.lines[:number]) if IMPL.match(line) or TRAIT.match(line))
+        return self.lines[number].startswith(" ") and bool(TRAIT.match(next(heads, "")))
+
     def users_of(self, constant):
         places = [at for at, line in enumerate(self.lines) if re.search(rf"\b{constant}\b", line) and not CONSTANT.match(line)]
         return set().union(*map(self.functions_at, places))
 
     def owner_of(self, number):
-        """The names that lead to the functions of the `impl` with this line. A type's own functions are named by the module of the
-        type, as `token` and `Token`. Those of a trait are named by that of the `impl`, as `token`, `text` and `TokenDisplay`."""
+        """The names that lead to the functions of the `impl` with this line. A type's own functions, and its `drop`, are named by the
+        module of the type, as `token` and `Token`. Those of other traits are named by that of the `impl`, as `token`, `text` and
+        `TokenDisplay`."""
         heads = (IMPL.match(it) for it in reversed(self.lines[:number]))
         found = next(filter(None, heads), None)
         if not found:
             return self.modules
-        if found["trait"]:
+        if found["trait"] not in (None, "Drop"):
             return [*self.modules, found["type"] + trait_name(found["trait"])]
         return [*self.types.get(found["type"], self.modules), found["type"]]
 
@@ -117,6 +151,28 @@ class WrongBody:
             elif word == "old" and rest in text:
                 found |= source.functions_at(text.count("\n", 0, text.index(rest)))
         return found
+
+
+def functions_in(folder):
+    """The functions of the crate in this folder."""
+    types, paths = types_in(folder), sorted((folder / "src").rglob("*.rt"))
+    sources = [Source(it.relative_to(folder).as_posix(), it.read_text(encoding="utf-8"), types) for it in paths]
+    return set().union(*(it.functions() for it in sources))
+
+
+def copy_with_holes(folder, room, proofs):
+    """Copies a crate, with holes in place of all proofs of functions but these. Cycles keep theirs."""
+    made = pathlib.Path(room, folder.name)
+    shutil.copytree(folder, made, ignore=shutil.ignore_patterns("out", "must-fail"))
+    for proof in {it.proof for it in functions_in(folder)} - proofs:
+        path = proof.split("::")
+        if "+" not in proof:
+            place = made.joinpath("proofs", *path)
+            shutil.rmtree(place, ignore_errors=True)
+            place.mkdir(parents=True)
+            hole = HOLE.format(crate=folder.name, path=".".join(path), name=path[-1])
+            (place / "Proof.antt").write_text(hole, encoding="utf-8")
+    return made
 
 
 def rounds(bodies, folder):
@@ -175,7 +231,7 @@ class Trial:
         texts, _ = self.rt.edited("\n".join(it.text for it in bodies), os.fspath(self.folder))
         if not asked or not texts:
             return {}
-        ran = self.rt.checked(self.crate, texts, [*JOBS, *(f"--only={it}" for it in asked)], self.kept)
+        ran = self.check(texts, [*JOBS, "--allow-holes", *(f"--only={it}" for it in asked)], proofs)
         lines = ran.stdout.rstrip("\n").split("\n")
         is_whole = lines[-1].startswith("only=") and not self.rt.rtlib.STALE.search(ran.stdout)
         if not is_whole or any(self.rt.unread(it, texts) for it in lines):
@@ -184,3 +240,10 @@ class Trial:
         if not errors.keys() <= proofs:
             return {}  # one of them is wrong in more than the functions that it changes
         return {it: f"{name}: {errors[proof]}" for it in bodies for name, proof in changed[it] if proof in errors}
+
+    def check(self, texts, flags, proofs):
+        """Checks the crate with these texts, and with holes in place of all other proofs of functions."""
+        with tempfile.TemporaryDirectory(prefix="latex2mathml-") as room:
+            crate = copy.copy(self.crate)
+            crate.folder = os.fspath(copy_with_holes(self.folder, room, proofs))
+            return self.rt.checked(crate, texts, flags, self.kept)
