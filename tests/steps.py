@@ -12,6 +12,7 @@ import time
 from tests.results import Counts
 from tests.support import ROOT, kit
 from tools.progress import Stopwatch, end_of, follow
+from tools.wrong_bodies import rounds, wrong_bodies_of
 
 OUT = ROOT / "out"
 LAST_LINE = re.compile(r"(\d+) passed, (\d+) failed")
@@ -153,21 +154,25 @@ class WrongBodies:
             trial.terminate()
 
     def begin(self, crate, screen):
-        """Begins to try those of a crate that is proved in the folder."""
-        if any((ROOT / "crates" / crate / "must-fail").glob("*.edit")):
-            self.trials.append(self.pool.submit(self.try_crate, crate, screen))
+        """Begins to try those of a crate that is proved in the folder, each group that shares a check beside the others."""
+        folder = ROOT / "crates" / crate
+        groups = rounds(wrong_bodies_of(folder), folder)
+        for number, group in enumerate(groups, 1):
+            name = crate if len(groups) == 1 else f"{crate}, check {number} of {len(groups)}"
+            self.trials.append(self.pool.submit(self.try_group, crate, group, number, name, screen))
 
-    def try_crate(self, crate, screen):
-        watch, log = Stopwatch(), OUT / f"wrong-bodies-{crate}.log"
-        words = ["nice", ROOT / "tools/try-wrong-body", "--proved", self.folder, crate]
+    def try_group(self, crate, group, number, name, screen):
+        watch, log = Stopwatch(), OUT / f"wrong-bodies-{crate}-{number}.log"
+        bodies = [f"{crate}/{it.path.stem}" for it in group]
+        words = ["nice", ROOT / "tools/try-wrong-body", "--proved", self.folder, *bodies]
         counts = counts_of(words, log, screen, on_start=self.on_start)
-        screen.say(f"    {crate}: wrong bodies: {counts}, {watch}")
+        screen.say(f"    {name}: wrong bodies: {counts}, {watch}")
         return counts
 
     def wait(self, screen, watch):
         """Waits until all that began has ended, and counts it."""
         while left := sum(not it.done() for it in self.trials):
-            screen.renew(f"    wrong bodies: {len(self.trials) - left} of {len(self.trials)} crates  {watch}")
+            screen.renew(f"    wrong bodies: {len(self.trials) - left} of {len(self.trials)} checks  {watch}")
             concurrent.futures.wait(self.trials, timeout=1)
         for it in self.trials:
             self.counts.add(it.result())

@@ -150,7 +150,7 @@ echo '3 passed, 0 failed'
 """
 
 TRY_WRONG_BODY = """#!/bin/sh
-test "$1" = --proved && test -e "$2/crates/one/src/lib.rt" || exit 1
+test "$1" = --proved && test -e "$2/crates/one/src/lib.rt" && test $# = 3 || exit 1
 echo "$3" >>"$TRIED"
 echo '2 passed, 0 failed'
 """
@@ -191,9 +191,23 @@ class Proving(unittest.TestCase):
     def test_the_wrong_bodies_of_what_is_proved_are_tried(self):
         proofs = self.prove()
         self.assertEqual(proofs.proved, {"one"})
-        self.assertEqual(self.tried.read_text(), "one\n")
+        self.assertEqual(self.tried.read_text(), "one/a\n")
         self.assertEqual(proofs.counts, Counts(passed=5), self.screen.getvalue())
         self.assertIn("    one: wrong bodies: 2 passed, 0 failed, 0:00\n", self.screen.getvalue())
+
+    def test_wrong_bodies_that_change_one_function_are_tried_side_by_side(self):
+        """Neither trial ends before the other has begun."""
+        folder = self.root / "crates/one"
+        (folder / "src/lib.rt").write_text("fn first() -> u32 {\n    7\n}\n")
+        for name in ("a", "b"):
+            (folder / f"must-fail/{name}.edit").write_text("file: src/lib.rt\nold: 7\nnew: 8\n")
+        self.program("tools/try-wrong-body", TRY_WRONG_BODY.replace("echo '2", "until test $(wc -l <\"$TRIED\") = 2; do sleep 0.01; done; echo '2"))
+        with unittest.mock.patch("os.sched_getaffinity", return_value={0, 1}):
+            proofs = self.prove()
+        self.assertEqual(sorted(self.tried.read_text().split()), ["one/a", "one/b"])
+        self.assertEqual(proofs.counts, Counts(passed=7), self.screen.getvalue())
+        for number in (1, 2):
+            self.assertIn(f"    one, check {number} of 2: wrong bodies: 2 passed, 0 failed, 0:00\n", self.screen.getvalue())
 
     def test_wrong_bodies_that_fail(self):
         for text, counts in [

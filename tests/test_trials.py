@@ -4,6 +4,7 @@ import pathlib
 import re
 import types
 import unittest
+import unittest.mock
 
 from tests.support import ROOT, scratch
 from tools.wrong_bodies import Trial, WrongBody, copy_with_holes, errors_in, functions_in, rounds
@@ -190,6 +191,12 @@ list_spec = ?
         self.assertEqual([[it.path.stem for it in group] for group in groups],
                          [["a_clone", "c_display", "d_constant", "e_from", "h_method", "j_itself"],
                           ["b_clone", "f_first", "i_other"], ["g_nothing"]])
+
+    def test_a_round_is_not_too_long(self):
+        names = ["a_clone", "c_display", "d_constant", "e_from", "h_method"]
+        with unittest.mock.patch("tools.wrong_bodies.MOST_TOGETHER", 2):
+            groups = rounds([self.body(name) for name in names], self.folder)
+        self.assertEqual([[it.path.stem for it in group] for group in groups], [names[:2], names[2:4], names[4:]])
 
     def try_these(self, names, output):
         prover = Prover("\n".join(output))

@@ -17,6 +17,9 @@ from typing import NamedTuple
 
 JOBS = ["--jobs", "1"]
 
+# How many wrong bodies share a check at most. A check has one processor, so those of a large crate take several checks side by side.
+MOST_TOGETHER = 18
+
 FUNCTION = re.compile(r' *(?:pub(?:\(\w+\))? )?(?:const )?(?:extern "C" )?fn (\w+)')
 CONSTANT = re.compile(r"(?:pub(?:\(\w+\))? )?(?:const|static) (\w+):")
 TRAIT = re.compile(r"(?:pub(?:\(\w+\))? )?trait \w+")
@@ -153,6 +156,11 @@ class WrongBody:
         return found
 
 
+def wrong_bodies_of(folder):
+    """The wrong bodies of the crate in this folder."""
+    return [WrongBody(it) for it in sorted(folder.glob("must-fail/*.edit"))]
+
+
 def functions_in(folder):
     """The functions of the crate in this folder."""
     types, paths = types_in(folder), sorted((folder / "src").rglob("*.rt"))
@@ -176,12 +184,13 @@ def copy_with_holes(folder, room, proofs):
 
 
 def rounds(bodies, folder):
-    """The wrong bodies in groups: no two of a group change what one proof is of, and one that changes no function is alone."""
+    """The wrong bodies in groups: no two of a group change what one proof is of, and one that changes no function is alone. A group
+    has at most `MOST_TOGETHER`."""
     groups = []
     for body in bodies:
         proofs = {it.proof for it in body.functions(folder)}
         for group, changed in groups:
-            if proofs and changed and not proofs & changed:
+            if len(group) < MOST_TOGETHER and proofs and changed and not proofs & changed:
                 group.append(body)
                 changed |= proofs
                 break

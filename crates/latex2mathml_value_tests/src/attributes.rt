@@ -2,7 +2,15 @@
 
 use latex2mathml_tokens::DisplayStyle;
 use latex2mathml_tokens::attribute::{Accent, ColumnAlign, LineThickness, Variant};
+use std::alloc::{AllocError, Global};
+use std::fmt::Display;
 use std::test::Fail;
+
+/// Whether the value prints as the text.
+fn prints<T: Display>(alloc: Global, value: &T, text: &str) -> Result<bool, AllocError> {
+    let printed = value.to_string(alloc)?;
+    Ok(printed.as_str() == text)
+}
 
 #[test]
 fn variants(rt: HostRuntime) -> Result<(), Fail> {
@@ -22,18 +30,27 @@ fn variants(rt: HostRuntime) -> Result<(), Fail> {
         (Variant::SansSerifBoldItalic, "sans-serif-bold-italic"),
         (Variant::Monospace, "monospace"),
     ] {
-        assert_eq!(rt; variant.to_string(rt.alloc())?.as_str(), text);
+        assert!(rt; prints(rt.alloc(), &variant, text)?, "{text}");
     }
     Ok(())
 }
 
 #[test]
-fn accents_and_displays(rt: HostRuntime) -> Result<(), Fail> {
-    let alloc = rt.alloc();
-    assert_eq!(rt; Accent::True.to_string(alloc)?.as_str(), "true");
-    assert_eq!(rt; Accent::False.to_string(alloc)?.as_str(), "false");
-    assert_eq!(rt; DisplayStyle::Block.to_string(alloc)?.as_str(), "block");
-    assert_eq!(rt; DisplayStyle::Inline.to_string(alloc)?.as_str(), "inline");
+fn accents(rt: HostRuntime) -> Result<(), Fail> {
+    for (accent, text) in [(Accent::True, "true"), (Accent::False, "false")] {
+        assert!(rt; prints(rt.alloc(), &accent, text)?, "{text}");
+    }
+    Ok(())
+}
+
+#[test]
+fn displays(rt: HostRuntime) -> Result<(), Fail> {
+    for (display, text) in [
+        (DisplayStyle::Block, "block"),
+        (DisplayStyle::Inline, "inline"),
+    ] {
+        assert!(rt; prints(rt.alloc(), &display, text)?, "{text}");
+    }
     Ok(())
 }
 
@@ -46,7 +63,7 @@ fn thicknesses(rt: HostRuntime) -> Result<(), Fail> {
         (LineThickness::Length(0), " linethickness=\"0\""),
         (LineThickness::Length(255), " linethickness=\"255\""),
     ] {
-        assert_eq!(rt; thickness.to_string(rt.alloc())?.as_str(), text);
+        assert!(rt; prints(rt.alloc(), &thickness, text)?, "{text}");
     }
     Ok(())
 }
@@ -58,7 +75,7 @@ fn aligns(rt: HostRuntime) -> Result<(), Fail> {
         (ColumnAlign::Left, " columnalign=\"left\""),
         (ColumnAlign::Right, " columnalign=\"right\""),
     ] {
-        assert_eq!(rt; align.to_string(rt.alloc())?.as_str(), text);
+        assert!(rt; prints(rt.alloc(), &align, text)?, "{text}");
     }
     Ok(())
 }

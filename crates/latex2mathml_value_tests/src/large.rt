@@ -18,22 +18,32 @@ fn repeated(alloc: Global, c: char, count: usize) -> Result<String, AllocError> 
     Ok(text)
 }
 
+/// A node inside a node of this kind, and that one inside another one, in the second place.
+fn in_pairs(alloc: Global, pair: Pair, x: Node) -> Result<Node, AllocError> {
+    let x = pair.of(alloc, x, leaf('a'))?;
+    pair.of(alloc, leaf('a'), x)
+}
+
+/// A node inside three nodes of this kind, each time in another place.
+fn in_triples(alloc: Global, triple: Triple, x: Node) -> Result<Node, AllocError> {
+    let x = triple.of(alloc, x, leaf('a'), leaf('b'))?;
+    let x = triple.of(alloc, leaf('a'), x, leaf('b'))?;
+    triple.of(alloc, leaf('a'), leaf('b'), x)
+}
+
 /// A node inside each kind that carries scripts or limits, in each of its places.
 fn scripted(alloc: Global, x: Node) -> Result<Node, AllocError> {
     let mut x = x;
     for pair in [Pair::Subscript, Pair::Superscript, Pair::Under] {
-        x = pair.of(alloc, x, leaf('a'))?;
-        x = pair.of(alloc, leaf('a'), x)?;
+        x = in_pairs(alloc, pair, x)?;
     }
     for triple in [Triple::SubSup, Triple::UnderOver] {
-        x = triple.of(alloc, x, leaf('a'), leaf('b'))?;
-        x = triple.of(alloc, leaf('a'), x, leaf('b'))?;
-        x = triple.of(alloc, leaf('a'), leaf('b'), x)?;
+        x = in_triples(alloc, triple, x)?;
     }
     Ok(x)
 }
 
-/// A node inside each other kind that holds one node or two, in each of its places.
+/// A node inside each other kind that holds one node.
 fn framed(alloc: Global, x: Node) -> Result<Node, AllocError> {
     let mut x = applied(alloc, "sin", x)?;
     for frame in [
@@ -46,14 +56,19 @@ fn framed(alloc: Global, x: Node) -> Result<Node, AllocError> {
     ] {
         x = frame.around(alloc, x)?;
     }
+    Ok(x)
+}
+
+/// A node inside each other kind that holds two nodes, in each of its places.
+fn paired(alloc: Global, x: Node) -> Result<Node, AllocError> {
+    let mut x = x;
     for pair in [
         Pair::Overset,
         Pair::Underset,
         Pair::Root,
         Pair::Fraction(LineThickness::Medium),
     ] {
-        x = pair.of(alloc, x, leaf('a'))?;
-        x = pair.of(alloc, leaf('a'), x)?;
+        x = in_pairs(alloc, pair, x)?;
     }
     Ok(x)
 }
@@ -119,7 +134,7 @@ fn deep_scripts_are_dropped(rt: HostRuntime) -> Result<(), Fail> {
 fn deep_frames_are_dropped(rt: HostRuntime) -> Result<(), Fail> {
     let mut x = leaf('x');
     for _ in 0..LEVELS {
-        x = framed(rt.alloc(), x)?;
+        x = paired(rt.alloc(), framed(rt.alloc(), x)?)?;
     }
     assert!(rt; matches!(&x, Node::Frac(..)));
     Ok(())
@@ -255,7 +270,8 @@ fn refusal(alloc: Global, size: usize) -> Result<LatexError, AllocError> {
 
 fn refusal_is_copied(alloc: Global, size: usize) -> Result<bool, AllocError> {
     let refusal = refusal(alloc, size)?;
-    Ok(refusal.clone(alloc)? == refusal)
+    let copy = refusal.clone(alloc)?;
+    Ok(copy == refusal)
 }
 
 /// Whether it prints.

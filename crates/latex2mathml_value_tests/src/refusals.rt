@@ -35,103 +35,122 @@ impl Named {
     }
 }
 
-/// Tokens that are expected and tokens that are got, and the text of the refusal.
-static UNEXPECTED: [(Named, Named, &str); 5] = [
+/// A refusal by plain values.
+#[derive(Clone, Copy)]
+enum Sample {
+    /// What is expected, and what is got.
+    Unexpected(Named, Named),
+    /// A parenthesis without text is expected, and a number is got.
+    UnexpectedNumber(&'static str),
+    /// Where a parenthesis is missing, and what is got.
+    Missing(Named, Named),
+    Environment(&'static str),
+    Dollars,
+    OutOfMemory,
+}
+
+impl Sample {
+    fn refusal(self, alloc: Global) -> Result<LatexError, AllocError> {
+        Ok(match self {
+            Sample::Unexpected(expected, got) => LatexError::UnexpectedToken {
+                expected: expected.token(),
+                got: got.token(),
+            },
+            Sample::UnexpectedNumber(digits) => LatexError::UnexpectedToken {
+                expected: Token::Paren(""),
+                got: Token::Number(String::from_str(alloc, digits)?),
+            },
+            Sample::Missing(location, got) => LatexError::MissingParensethis {
+                location: location.token(),
+                got: got.token(),
+            },
+            Sample::Environment(name) => {
+                LatexError::UnknownEnvironment(String::from_str(alloc, name)?)
+            }
+            Sample::Dollars => LatexError::InvalidNumberOfDollarSigns,
+            Sample::OutOfMemory => LatexError::OutOfMemory,
+        })
+    }
+}
+
+/// Refusals of each kind, all of them different, and the text of each.
+static SAMPLES: [(Sample, &str); 18] = [
     (
-        Named::RBrace,
-        Named::Eof,
+        Sample::Unexpected(Named::RBrace, Named::Eof),
         "The token \"RBrace\" is expected, but the token \"EOF\" is found.\"",
     ),
     (
-        Named::RBrace,
-        Named::LBrace,
+        Sample::Unexpected(Named::RBrace, Named::LBrace),
         "The token \"RBrace\" is expected, but the token \"LBrace\" is found.\"",
     ),
     (
-        Named::LBrace,
-        Named::Eof,
+        Sample::Unexpected(Named::LBrace, Named::Eof),
         "The token \"LBrace\" is expected, but the token \"EOF\" is found.\"",
     ),
     (
-        Named::Left,
-        Named::Eof,
+        Sample::Unexpected(Named::Left, Named::Eof),
         "The token \"Left\" is expected, but the token \"EOF\" is found.\"",
     ),
     (
-        Named::NoParenthesis,
-        Named::Eof,
+        Sample::Unexpected(Named::NoParenthesis, Named::Eof),
         "The token \"Paren(\"\")\" is expected, but the token \"EOF\" is found.\"",
     ),
-];
-
-/// Places where a parenthesis is missing and tokens that are got, and the text of the refusal.
-static MISSING: [(Named, Named, &str); 5] = [
     (
-        Named::Left,
-        Named::LessThan,
+        Sample::UnexpectedNumber("1"),
+        "The token \"Paren(\"\")\" is expected, but the token \"Number(\"1\")\" is found.\"",
+    ),
+    (
+        Sample::Missing(Named::Left, Named::LessThan),
         "There must be a parenthesis after \"Left\", but not found. Insted, \"Operator('<')\" is found.",
     ),
     (
-        Named::Middle,
-        Named::Eof,
+        Sample::Missing(Named::Middle, Named::Eof),
         "There must be a parenthesis after \"Middle\", but not found. Insted, \"EOF\" is found.",
     ),
     (
-        Named::Left,
-        Named::Eof,
+        Sample::Missing(Named::Left, Named::Eof),
         "There must be a parenthesis after \"Left\", but not found. Insted, \"EOF\" is found.",
     ),
     (
-        Named::Right,
-        Named::Eof,
+        Sample::Missing(Named::Right, Named::Eof),
         "There must be a parenthesis after \"Right\", but not found. Insted, \"EOF\" is found.",
     ),
     (
-        Named::Left,
-        Named::Right,
+        Sample::Missing(Named::Left, Named::Right),
         "There must be a parenthesis after \"Left\", but not found. Insted, \"Right\" is found.",
     ),
+    (
+        Sample::Environment("foo"),
+        "An unknown environment \"foo\" is found",
+    ),
+    (
+        Sample::Environment(""),
+        "An unknown environment \"\" is found",
+    ),
+    (
+        Sample::Environment("<\"\\&"),
+        "An unknown environment \"<\"\\&\" is found",
+    ),
+    (
+        Sample::Environment("a"),
+        "An unknown environment \"a\" is found",
+    ),
+    (
+        Sample::Environment("b"),
+        "An unknown environment \"b\" is found",
+    ),
+    (
+        Sample::Dollars,
+        "The number of dollar sings found is invalid.",
+    ),
+    (Sample::OutOfMemory, "Memory could not be found."),
 ];
 
-/// Names of environments, and the texts of their refusals.
-static ENVIRONMENTS: [(&str, &str); 5] = [
-    ("foo", "An unknown environment \"foo\" is found"),
-    ("", "An unknown environment \"\" is found"),
-    ("<\"\\&", "An unknown environment \"<\"\\&\" is found"),
-    ("a", "An unknown environment \"a\" is found"),
-    ("b", "An unknown environment \"b\" is found"),
-];
-
-/// All of them, and others that hold no token or a token's text.
 fn samples(alloc: Global) -> Result<Samples, AllocError> {
     let mut samples = Vec::new(alloc);
-    for (expected, got, text) in &UNEXPECTED {
-        let refusal = LatexError::UnexpectedToken {
-            expected: expected.token(),
-            got: got.token(),
-        };
-        samples.push((refusal, *text))?;
+    for (sample, text) in &SAMPLES {
+        samples.push((sample.refusal(alloc)?, *text))?;
     }
-    for (location, got, text) in &MISSING {
-        let refusal = LatexError::MissingParensethis {
-            location: location.token(),
-            got: got.token(),
-        };
-        samples.push((refusal, *text))?;
-    }
-    for (name, text) in &ENVIRONMENTS {
-        let name = String::from_str(alloc, name)?;
-        samples.push((LatexError::UnknownEnvironment(name), *text))?;
-    }
-    let refusal = LatexError::UnexpectedToken {
-        expected: Token::Paren(""),
-        got: Token::Number(String::from_str(alloc, "1")?),
-    };
-    let text = "The token \"Paren(\"\")\" is expected, but the token \"Number(\"1\")\" is found.\"";
-    samples.push((refusal, text))?;
-    let text = "The number of dollar sings found is invalid.";
-    samples.push((LatexError::InvalidNumberOfDollarSigns, text))?;
-    samples.push((LatexError::OutOfMemory, "Memory could not be found."))?;
     Ok(samples)
 }
 

@@ -131,9 +131,9 @@ pub fn applied(alloc: Global, name: &str, argument: Node) -> Result<Node, AllocE
 /// A letter, the end of a cell, the end of a row, or else the operator of this character.
 pub fn leaf(c: char) -> Node {
     match c {
-        'a'..='z' => Node::Letter(c, Variant::Italic),
         '&' => Node::Ampersand,
         '\n' => Node::NewLine,
+        c if c.is_ascii_lowercase() => Node::Letter(c, Variant::Italic),
         c => Node::Operator(c),
     }
 }
