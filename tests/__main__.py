@@ -13,16 +13,16 @@ import sys
 from tests.cases import WrongCase
 from tests.modules import Runs, every_name, module_of, name_of
 from tests.results import Counts
-from tests.steps import Copy, Library, Proofs
+from tests.steps import Copy, Library, Proofs, WrongBodies
 from tests.support import BUILD_NOTHING, ROOT, RUN, scratch
 from tools.progress import Screen, Stopwatch, clock
 
 
 def prove(screen):
-    """Proves everything, and builds the library for C from what was proved."""
-    with scratch() as folder:
-        proofs = Proofs(Copy(folder))
-        steps = [proofs, Library(proofs)]
+    """Proves everything, builds the library for C from what was proved, and tries the wrong bodies."""
+    with scratch() as folder, WrongBodies(folder) as wrong_bodies:
+        proofs = Proofs(Copy(folder), wrong_bodies)
+        steps = [proofs, Library(proofs), wrong_bodies]
         for step in steps:
             step.do(screen)
     return steps

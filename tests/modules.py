@@ -23,12 +23,14 @@ LIMIT = 900
 class Module:
     """A module of the tests, and what its cases came to.
 
-    In the module `ALONE = True` says that nothing may run beside it, and `LIMIT` how many seconds each of its classes has.
+    In the module `ALONE = True` says that nothing may run beside it, `LONG = True` that it is to begin before the others, and
+    `LIMIT` how many seconds each of its classes has.
     """
 
     name: str
     parts: list
     is_alone: bool = False
+    is_long: bool = False
     limit: int = LIMIT
     left: int = 0
     counts: Counts = dataclasses.field(default_factory=Counts)
@@ -60,7 +62,7 @@ def module_of(name):
         # the worker says why
         return Module(name, [name])
     parts = [name] if len(words) > 2 else classes_of(loaded)
-    return Module(name, parts, getattr(loaded, "ALONE", False), getattr(loaded, "LIMIT", LIMIT))
+    return Module(name, parts, getattr(loaded, "ALONE", False), getattr(loaded, "LONG", False), getattr(loaded, "LIMIT", LIMIT))
 
 
 def classes_of(module):
@@ -85,7 +87,7 @@ class Runs:
         self.is_stopped = False
 
     def run(self, modules):
-        beside = [it for it in modules if not it.is_alone]
+        beside = sorted((it for it in modules if not it.is_alone), key=lambda it: not it.is_long)
         alone = [it for it in modules if it.is_alone]
         for module in modules:
             module.left = len(module.parts)

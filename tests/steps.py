@@ -1,5 +1,5 @@
-"""The steps of `./test` before its cases: the proofs with the wrong bodies, and the library for C, which is made from what they
-built."""
+"""The steps of `./test` before its cases: the proofs, the library for C, which is made from what they built, and the wrong bodies,
+which begin beside both."""
 import concurrent.futures
 import functools
 import os
@@ -83,23 +83,19 @@ def counts_of(words, log, screen, *, on_line=lambda line: None, **how):
 
 
 class Proofs(Command):
-    """Everything from nothing: the proofs, the wrong bodies, the tests in Rattle, and a run of each program.
+    """Everything from nothing: the proofs, the tests in Rattle, and a run of each program.
 
-    `rt ci` checks a crate once for each wrong body that it finds. So it gets a copy of the crates that has none, and
-    `tools/try-wrong-body` tries those of a crate once `rt ci` has proved it.
+    `rt ci` checks a crate once for each wrong body that it finds. So it gets a copy of the crates that has none. Once it has proved
+    a crate, the wrong bodies of the crate begin.
     """
 
-    def __init__(self, copy):
-        super().__init__("proofs, wrong bodies and tests in Rattle", ["rt", "ci"])
-        self.copy, self.folder = copy, copy.folder
+    def __init__(self, copy, wrong_bodies):
+        super().__init__("proofs and tests in Rattle", ["rt", "ci"])
+        self.copy, self.folder, self.wrong_bodies = copy, copy.folder, wrong_bodies
         self.proved = set()
-        self.wrong_bodies = WrongBodies(copy.folder)
 
     def run(self, screen, watch):
-        with self.wrong_bodies:
-            super().run(screen, watch)
-            self.wrong_bodies.wait(screen, watch)
-        self.counts.add(self.wrong_bodies.counts)
+        super().run(screen, watch)
         for made in self.folder.glob("crates/*/out/*"):
             if made.is_file():
                 self.hand_over(made)
@@ -127,13 +123,13 @@ class Proofs(Command):
         screen.renew(f"    {len(self.proved)} of {len(listed())} crates  {watch}")
 
 
-class WrongBodies:
+class WrongBodies(Step):
     """Tries the wrong bodies of crates, beside what else runs. They get the processors that no proof needs: other crates wait for a
-    proof, and nothing waits for a wrong body."""
+    proof, and nothing waits for a wrong body. The step itself waits for those that have not ended."""
 
     def __init__(self, folder):
+        super().__init__("the last wrong bodies")
         self.folder = folder
-        self.counts = Counts()
         self.pool = concurrent.futures.ThreadPoolExecutor(len(os.sched_getaffinity(0)))
         self.trials, self.running = [], []
         self.is_over = False
@@ -169,8 +165,7 @@ class WrongBodies:
         screen.say(f"    {name}: wrong bodies: {counts}, {watch}")
         return counts
 
-    def wait(self, screen, watch):
-        """Waits until all that began has ended, and counts it."""
+    def run(self, screen, watch):
         while left := sum(not it.done() for it in self.trials):
             screen.renew(f"    wrong bodies: {len(self.trials) - left} of {len(self.trials)} checks  {watch}")
             concurrent.futures.wait(self.trials, timeout=1)

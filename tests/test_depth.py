@@ -11,6 +11,7 @@ from tests.productions import MISSING, PRODUCTIONS, WIDE
 
 # Seconds that the cases of a class may take.
 LIMIT = 1800
+LONG = True
 
 # the most memory that such a formula may take
 MOST_MEMORY = 600 << 20

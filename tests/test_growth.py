@@ -8,6 +8,8 @@ import unittest
 from tests import faulty, support
 from tests.instructions import instructions
 
+LONG = True
+
 # Four times the text takes at most this many times as much.
 MOST_TIMES = 4.1
 # What every run takes, whatever its input.

@@ -9,7 +9,7 @@ import unittest.mock
 from tests import cases, samples
 from tests.modules import Module, Runs, classes_of, name_of
 from tests.results import Counts, Result, SKIP_NOTHING
-from tests.steps import Command, Copy, Library, Proofs, crates_below
+from tests.steps import Command, Copy, Library, Proofs, WrongBodies, crates_below
 from tests.support import ROOT, Case, run, scratch
 from tools.progress import Screen, clock
 
@@ -74,6 +74,13 @@ class Modules(unittest.TestCase):
         counts, _ = self.run_parts("Hangs", limit=1)
         self.assertEqual(counts, Counts(failed=1))
         self.assertLess(time.monotonic() - begun, 60)
+
+    def test_a_long_module_begins_first(self):
+        screen = io.StringIO()
+        short, long = (Module(name, ["tests.samples.Unready"], is_long=name == "long") for name in ("short", "long"))
+        with unittest.mock.patch("os.sched_getaffinity", return_value={0}):
+            Runs(Screen(screen)).run([short, long])
+        self.assertLess(screen.getvalue().index("\nlong: "), screen.getvalue().index("\nshort: "))
 
     def test_a_module_without_a_case(self):
         self.assertEqual(self.run_parts()[0], Counts(failed=1))
@@ -182,17 +189,20 @@ class Proving(unittest.TestCase):
         (self.root / name).chmod(0o755)
 
     def prove(self):
-        proofs = Proofs(Copy(self.enterContext(scratch())))
-        proofs.words = [self.root / "rt"]
         self.screen = io.StringIO()
-        proofs.do(Screen(self.screen))
+        with scratch() as folder, WrongBodies(folder) as wrong_bodies:
+            proofs = Proofs(Copy(folder), wrong_bodies)
+            proofs.words = [self.root / "rt"]
+            for step in (proofs, wrong_bodies):
+                step.do(Screen(self.screen))
         return proofs
 
     def test_the_wrong_bodies_of_what_is_proved_are_tried(self):
         proofs = self.prove()
         self.assertEqual(proofs.proved, {"one"})
         self.assertEqual(self.tried.read_text(), "one/a\n")
-        self.assertEqual(proofs.counts, Counts(passed=5), self.screen.getvalue())
+        self.assertEqual(proofs.counts, Counts(passed=3), self.screen.getvalue())
+        self.assertEqual(proofs.wrong_bodies.counts, Counts(passed=2), self.screen.getvalue())
         self.assertIn("    one: wrong bodies: 2 passed, 0 failed, 0:00\n", self.screen.getvalue())
 
     def test_wrong_bodies_that_change_one_function_are_tried_side_by_side(self):
@@ -205,25 +215,25 @@ class Proving(unittest.TestCase):
         with unittest.mock.patch("os.sched_getaffinity", return_value={0, 1}):
             proofs = self.prove()
         self.assertEqual(sorted(self.tried.read_text().split()), ["one/a", "one/b"])
-        self.assertEqual(proofs.counts, Counts(passed=7), self.screen.getvalue())
+        self.assertEqual(proofs.wrong_bodies.counts, Counts(passed=4), self.screen.getvalue())
         for number in (1, 2):
             self.assertIn(f"    one, check {number} of 2: wrong bodies: 2 passed, 0 failed, 0:00\n", self.screen.getvalue())
 
     def test_wrong_bodies_that_fail(self):
         for text, counts in [
-            ("echo must-fail one/a.edit: NOT REFUSED; echo 1 passed, 1 failed; exit 1", Counts(4, 1)),
-            ("echo the words; exit 2", Counts(3, 1)),
-            ("kill -9 $$", Counts(3, 1)),
+            ("echo must-fail one/a.edit: NOT REFUSED; echo 1 passed, 1 failed; exit 1", Counts(1, 1)),
+            ("echo the words; exit 2", Counts(0, 1)),
+            ("kill -9 $$", Counts(0, 1)),
         ]:
             with self.subTest(text):
                 self.program("tools/try-wrong-body", f"#!/bin/sh\n{text}\n")
-                self.assertEqual(self.prove().counts, counts)
+                self.assertEqual(self.prove().wrong_bodies.counts, counts)
                 self.assertIn("one: wrong bodies: ", self.screen.getvalue())
 
     def test_an_interrupt_ends_them(self):
         self.program("tools/try-wrong-body", "#!/bin/sh\nexec sleep 100\n")
         begun = time.monotonic()
-        with unittest.mock.patch("tests.steps.WrongBodies.wait", side_effect=KeyboardInterrupt), self.assertRaises(KeyboardInterrupt):
+        with unittest.mock.patch("tests.steps.WrongBodies.run", side_effect=KeyboardInterrupt), self.assertRaises(KeyboardInterrupt):
             self.prove()
         self.assertLess(time.monotonic() - begun, 30)
 

@@ -30,6 +30,8 @@ AGAIN = """
 import json, sys
 import markdown
 
+LONG = True
+
 md = markdown.Markdown(extensions=["latex2mathml"])
 print(json.dumps([md.reset().convert(text) for text in json.load(sys.stdin)]))
 """

@@ -9,6 +9,8 @@ import unittest
 from tests.integration import UNCLOSED, answer_of
 from tests.support import ROOT, Case, c_library, requires, run, scratch
 
+LONG = True
+
 PACKAGES = pathlib.Path("/usr/share/nodejs")  # Debian's
 
 # Reads [function of the module, arguments] and prints the result, or the error's class, name, code and message.

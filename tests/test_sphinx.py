@@ -5,6 +5,8 @@ import unittest
 from tests.environments import environment, requires_python, run_python
 from tests.support import ROOT, Case, scratch
 
+LONG = True
+
 CONF = """
 extensions = ["latex2mathml_proved.sphinx"]
 html_math_renderer = "latex2mathml"
