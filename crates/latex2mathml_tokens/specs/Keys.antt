@@ -1,4 +1,4 @@
--- The key of a name: its first eight bytes as a number, with zeros behind its end.
+-- The key of a name: its first eight bytes as a number, with zeros after its end.
 use Rattle.std.specs.Prelude.{ℕ, zero, suc, ◌+◌, ◌*◌, List, Bool, true, ◌&&◌, get_or, nat_eq, nat_lt}
 use Rattle.latex2mathml_tokens.specs.declared.token.meaning.Entry.{Entry}
 

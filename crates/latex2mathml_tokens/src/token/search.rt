@@ -106,7 +106,7 @@ fn compare(key: u64, name: &str, entry: &Entry, comparisons: &mut u64) -> Orderi
     name.cmp(entry.name)
 }
 
-/// The key of a name: its first eight bytes as a number, with zeros behind its end.
+/// The key of a name: its first eight bytes as a number, with zeros after its end.
 #[inline(always)]
 fn key_of(name: &str) -> u64
     ensures { IsTrue (is_key result name.now) }
@@ -121,7 +121,7 @@ fn key_of(name: &str) -> u64
     key
 }
 
-/// The byte at this place, or zero behind the end.
+/// The byte at this place, or zero after the end.
 #[inline(always)]
 fn byte_at(bytes: &[u8], place: usize) -> u64
     ensures value { result ≡ get_or bytes.now place 0 }
