@@ -6,6 +6,7 @@
 
 The last line is 'N passed, M failed', and the status is 1 if a case failed.
 """
+import contextlib
 import os
 import signal
 import sys
@@ -18,14 +19,18 @@ from tests.support import BUILD_NOTHING, ROOT, RUN, scratch
 from tools.progress import Screen, Stopwatch, clock
 
 
-def prove(screen):
-    """Proves everything, builds the library for C from what was proved, and tries the wrong bodies."""
-    with scratch() as folder, WrongBodies(folder) as wrong_bodies:
-        proofs = Proofs(Copy(folder), wrong_bodies)
-        steps = [proofs, Library(proofs), wrong_bodies]
-        for step in steps:
-            step.do(screen)
-    return steps
+@contextlib.contextmanager
+def proving(screen):
+    """Proves everything, and builds the library for C from what was proved. The block, which gets the steps, runs beside the last
+    wrong bodies."""
+    with scratch() as folder:
+        copy = Copy(folder)
+        with Library(copy) as library, WrongBodies(folder) as wrong_bodies:
+            proofs = Proofs(copy, [library, wrong_bodies])
+            proofs.do(screen)
+            library.do(screen)
+            yield [proofs, library, wrong_bodies]
+            wrong_bodies.do(screen)
 
 
 def try_modules(names, screen, renews=True):
@@ -36,10 +41,10 @@ def try_modules(names, screen, renews=True):
 
 
 def everything(screen):
-    steps = prove(screen)
-    # from here on, the tests use only what was proved and built
-    os.environ[BUILD_NOTHING] = "1"
-    modules, failures = try_modules(every_name(), screen)
+    with proving(screen) as steps:
+        # from here on, the tests use only what was proved and built
+        os.environ[BUILD_NOTHING] = "1"
+        modules, failures = try_modules(every_name(), screen)
     return [*steps, *modules], failures
 
 
@@ -50,7 +55,8 @@ def main(words):
     with scratch() as folder:
         os.environ[RUN] = str(folder)
         if words == ["proofs"]:
-            steps, failures = prove(screen), []
+            with proving(screen) as steps:
+                failures = []
         elif words:
             # a build that they need shows its own progress
             steps, failures = try_modules([name_of(word) for word in words], screen, renews=False)

@@ -1,11 +1,10 @@
-"""The steps of `./test` before its cases: the proofs, the library for C, which is made from what they built, and the wrong bodies,
-which begin beside both."""
+"""The steps of `./test` that prove: the proofs, the library for C, which is made from what they built, and the wrong bodies. The
+last two begin beside the proofs."""
 import concurrent.futures
 import functools
 import os
 import pathlib
 import re
-import resource
 import shutil
 import time
 
@@ -29,11 +28,11 @@ class Step:
         self.counts = Counts()
 
     def do(self, screen):
-        watch, before = Stopwatch(), spent_by_children()
+        watch = Stopwatch()
         screen.say(f"{self.name}")
         self.run(screen, watch)
         screen.clear()
-        self.seconds, self.spent = watch.seconds(), spent_by_children() - before
+        self.seconds = watch.seconds()
         screen.say(f"    {self.counts}, {watch}")
 
     def run(self, screen, watch):
@@ -53,7 +52,10 @@ class Command(Step):
     def run(self, screen, watch):
         screen.say(f"    all that it prints is kept in {self.log}")
         self.counts = counts_of(self.words, self.log, screen, cwd=self.folder, on_line=lambda line: self.read(line, screen),
-                                on_second=lambda: self.renew(screen, watch))
+                                on_second=lambda: self.renew(screen, watch), on_end=self.took)
+
+    def took(self, spent):
+        self.spent = spent
 
     def read(self, line, screen):
         if line.startswith(("FAILED", "SKIPPED")):
@@ -86,12 +88,12 @@ class Proofs(Command):
     """Everything from nothing: the proofs, the tests in Rattle, and a run of each program.
 
     `rt ci` checks a crate once for each wrong body that it finds. So it gets a copy of the crates that has none. Once it has proved
-    a crate, the wrong bodies of the crate begin.
+    a crate, the steps beside it begin with the crate.
     """
 
-    def __init__(self, copy, wrong_bodies):
+    def __init__(self, copy, beside):
         super().__init__("proofs and tests in Rattle", ["rt", "ci"])
-        self.copy, self.folder, self.wrong_bodies = copy, copy.folder, wrong_bodies
+        self.copy, self.folder, self.beside = copy, copy.folder, beside
         self.proved = set()
 
     def run(self, screen, watch):
@@ -105,11 +107,7 @@ class Proofs(Command):
         place = ROOT / made.relative_to(self.folder)
         place.parent.mkdir(exist_ok=True)
         shutil.copy(made, place)
-        self.date(place)
-
-    def date(self, made):
-        """Gives a file the time of the copy, so that a source edited since then is newer."""
-        os.utime(made, (self.copy.time, self.copy.time))
+        self.copy.date(place)
 
     def read(self, line, screen):
         told = re.fullmatch(r"rt: (\w+)(: its tests are)? (proved|NOT PROVED).*", line)
@@ -117,21 +115,21 @@ class Proofs(Command):
             screen.say(f"    {line.removeprefix('rt: ')}")
         if told and told[3] == "proved" and not told[2]:
             self.proved.add(told[1])
-            self.wrong_bodies.begin(told[1], screen)
+            for step in self.beside:
+                step.begin(told[1], screen)
 
     def renew(self, screen, watch):
         screen.renew(f"    {len(self.proved)} of {len(listed())} crates  {watch}")
 
 
-class WrongBodies(Step):
-    """Tries the wrong bodies of crates, beside what else runs. They get the processors that no proof needs: other crates wait for a
-    proof, and nothing waits for a wrong body. The step itself waits for those that have not ended."""
+class Beside(Step):
+    """A step that begins beside the proofs, crate by crate, and then waits for what has not ended. If the run is interrupted, it ends
+    its commands."""
 
-    def __init__(self, folder):
-        super().__init__("the last wrong bodies")
-        self.folder = folder
-        self.pool = concurrent.futures.ThreadPoolExecutor(len(os.sched_getaffinity(0)))
-        self.trials, self.running = [], []
+    def __init__(self, name, at_once):
+        super().__init__(name)
+        self.pool = concurrent.futures.ThreadPoolExecutor(at_once)
+        self.tasks, self.running, self.times = [], [], []
         self.is_over = False
 
     def __enter__(self):
@@ -144,63 +142,88 @@ class WrongBodies(Step):
                 it.terminate()
         self.pool.shutdown(cancel_futures=True)
 
-    def on_start(self, trial):
-        self.running.append(trial)
+    def begin(self, crate, screen):
+        """Begins what is to be done for a crate that is proved."""
+        raise NotImplementedError
+
+    def submit(self, task, *arguments):
+        """Begins a task that returns its counts."""
+        self.tasks.append(self.pool.submit(task, *arguments))
+
+    def watching(self):
+        """What `follow` is to do with the commands of the tasks."""
+        return {"on_start": self.started, "on_end": self.times.append}
+
+    def started(self, command):
+        self.running.append(command)
         if self.is_over:
-            trial.terminate()
+            command.terminate()
+
+    def run(self, screen, watch):
+        while left := sum(not it.done() for it in self.tasks):
+            screen.renew(f"    {len(self.tasks) - left} of {len(self.tasks)}  {watch}")
+            concurrent.futures.wait(self.tasks, timeout=1)
+        for it in self.tasks:
+            self.counts.add(it.result())
+        self.spent = sum(self.times)
+
+
+class WrongBodies(Beside):
+    """Tries the wrong bodies of crates. They get the processors that nothing else needs: other crates wait for a proof, and nothing
+    waits for a wrong body."""
+
+    def __init__(self, folder):
+        super().__init__("the last wrong bodies", len(os.sched_getaffinity(0)))
+        self.folder = folder
 
     def begin(self, crate, screen):
-        """Begins to try those of a crate that is proved in the folder, each group that shares a check beside the others."""
+        """Begins to try those of the crate, each group that shares a check beside the others."""
         folder = ROOT / "crates" / crate
         groups = rounds(wrong_bodies_of(folder), folder)
         for number, group in enumerate(groups, 1):
             name = crate if len(groups) == 1 else f"{crate}, check {number} of {len(groups)}"
-            self.trials.append(self.pool.submit(self.try_group, crate, group, number, name, screen))
+            self.submit(self.try_group, crate, group, number, name, screen)
 
     def try_group(self, crate, group, number, name, screen):
         watch, log = Stopwatch(), OUT / f"wrong-bodies-{crate}-{number}.log"
         bodies = [f"{crate}/{it.path.stem}" for it in group]
-        words = ["nice", ROOT / "tools/try-wrong-body", "--proved", self.folder, *bodies]
-        counts = counts_of(words, log, screen, on_start=self.on_start)
+        words = ["nice", "-n", "19", ROOT / "tools/try-wrong-body", "--proved", self.folder, *bodies]
+        counts = counts_of(words, log, screen, **self.watching())
         screen.say(f"    {name}: wrong bodies: {counts}, {watch}")
         return counts
 
-    def run(self, screen, watch):
-        while left := sum(not it.done() for it in self.trials):
-            screen.renew(f"    wrong bodies: {len(self.trials) - left} of {len(self.trials)} checks  {watch}")
-            concurrent.futures.wait(self.trials, timeout=1)
-        for it in self.trials:
-            self.counts.add(it.result())
 
-
-class Library(Step):
+class Library(Beside):
     """The static library for C, built from the libraries as `rt ci` proved and built them: it keeps them as rlibs, and of a
     static library, which it proves too, it keeps nothing."""
 
     crate = "latex2mathml_c"
 
-    def __init__(self, proofs):
-        super().__init__("the library for C")
-        self.proofs = proofs
+    def __init__(self, copy):
+        super().__init__("the library for C", 1)
+        self.copy = copy
         self.log = OUT / "library-for-c.log"
 
-    def run(self, screen, watch):
-        below = crates_below(self.crate)
-        if not {self.crate, *below} <= self.proofs.proved:
-            screen.say("    it is not built, since it was not proved")
-            self.counts.failed += 1
-            return
-        proved = self.proofs.folder / "crates"
+    def begin(self, crate, screen):
+        if crate == self.crate:
+            self.submit(self.build, screen)
+
+    def build(self, screen):
+        proved = self.copy.folder / "crates"
         archive = ROOT / "crates" / self.crate / "out" / f"lib{self.crate}.a"
         archive.parent.mkdir(exist_ok=True)
-        status = follow(rattle_words(self.crate, below, proved, archive), self.log, on_second=lambda: screen.renew(f"    {watch}"),
-                        cwd=proved / self.crate)
-        if status:
+        words = rattle_words(self.crate, crates_below(self.crate), proved, archive)
+        if follow(words, self.log, cwd=proved / self.crate, **self.watching()):
             screen.say(end_of(self.log))
+            return Counts(failed=1)
+        self.copy.date(archive)
+        return Counts(passed=1)
+
+    def run(self, screen, watch):
+        super().run(screen, watch)
+        if not self.tasks:
+            screen.say("    it is not built, since it was not proved")
             self.counts.failed += 1
-            return
-        self.proofs.date(archive)
-        self.counts.passed += 1
 
 
 def rattle_words(crate, below, proved, archive):
@@ -246,7 +269,6 @@ class Copy:
             shutil.copy(ROOT / name, folder)
         shutil.copytree(ROOT / "crates", folder / "crates", ignore=shutil.ignore_patterns("out", "must-fail"))
 
-
-def spent_by_children():
-    used = resource.getrusage(resource.RUSAGE_CHILDREN)
-    return used.ru_utime + used.ru_stime
+    def date(self, made):
+        """Gives a file the time of the copy, so that a source edited since then is newer."""
+        os.utime(made, (self.time, self.time))

@@ -190,11 +190,13 @@ class Proving(unittest.TestCase):
 
     def prove(self):
         self.screen = io.StringIO()
-        with scratch() as folder, WrongBodies(folder) as wrong_bodies:
-            proofs = Proofs(Copy(folder), wrong_bodies)
-            proofs.words = [self.root / "rt"]
-            for step in (proofs, wrong_bodies):
-                step.do(Screen(self.screen))
+        with scratch() as folder:
+            copy = Copy(folder)
+            with Library(copy) as self.library, WrongBodies(folder) as self.wrong_bodies:
+                proofs = Proofs(copy, [self.library, self.wrong_bodies])
+                proofs.words = [self.root / "rt"]
+                for step in (proofs, self.library, self.wrong_bodies):
+                    step.do(Screen(self.screen))
         return proofs
 
     def test_the_wrong_bodies_of_what_is_proved_are_tried(self):
@@ -202,7 +204,7 @@ class Proving(unittest.TestCase):
         self.assertEqual(proofs.proved, {"one"})
         self.assertEqual(self.tried.read_text(), "one/a\n")
         self.assertEqual(proofs.counts, Counts(passed=3), self.screen.getvalue())
-        self.assertEqual(proofs.wrong_bodies.counts, Counts(passed=2), self.screen.getvalue())
+        self.assertEqual(self.wrong_bodies.counts, Counts(passed=2), self.screen.getvalue())
         self.assertIn("    one: wrong bodies: 2 passed, 0 failed, 0:00\n", self.screen.getvalue())
 
     def test_wrong_bodies_that_change_one_function_are_tried_side_by_side(self):
@@ -215,7 +217,7 @@ class Proving(unittest.TestCase):
         with unittest.mock.patch("os.sched_getaffinity", return_value={0, 1}):
             proofs = self.prove()
         self.assertEqual(sorted(self.tried.read_text().split()), ["one/a", "one/b"])
-        self.assertEqual(proofs.wrong_bodies.counts, Counts(passed=4), self.screen.getvalue())
+        self.assertEqual(self.wrong_bodies.counts, Counts(passed=4), self.screen.getvalue())
         for number in (1, 2):
             self.assertIn(f"    one, check {number} of 2: wrong bodies: 2 passed, 0 failed, 0:00\n", self.screen.getvalue())
 
@@ -227,7 +229,8 @@ class Proving(unittest.TestCase):
         ]:
             with self.subTest(text):
                 self.program("tools/try-wrong-body", f"#!/bin/sh\n{text}\n")
-                self.assertEqual(self.prove().wrong_bodies.counts, counts)
+                self.prove()
+                self.assertEqual(self.wrong_bodies.counts, counts)
                 self.assertIn("one: wrong bodies: ", self.screen.getvalue())
 
     def test_an_interrupt_ends_them(self):
@@ -243,11 +246,33 @@ class Proving(unittest.TestCase):
         self.assertEqual(sorted(it.name for it in out.iterdir()), ["old", "one"])
         self.assertLess((out / "one").stat().st_mtime, (self.root / "crates/one/src/lib.rt").stat().st_mtime)
 
+    def build(self, *words):
+        """Proves, with a command in place of the one that builds the library of `one`. It gets the path of the library."""
+        with unittest.mock.patch.object(Library, "crate", "one"), unittest.mock.patch("tests.steps.crates_below", return_value=[]), \
+                unittest.mock.patch("tests.steps.rattle_words", lambda crate, below, proved, archive: [*words, archive]):
+            self.prove()
+
+    def test_the_library_is_built_once_it_is_proved(self):
+        self.build("touch")
+        self.assertEqual(self.library.counts, Counts(passed=1))
+        archive = self.root / "crates/one/out/libone.a"
+        self.assertLess(archive.stat().st_mtime, (self.root / "crates/one/src/lib.rt").stat().st_mtime)
+
+    def test_a_library_that_cannot_be_built(self):
+        self.build("ls", "--the-words")
+        self.assertEqual(self.library.counts, Counts(failed=1))
+        self.assertIn("the-words", self.screen.getvalue())
+
     def test_a_library_that_is_not_proved_is_not_built(self):
-        step = Library(self.prove())
-        with unittest.mock.patch("tests.steps.crates_below", return_value=["one", "two"]):
-            step.do(Screen(self.screen))
-        self.assertEqual(step.counts, Counts(failed=1))
+        self.prove()
+        self.assertEqual(self.library.counts, Counts(failed=1))
+        self.assertIn("it is not built", self.screen.getvalue())
+
+    def test_the_processor_time_of_a_step_is_that_of_its_commands(self):
+        self.program("tools/try-wrong-body", "#!/bin/sh\nwhile test $((n += 1)) -lt 300000; do :; done\necho 1 passed, 0 failed\n")
+        proofs = self.prove()
+        self.assertGreater(self.wrong_bodies.spent, 0.1)
+        self.assertLess(proofs.spent, self.wrong_bodies.spent)
 
 
 class Test(Case):

@@ -1,4 +1,5 @@
 """Progress of long commands: a line that is updated in place on a terminal, and a file with what a command prints."""
+import os
 import pathlib
 import shutil
 import subprocess
@@ -48,9 +49,11 @@ class Screen:
         self.renew("")
 
 
-def follow(words, log, *, on_start=lambda process: None, on_line=lambda line: None, on_second=lambda: None, **how):
+def follow(words, log, *, on_start=lambda process: None, on_line=lambda line: None, on_second=lambda: None,
+           on_end=lambda spent: None, **how):
     """Runs a command to its end and returns its status. All that it prints goes to the file `log`. `on_start` is called with
-    the process, `on_line` with each line that it prints, and `on_second` once a second meanwhile."""
+    the process, `on_line` with each line that it prints, `on_second` once a second meanwhile, and `on_end` with the processor
+    seconds that it took."""
     log = pathlib.Path(log)
     log.parent.mkdir(parents=True, exist_ok=True)
     ended = threading.Event()
@@ -69,6 +72,9 @@ def follow(words, log, *, on_start=lambda process: None, on_line=lambda line: No
                 kept.write(line)
                 kept.flush()
                 on_line(line.rstrip("\n"))
+            _, status, used = os.wait4(running.pid, 0)
+            running.returncode = os.waitstatus_to_exitcode(status)
+            on_end(used.ru_utime + used.ru_stime)
         except BaseException:
             running.terminate()
             raise
