@@ -7,7 +7,8 @@ use Rattle.latex2mathml_formulas.specs.Openers.{opens}
 use Rattle.latex2mathml_formulas.specs.Unread.{GoesOn, OpensFor}
 use Rattle.latex2mathml_trees.specs.Print.{print}
 use Rattle.latex2mathml_trees.specs.Tree.{Tree}
-use Rattle.latex2mathml_parts.specs.Parts.{top, trees_in}
+use Rattle.latex2mathml_parts.specs.Forests.{trees_in}
+use Rattle.latex2mathml_parts.specs.Parts.{top}
 use Rattle.latex2mathml_tokens.specs.Lexemes.{lexeme_tok}
 use Rattle.latex2mathml_tokens.specs.Refusal.{refusal_of}
 use Rattle.latex2mathml_tokens.specs.Tok.{Tok}

@@ -92,7 +92,7 @@ fn append_node<'a>(
     ensures counted { Counted (opens (lexeme_tok lexeme.entry)) parser.old parser.new }
 {
     let Some(leaf) = symbol(lexeme) else {
-        parser.parts.make_room()?;
+        parser.parts.make_room(&mut parser.works)?;
         let state = parser.begin(lexeme)?;
         return append_rest(parser, state, markup);
     };
@@ -103,7 +103,7 @@ fn append_node<'a>(
             Ok(true)
         }
         Some(_) => {
-            parser.parts.make_room()?;
+            parser.parts.make_room(&mut parser.works)?;
             let state = parser.leaf(leaf)?;
             append_rest(parser, state, markup)
         }
@@ -121,7 +121,7 @@ fn append_rest(parser: &mut Parser, begun: State, markup: &mut String) -> Result
     if !is_read {
         return Ok(false);
     }
-    parser.parts.write(markup)?;
+    parser.parts.write(&mut parser.works, markup)?;
     parser.parts.clear();
     Ok(true)
 }

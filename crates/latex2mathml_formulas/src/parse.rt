@@ -9,7 +9,7 @@ ghost use Rattle.latex2mathml_formulas.specs.Grammar.{Read, Reads, Refused, core
 ghost use Rattle.latex2mathml_formulas.specs.Levels.{Leads, Made};
 ghost use Rattle.latex2mathml_formulas.specs.Steps.{Counted, Follows, HasTrees, Holds, end_of, level, trees_of_state, state_weight, to_do, frame_weight, work};
 ghost use Rattle.latex2mathml_formulas.specs.Unread.{token_list};
-ghost use Rattle.latex2mathml_parts.specs.Parts.{trees_in};
+ghost use Rattle.latex2mathml_parts.specs.Forests.{trees_in};
 ghost use Rattle.latex2mathml_tokens.specs.Lexemes.{lexeme_tok};
 ghost use Rattle.latex2mathml_tokens.specs.Refusal.{IfRefused, MissingParensethis};
 ghost use Rattle.latex2mathml_tokens.specs.Tok.{Tok, tok};
@@ -22,6 +22,7 @@ mod marks;
 use crate::reader::Reader;
 use frames::{Due, Frame, Frames};
 use latex2mathml_parts::parts::Parts;
+use latex2mathml_parts::work::Works;
 use latex2mathml_tokens::LatexError;
 use latex2mathml_tokens::lexeme::Lexeme;
 use latex2mathml_tokens::token::Token;
@@ -51,6 +52,8 @@ pub(crate) struct Parser<'a> {
     pub(crate) frames: Frames<'a>,
     /// The trees that were read.
     pub(crate) parts: Parts<'a>,
+    /// Room for the writer.
+    pub(crate) works: Works,
     /// Why the formula is refused. It lies here so that what each step returns is small.
     refusal: LatexError,
 }
@@ -71,6 +74,7 @@ impl<'a> Parser<'a> {
             reader: Reader::new(text),
             frames: Frames::new(alloc),
             parts: Parts::new(alloc),
+            works: Works::new(alloc),
             refusal: LatexError::OutOfMemory,
         }
     }

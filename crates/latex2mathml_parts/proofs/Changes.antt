@@ -6,7 +6,8 @@ use Rattle.latex2mathml_trees.specs.Productions.{group_tree, matrix_of, matrix_m
 use Rattle.latex2mathml_trees.specs.Tree.{Tree, matrix, row, no_trees, more_trees, trees_of}
 use Rattle.latex2mathml_tokens.specs.declared.attribute.ColumnAlign.{ColumnAlign}
 use Rattle.latex2mathml_tokens.specs.declared.attribute.Variant.{Variant}
-use Rattle.latex2mathml_parts.specs.Forms.{Stands, all_in, forest, put_form}
+use Rattle.latex2mathml_parts.specs.Forests.{Stands, forest}
+use Rattle.latex2mathml_parts.specs.Forms.{all_in, put_form}
 use Rattle.latex2mathml_parts.specs.Parts.{top}
 use Rattle.latex2mathml_parts.specs.declared.form.Form.TheVariants as form
 use Rattle.latex2mathml_parts.specs.declared.form.Part.{Part}

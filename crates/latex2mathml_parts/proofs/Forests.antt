@@ -6,7 +6,8 @@ use Rattle.std.proofs.Math.Seq.{take-suc, take-length, get_or-append_seam}
 use Rattle.std.proofs.Math.Nat.{eq-or-lt_of_le}
 use Rattle.std.proofs.Math.ListN.{get_or-append}
 use Rattle.latex2mathml_trees.specs.Tree.{Tree, function, undefined, words}
-use Rattle.latex2mathml_parts.specs.Forms.{AreWhole, HasText, Stands, arity_of, forest, forest_on, put_form}
+use Rattle.latex2mathml_parts.specs.Forests.{AreWhole, Stands, forest, forest_on}
+use Rattle.latex2mathml_parts.specs.Forms.{HasText, arity_of, put_form}
 use Rattle.latex2mathml_parts.specs.declared.form.Form.{Form}
 use Rattle.latex2mathml_parts.specs.declared.form.Form.TheVariants as form
 use Rattle.latex2mathml_parts.specs.declared.form.Part.{Part}
@@ -15,6 +16,11 @@ use Rattle.latex2mathml_parts.proofs.Puts.{form_length}
 pub forest_on-append : (texts : List (List ℕ)) (ts : List Tree) (ps qs : List Part) → forest_on texts ts (ps ++ qs) ≡ forest_on texts (forest_on texts ts ps) qs
 forest_on-append texts ts [] qs = refl
 forest_on-append texts ts (p ∷ ps) qs = forest_on-append texts (put_form texts p.form ts) ps qs
+
+-- a part of a whole list stands at its place
+pub part_stands : (texts : List (List ℕ)) (ps : List Part) (n : ℕ) (p : Part) → AreWhole texts ps → n < length ps → p ≡ slice_index_or ps n p → Stands texts ps n p
+unfolding AreWhole
+part_stands texts ps n p w h e = subst (Stands texts ps n) (sym e) (w n p h)
 
 -- the forest of one part more
 pub forest-more : (texts : List (List ℕ)) (ps : List Part) (n : ℕ) (d : Part) → n < length ps → forest texts (take (suc n) ps) ≡ put_form texts (slice_index_or ps n d).form (forest texts (take n ps))

@@ -7,12 +7,12 @@ use Rattle.std.specs.List.{flat_map}
 use Rattle.latex2mathml_trees.specs.Tree.{Tree, trees_of}
 use Rattle.latex2mathml_trees.specs.Weight.{weights}
 use Rattle.latex2mathml_tokens.specs.declared.attribute.Variant.{Variant}
+use Rattle.latex2mathml_parts.specs.Forests.{Forest}
 use Rattle.latex2mathml_parts.specs.Forms.{all_in}
 use Rattle.latex2mathml_parts.specs.Parts.{top}
 use Rattle.latex2mathml_parts.specs.Shapes.{print_weight}
 use Rattle.latex2mathml_parts.specs.Works.{AreIn, IsIn, due, work_print}
 use Rattle.latex2mathml_parts.specs.declared.work.Work.{Work}
-use Rattle.latex2mathml_parts.specs.declared.write.Writer.{Writer}
 use Rattle.latex2mathml_parts.proofs.Styles.{weights-in}
 
 pub sized_opened : (a v b c rest : List ℕ) → (a ++ (v ++ (b ++ (v ++ c)))) ++ rest ≡ a ++ (v ++ (b ++ (v ++ (c ++ rest))))
@@ -22,19 +22,19 @@ sized_opened a v b c rest =
 
 -- A work is put on the list, or taken from it.
 
-pub are_in-push : (w : Writer) (ks : List Work) (k : Work) → AreIn w ks → IsIn w k → AreIn w (ks ++ k ∷ [])
-are_in-push w [] k h i = (i, tt)
-are_in-push w (v ∷ ks) k h i = (h.0, are_in-push w ks k h.1 i)
+pub are_in-push : (f : Forest) (ks : List Work) (k : Work) → AreIn f ks → IsIn f k → AreIn f (ks ++ k ∷ [])
+are_in-push f [] k h i = (i, tt)
+are_in-push f (v ∷ ks) k h i = (h.0, are_in-push f ks k h.1 i)
 
-are_in-pop : (w : Writer) (ks : List Work) (k : Work) → AreIn w (ks ++ k ∷ []) → AreIn w ks × IsIn w k
-are_in-pop w [] k h = (tt, h.0)
-are_in-pop w (v ∷ ks) k h = let r = are_in-pop w ks k h.1 in ((h.0, r.0), r.1)
+are_in-pop : (f : Forest) (ks : List Work) (k : Work) → AreIn f (ks ++ k ∷ []) → AreIn f ks × IsIn f k
+are_in-pop f [] k h = (tt, h.0)
+are_in-pop f (v ∷ ks) k h = let r = are_in-pop f ks k h.1 in ((h.0, r.0), r.1)
 
-pub popped_in : (w : Writer) (ks vs : List Work) (k : Work) → ks ≡ vs ++ k ∷ [] → AreIn w ks → AreIn w vs × IsIn w k
-popped_in w ks vs k e h = are_in-pop w vs k (subst (AreIn w) e h)
+pub popped_in : (f : Forest) (ks vs : List Work) (k : Work) → ks ≡ vs ++ k ∷ [] → AreIn f ks → AreIn f vs × IsIn f k
+popped_in f ks vs k e h = are_in-pop f vs k (subst (AreIn f) e h)
 
-pub due-push : (w : Writer) (ks : List Work) (k : Work) → due w (ks ++ k ∷ []) ≡ work_print w k ++ due w ks
-due-push w ks k = ap (flat_map (work_print w)) (reverse-append ks (k ∷ []))
+pub due-push : (f : Forest) (ks : List Work) (k : Work) → due f (ks ++ k ∷ []) ≡ work_print f k ++ due f ks
+due-push f ks k = ap (flat_map (work_print f)) (reverse-append ks (k ∷ []))
 
 -- What is written, and what is put on the list, are the print together.
 

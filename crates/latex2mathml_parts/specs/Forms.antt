@@ -1,14 +1,12 @@
--- The list of the parts as trees.
-use Rattle.std.specs.Prelude.{◌≡◌, ℕ, ◌+◌, ◌-◌, ◌<◌, ◌≤◌, List, [], ◌∷◌, Option, Some, None, true, drop, length, reverse, map, slice_index_or, string_bytes, suc, take, String}
+-- What the entries of the list of parts make of the trees before them.
+use Rattle.std.specs.Prelude.{ℕ, ◌<◌, List, [], ◌∷◌, Option, Some, None, true, drop, length, reverse, slice_index_or, suc, take}
 use Rattle.std.specs.Char.{encode_utf8}
-use Rattle.std.specs.declared.alloc.Global.{Global}
 use Rattle.latex2mathml_trees.specs.Tree.{Tree, Trees, function, letter, matrix, row, slashed, stretched, undefined, words, no_trees, more_trees, trees_of}
 use Rattle.latex2mathml_tokens.specs.Names.{paren_text}
 use Rattle.latex2mathml_tokens.specs.declared.attribute.Variant.{Variant}
 use Rattle.latex2mathml_parts.specs.Parts.{arity, put, top}
 use Rattle.latex2mathml_parts.specs.declared.form.Form.{Form}
 use Rattle.latex2mathml_parts.specs.declared.form.Form.TheVariants as form
-use Rattle.latex2mathml_parts.specs.declared.form.Part.{Part}
 
 -- the variant of a letter in a style
 abbrev pub given : Option Variant → Variant → Variant
@@ -57,26 +55,3 @@ HasText texts (form.Name place) = place < length texts
 HasText texts (form.Words place) = place < length texts
 HasText texts (form.Undefined place) = place < length texts
 HasText texts f = Unit {0}
-
-abbrev pub forest_on : List (List ℕ) → List Tree → List Part → List Tree
-forest_on texts ts [] = ts
-forest_on texts ts (p ∷ ps) = forest_on texts (put_form texts p.form ts) ps
-
--- the trees of a list of parts, the last tree first
-abbrev pub forest : List (List ℕ) → List Part → List Tree
-forest texts = forest_on texts []
-
--- a part stands at this place after its operands, and its size leads to where they begin
-pub record Stands (texts : List (List ℕ)) (ps : List Part) (n : ℕ) (p : Part) : Type 0 where
-  pub text : HasText texts p.form
-  pub fits : arity_of p.form ≤ length (forest texts (take n ps))
-  pub some : 0 < p.size
-  pub within : p.size ≤ n + 1
-  pub below : forest texts (take (n + 1 - p.size) ps) ≡ drop (arity_of p.form) (forest texts (take n ps))
-
-unfoldable pub AreWhole : List (List ℕ) → List Part → Type 0
-AreWhole texts ps = (n : ℕ) (d : Part) → n < length ps → Stands texts ps n (slice_index_or ps n d)
-
--- the texts that stand aside, as their bytes
-abbrev pub aside : List (String Global) → List (List ℕ)
-aside = map string_bytes

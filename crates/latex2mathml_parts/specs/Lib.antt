@@ -1,7 +1,7 @@
 pub mod Environments
+pub mod Forests
 pub mod Forms
 pub mod Groups
 pub mod Parts
 pub mod Shapes
-pub mod TreeCodes
 pub mod Works

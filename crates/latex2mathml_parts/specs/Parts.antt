@@ -8,10 +8,6 @@ use Rattle.latex2mathml_tokens.specs.declared.names.Paren.{Paren}
 use Rattle.latex2mathml_parts.specs.declared.kind.Kind.{Kind}
 use Rattle.latex2mathml_parts.specs.declared.kind.Kind.TheVariants as kind
 
--- the trees of what was put, as contracts see them: the last first
-abbrev pub trees_in : List Tree → List Tree
-trees_in ts = ts
-
 -- the last tree
 abbrev pub top : List Tree → Tree
 top [] = ampersand

@@ -45,7 +45,7 @@ pub(crate) struct Part<'a> {
 impl<'a> Form<'a> {
     /// The form of a part whose tree is given a style.
     #[inline(always)]
-    pub(crate) fn styled(self, variant: Variant) -> Form<'a>
+    pub(crate) fn with_style(self, variant: Variant) -> Form<'a>
         ensures arity { arity_of result ≡ arity_of self.entry }
         ensures text { (texts : List (List ℕ)) → HasText texts self.entry → HasText texts result }
         ensures trees { (texts : List (List ℕ)) (ts : List Tree) → put_form texts result ts
@@ -60,7 +60,7 @@ impl<'a> Form<'a> {
 
     /// The form of a part whose tree grows with what stands around it, if the tree is an operator.
     #[inline(always)]
-    pub(crate) fn stretched(self) -> Option<Form<'a>>
+    pub(crate) fn stretch(self) -> Option<Form<'a>>
         ensures { MatchOption result
             ((texts : List (List ℕ)) (ts : List Tree) → stretched_operator (top (put_form texts self.entry ts)) ≡ None)
             (λ form. (arity_of self.entry ≡ 0) × (arity_of form ≡ 0)

@@ -1,14 +1,13 @@
 //! The parts of formulas in postfix order, and their markup.
 //!
 //! A parser puts each part after its operands, as it reads them. So the parts of a tree lie side by side in one list,
-//! and no part has memory of its own. Contracts see the list of the trees, the last first.
+//! and no part has memory of its own. Contracts speak of the list of the trees, the last first.
 #![tactic(auto)]
 
 mod change;
 mod environment;
 mod form;
 pub mod kind;
-mod list;
 pub mod parts;
-mod work;
+pub mod work;
 pub mod write;

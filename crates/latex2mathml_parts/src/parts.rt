@@ -1,21 +1,10 @@
-//! The list of the parts, and what is done to its last trees.
-ghost use Rattle.std.specs.Prelude.{◌≡◌, ◌<◌, ◌≤◌, ◌∷◌, [], Some, None, suc, IfOk, MatchBool, OnOk, drop, length, reverse, string_bytes, take};
-ghost use Rattle.latex2mathml_trees.specs.Productions.{environment_tree, group_tree, stretched_operator};
-ghost use Rattle.latex2mathml_trees.specs.Style.{styled};
-ghost use Rattle.latex2mathml_trees.specs.Tree.{Tree, function, slashed, undefined, words};
-ghost use Rattle.latex2mathml_tokens.specs.Lexemes.{lexeme_tok};
-ghost use Rattle.latex2mathml_tokens.specs.TokenText.{token_text};
-ghost use Rattle.latex2mathml_parts.specs.Parts.{arity, put, top, words_of};
+//! The list of the parts: where the trees in it stand, and how a part is put or replaced.
+ghost use Rattle.std.specs.Prelude.{◌≡◌, ◌-◌, ◌<◌, ◌≤◌, [], IfOk, OnOk, drop, length, slice_index_or, string_bytes};
+ghost use Rattle.latex2mathml_parts.specs.Forests.{IsPlace, Stands, trees_at, trees_in};
+ghost use Rattle.latex2mathml_parts.specs.Forms.{HasText, arity_of, put_form};
 
-use crate::change;
-use crate::change::name_below;
 use crate::form::{Form, Part};
-use crate::kind::Kind;
-use crate::list::{push, set_aside};
-use crate::work::Work;
-use latex2mathml_tokens::attribute::Variant;
-use latex2mathml_tokens::lexeme::Lexeme;
-use latex2mathml_tokens::token::text::TokenText;
+use crate::work::Works;
 use std::alloc::{AllocError, Global};
 use std::marker::Model;
 
@@ -23,58 +12,48 @@ use std::marker::Model;
 const ROOM: usize = 16;
 
 /// The parts of the trees that were read and are not yet written, in postfix order, with the texts that were spelled out.
-/// Contracts see the list of the trees, the last first.
+/// Contracts see both. By `trees_in`, they speak of the list of the trees, the last first.
 #[derive(Drop)]
 pub struct Parts<'a> {
-    alloc: Global,
-    pub(crate) list: Vec<Part<'a>>,
-    pub(crate) texts: Vec<String>,
-    /// Room for what is still to be written.
-    pub(crate) works: Vec<Work>,
+    pub(crate) alloc: Global,
+    list: Vec<Part<'a>>,
+    texts: Vec<String>,
 }
 
 impl<'a> Model for Parts<'a> {
-    ghost use Rattle.std.specs.Prelude.{List, map, string_bytes};
-    ghost use Rattle.latex2mathml_trees.specs.Tree.{Tree};
+    ghost use Rattle.latex2mathml_parts.specs.Forests.{AreWhole, Forest, aside};
 
-    ghost Value = { List Tree };
+    ghost Value = { Forest };
 
-    ghost use Rattle.latex2mathml_parts.specs.TreeCodes.{coded_trees};
+    ghost view = { λ p. record { texts = aside p.texts.items; list = p.list.items } };
 
-    ghost coded = { coded_trees };
-
-    ghost use Rattle.latex2mathml_parts.specs.Forms.{AreWhole, forest};
-
-    ghost view = { λ p. forest (map string_bytes p.texts.items) p.list.items };
-
-    ghost invariant = { λ p. AreWhole (map string_bytes p.texts.items) p.list.items };
+    ghost invariant = { λ p. AreWhole (aside p.texts.items) p.list.items };
 }
 
 impl<'a> Parts<'a> {
     /// No parts.
     pub fn new(alloc: Global) -> Parts<'a>
-        ensures { result ≡ [] }
+        ensures { trees_in result ≡ [] }
     {
         Parts {
             alloc,
             list: Vec::new(alloc),
             texts: Vec::new(alloc),
-            works: Vec::new(alloc),
         }
     }
 
     /// Asks for room for a node of common length at once, so that the lists do not grow for each part.
     #[inline(always)]
-    pub fn make_room(&mut self) -> Result<(), AllocError>
+    pub fn make_room(&mut self, works: &mut Works) -> Result<(), AllocError>
         ensures { self.new ≡ self.old }
     {
         self.list.reserve(ROOM)?;
-        self.works.reserve(ROOM)
+        works.list.reserve(ROOM)
     }
 
     /// Drops all parts, and keeps their room.
     pub fn clear(&mut self)
-        ensures { self.new ≡ [] }
+        ensures { trees_in self.new ≡ [] }
     {
         self.list.clear();
         self.texts.clear();
@@ -82,101 +61,94 @@ impl<'a> Parts<'a> {
 
     /// How many parts there are: at least as many as trees.
     pub fn len(&self) -> usize
-        ensures { length self.now ≤ result }
+        ensures count { result ≡ length self.now.list }
+        ensures trees { length (trees_in self.now) ≤ result }
     {
         self.list.as_slice().len()
     }
 
-    /// Puts a part after its operands, which are the last trees. It and they are one tree then.
+    /// A text that stands aside.
+    pub(crate) fn text(&self, place: usize) -> &str
+        requires { place < length self.now.texts }
+        ensures { result.now ≡ slice_index_or self.now.texts place [] }
+    {
+        self.texts[place].as_str()
+    }
+
+    /// The last of so many parts.
+    pub(crate) fn part_at(&self, end: usize) -> Part<'a>
+        requires { IsPlace self.now end }
+        ensures stands { Stands self.now.texts self.now.list (end - 1) result }
+        ensures trees { trees_at self.now end ≡ put_form self.now.texts result.form (trees_at self.now (end - 1)) }
+    {
+        self.list[end - 1]
+    }
+
+    /// The last part of all.
+    pub(crate) fn last(&self) -> Part<'a>
+        requires { 0 < length (trees_in self.now) }
+        ensures stands { Stands self.now.texts self.now.list (length self.now.list - 1) result }
+        ensures trees { trees_in self.now ≡ put_form self.now.texts result.form (trees_at self.now (length self.now.list - 1)) }
+    {
+        self.part_at(self.len())
+    }
+
+    /// Where the trees before the last of so many parts end.
+    pub(crate) fn before_last(&self, end: usize) -> usize
+        requires { IsPlace self.now end }
+        ensures trees { trees_at self.now result ≡ drop 1 (trees_at self.now end) }
+        ensures less { result < end }
+    {
+        end - self.part_at(end).size
+    }
+
+    /// Where the last trees begin, which are so many.
     #[inline(always)]
-    pub fn put(&mut self, kind: Kind<'a>) -> Result<(), AllocError>
-        requires { arity kind ≤ length self.old }
-        ensures { OnOk result (self.new ≡ put kind.entry self.old) }
+    pub(crate) fn before(&self, count: usize) -> usize
+        requires { count ≤ length (trees_in self.now) }
+        ensures trees { trees_at self.now result ≡ drop count (trees_in self.now) }
+        ensures within { result ≤ length self.now.list }
     {
-        push(kind.arity(), Form::Of(kind), &self.texts, &mut self.list)
+        let mut place = self.len();
+        let mut left = count;
+        'trees: while left > 0 {
+            place = self.before_last(place);
+            left -= 1;
+        }
+        place
     }
 
-    /// Puts a token that has no meaning where it stands. It is marked as an error.
-    #[inline(never)]
-    pub fn put_error(&mut self, lexeme: Lexeme<'a>) -> Result<(), AllocError>
-        ensures { OnOk result (self.new ≡ undefined (token_text (lexeme_tok lexeme.entry)) ∷ self.old) }
-    {
-        let token = lexeme.token(self.alloc)?;
-        let text = format!(in self.alloc; "{}", TokenText(&token))?;
-        let place = set_aside(text, &mut self.texts, &self.list)?;
-        push(0, Form::Undefined(place), &self.texts, &mut self.list)
-    }
-
-    /// Puts words.
-    pub fn put_words(&mut self, text: String) -> Result<(), AllocError>
-        ensures { OnOk result (self.new ≡ words (string_bytes text) ∷ self.old) }
-    {
-        let place = set_aside(text, &mut self.texts, &self.list)?;
-        push(0, Form::Words(place), &self.texts, &mut self.list)
-    }
-
-    /// Puts the name of a function that was spelled out.
-    pub fn put_function(&mut self, name: String) -> Result<(), AllocError>
-        ensures { OnOk result (self.new ≡ function (string_bytes name) ∷ self.old) }
-    {
-        let place = set_aside(name, &mut self.texts, &self.list)?;
-        push(0, Form::Name(place), &self.texts, &mut self.list)
-    }
-
-    /// Makes one tree of the last trees, which are so many: one is itself, none or several are a row.
+    /// Puts a part after its operands.
     #[inline(always)]
-    pub fn group(&mut self, count: usize) -> Result<(), AllocError>
-        requires { count ≤ length self.old }
-        ensures { OnOk result (self.new ≡ group_tree (reverse (take count self.old)) ∷ drop count self.old) }
+    pub(crate) fn push(&mut self, arity: usize, form: Form<'a>) -> Result<(), AllocError>
+        requires arity { arity ≡ arity_of form }
+        requires text { HasText self.old.texts form }
+        requires all { arity ≤ length (trees_in self.old) }
+        ensures { OnOk result (trees_in self.new ≡ put_form self.old.texts form.entry (trees_in self.old)) }
     {
-        change::group(count, &self.texts, &mut self.list)
+        let size = self.len() - self.before(arity) + 1;
+        self.list.push(Part { form, size })?;
+        Ok(())
     }
 
-    /// Gives the last tree a style.
-    #[inline(always)]
-    pub fn give_style(&mut self, variant: Variant)
-        requires { 0 < length self.old }
-        ensures { self.new ≡ styled variant (top self.old) ∷ drop 1 self.old }
+    /// Puts another part in place of the last.
+    pub(crate) fn replace_last(&mut self, part: Part<'a>)
+        requires some { 0 < length (trees_in self.old) }
+        requires stands { Stands self.old.texts self.old.list (length self.old.list - 1) part }
+        ensures { trees_in self.new ≡ put_form self.old.texts part.entry.form (trees_at self.old (length self.old.list - 1)) }
     {
-        change::restyle(variant, &self.texts, &mut self.list);
+        let last = self.list.as_slice().len() - 1;
+        self.list[last] = part;
     }
 
-    /// Puts a slash through the last tree.
-    pub fn slash(&mut self) -> Result<(), AllocError>
-        requires { 0 < length self.old }
-        ensures { OnOk result (self.new ≡ slashed (top self.old) ∷ drop 1 self.old) }
+    /// Sets a text aside, and returns its place.
+    pub(crate) fn set_aside(&mut self, text: String) -> Result<usize, AllocError>
+        ensures trees { trees_in self.new ≡ trees_in self.old }
+        ensures place { IfOk result (λ place. (place < length self.new.texts)
+            × (slice_index_or self.new.texts place [] ≡ string_bytes text)) }
     {
-        push(1, Form::Slashed, &self.texts, &mut self.list)
-    }
-
-    /// Lets the last tree grow with what stands around it, and returns whether it is an operator that does.
-    pub fn stretch(&mut self) -> bool
-        requires { 0 < length self.old }
-        ensures { MatchBool result
-            ((x : Tree) × (stretched_operator (top self.old) ≡ Some x) × (self.new ≡ x ∷ drop 1 self.old))
-            ((stretched_operator (top self.old) ≡ None) × (self.new ≡ self.old)) }
-    {
-        change::stretch(&self.texts, &mut self.list)
-    }
-
-    /// Makes an environment of the last trees, which are so many, and of its name, which stands below them as words.
-    /// Returns whether there is an environment of this name.
-    pub fn environment(&mut self, count: usize) -> Result<bool, AllocError>
-        requires { count < length self.old }
-        ensures { IfOk result (λ made. MatchBool made
-            ((x : Tree) × (environment_tree (words_of (top (drop count self.old))) (group_tree (reverse (take count self.old))) ≡ Some x)
-            × (self.new ≡ x ∷ drop (suc count) self.old))
-            ((environment_tree (words_of (top (drop count self.old))) (group_tree (reverse (take count self.old))) ≡ None)
-            × (self.new ≡ self.old))) }
-    {
-        change::environment(count, &self.texts, &mut self.list)
-    }
-
-    /// The words below the last trees, which are so many. It is empty where no words stand there.
-    pub fn name(&self, count: usize) -> &str
-        requires { count < length self.now }
-        ensures { result.now ≡ words_of (top (drop count self.now)) }
-    {
-        name_below(count, &self.texts, &self.list)
+        let place = self.texts.len();
+        self.texts.push(text)?;
+        Ok(place)
     }
 }

@@ -1,6 +1,22 @@
 //! What is still to be written.
 
 use latex2mathml_tokens::attribute::{Accent, Variant};
+use std::alloc::Global;
+
+/// Room for what is still to be written, which one formula leaves to the next.
+#[derive(Drop)]
+pub struct Works {
+    pub(crate) list: Vec<Work>,
+}
+
+impl Works {
+    /// No room yet.
+    pub fn new(alloc: Global) -> Works {
+        Works {
+            list: Vec::new(alloc),
+        }
+    }
+}
 
 /// What is still to be written.
 #[derive(Clone, Copy)]

@@ -2,10 +2,11 @@
 ghost use Rattle.std.specs.Prelude.{◌≡◌, ◌+◌, ◌<◌, ◌≤◌, ◌++◌, [], IfOk, OnOk, length, string_bytes, None};
 ghost use Rattle.latex2mathml_trees.specs.Print.{print};
 ghost use Rattle.latex2mathml_trees.specs.Tree.{slashed};
-ghost use Rattle.latex2mathml_parts.specs.Forms.{HasText, arity_of, aside, forest, in_style, put_form};
+ghost use Rattle.latex2mathml_parts.specs.Forests.{IsPlace, tree_at, trees_at, trees_in};
+ghost use Rattle.latex2mathml_parts.specs.Forms.{HasText, arity_of, in_style, put_form};
 ghost use Rattle.latex2mathml_parts.specs.Parts.{arity, put, top};
 ghost use Rattle.latex2mathml_parts.specs.Shapes.{print_weight};
-ghost use Rattle.latex2mathml_parts.specs.Works.{AreIn, IsIn, IsNext, IsPlace, IsWhole, Leaves, Writes, tree_at, trees_at, work_print, work_weight};
+ghost use Rattle.latex2mathml_parts.specs.Works.{AreIn, IsIn, IsNext, Leaves, Writes, work_print, work_weight};
 
 mod fences;
 mod groups;
@@ -15,16 +16,15 @@ mod operands;
 mod shapes;
 mod tables;
 
-use crate::form::{Form, Part};
+use crate::form::Form;
 use crate::kind::Kind;
-use crate::list::part_at;
 use crate::parts::Parts;
-use crate::work::Work;
+use crate::work::{Work, Works};
 use crate::write::fences::Elements;
 use crate::write::groups::{Group, outer};
 use crate::write::leaves::{
-    given, write_brace, write_char, write_letter, write_operator, write_sign, write_slashed,
-    write_text,
+    letter_variant, write_brace, write_char, write_letter, write_operator, write_sign,
+    write_slashed, write_text,
 };
 use latex2mathml_tokens::attribute::Variant;
 use latex2mathml_trees::append::append_undefined;
@@ -32,39 +32,23 @@ pub use leaves::write_leaf;
 use std::alloc::AllocError;
 
 impl Parts<'_> {
-    /// Writes the markup of the last tree after the text. It does not recurse: what is still to be written stands in a
-    /// list. The only `Err` is out of memory, for the list or for the text.
-    pub fn write(&mut self, out: &mut String) -> Result<(), AllocError>
-        requires { 0 < length self.old }
-        ensures trees { self.new ≡ self.old }
-        ensures print { OnOk result (string_bytes out.new ≡ string_bytes out.old ++ print (top self.old)) }
+    /// Writes the markup of the last tree after the text. It does not recurse: what is still to be written stands in
+    /// `works`. The only `Err` is out of memory, for that list or for the text.
+    pub fn write(&self, works: &mut Works, out: &mut String) -> Result<(), AllocError>
+        requires { 0 < length (trees_in self.now) }
+        ensures { OnOk result (string_bytes out.new ≡ string_bytes out.old ++ print (top (trees_in self.now))) }
     {
-        self.works.clear();
-        let writer = Writer {
-            texts: self.texts.as_slice(),
-            list: self.list.as_slice(),
-        };
-        writer.write_last(&mut self.works, out)
+        works.list.clear();
+        self.write_last(&mut works.list, out)
     }
-}
 
-/// The parts that are written, and the texts that stand aside. What is still to be written stands in a list of works.
-#[derive(Clone, Copy)]
-pub(crate) struct Writer<'w, 'a> {
-    pub(crate) texts: &'w [String],
-    pub(crate) list: &'w [Part<'a>],
-}
-
-impl Writer<'_, '_> {
     /// Writes the last tree of the list.
     fn write_last(&self, works: &mut Vec<Work>, out: &mut String) -> Result<(), AllocError>
-        requires whole { IsWhole self.now }
-        requires some { 0 < length self.now.list.now }
+        requires some { 0 < length (trees_in self.now) }
         requires empty { works.old.items ≡ [] }
-        ensures { OnOk result (string_bytes out.new
-            ≡ string_bytes out.old ++ print (top (forest (aside self.now.texts.now) self.now.list.now))) }
+        ensures { OnOk result (string_bytes out.new ≡ string_bytes out.old ++ print (top (trees_in self.now))) }
     {
-        self.push(Work::Tree(self.list.len(), None), works)?;
+        self.push_work(Work::Tree(self.len(), None), works)?;
         'works: while let Some(work) = works.pop() {
             self.write_work(work, works, out)?;
         }
@@ -79,7 +63,6 @@ impl Writer<'_, '_> {
         works: &mut Vec<Work>,
         out: &mut String,
     ) -> Result<(), AllocError>
-        requires whole { IsWhole self.now }
         requires one { IsIn self.now work }
         requires inside { AreIn self.now works.old.items }
         ensures print { OnOk result (Writes self.now (string_bytes out.old) works.old.items (work_print self.now work)
@@ -105,7 +88,6 @@ impl Writer<'_, '_> {
         works: &mut Vec<Work>,
         out: &mut String,
     ) -> Result<(), AllocError>
-        requires whole { IsWhole self.now }
         requires place { IsPlace self.now end }
         requires inside { AreIn self.now works.old.items }
         ensures print { OnOk result (Writes self.now (string_bytes out.old) works.old.items
@@ -128,15 +110,13 @@ impl Writer<'_, '_> {
         works: &mut Vec<Work>,
         out: &mut String,
     ) -> Result<Option<usize>, AllocError>
-        requires whole { IsWhole self.now }
         requires place { IsPlace self.now end }
         requires inside { AreIn self.now works.old.items }
         ensures print { IfOk result (Writes self.now (string_bytes out.old) works.old.items
             (print (in_style style (tree_at self.now end))) (string_bytes out.new) works.new.items) }
         ensures left { IfOk result (Leaves self.now works.old.items (print_weight (tree_at self.now end)) works.new.items) }
     {
-        let part = part_at(end, self.texts, self.list);
-        self.write_form(part.form, style, end - 1, works, out)
+        self.write_form(self.part_at(end).form, style, end - 1, works, out)
     }
 
     /// Writes what stands first of the tree of a part, after so many parts, and puts what follows on the list.
@@ -149,16 +129,15 @@ impl Writer<'_, '_> {
         works: &mut Vec<Work>,
         out: &mut String,
     ) -> Result<Option<usize>, AllocError>
-        requires whole { IsWhole self.now }
         requires fits { arity_of form ≤ length (trees_at self.now end) }
-        requires text { HasText (aside self.now.texts.now) form }
-        requires within { end ≤ length self.now.list.now }
+        requires text { HasText self.now.texts form }
+        requires within { end ≤ length self.now.list }
         requires inside { AreIn self.now works.old.items }
         ensures print { IfOk result (Writes self.now (string_bytes out.old) works.old.items
-            (print (in_style style (top (put_form (aside self.now.texts.now) form.entry (trees_at self.now end)))))
+            (print (in_style style (top (put_form self.now.texts form.entry (trees_at self.now end)))))
             (string_bytes out.new) works.new.items) }
         ensures left { IfOk result (Leaves self.now works.old.items
-            (print_weight (top (put_form (aside self.now.texts.now) form.entry (trees_at self.now end)))) works.new.items) }
+            (print_weight (top (put_form self.now.texts form.entry (trees_at self.now end)))) works.new.items) }
     {
         match form {
             Form::Of(kind) => self.write_kind(kind, style, end, works, out),
@@ -172,15 +151,15 @@ impl Writer<'_, '_> {
             }
             Form::Slashed => self.write_under_slash(end, works, out),
             Form::Name(place) => {
-                write_text("<mi>", self.texts[place].as_str(), "</mi>", out)?;
+                write_text("<mi>", self.text(place), "</mi>", out)?;
                 Ok(None)
             }
             Form::Words(place) => {
-                write_text("<mtext>", self.texts[place].as_str(), "</mtext>", out)?;
+                write_text("<mtext>", self.text(place), "</mtext>", out)?;
                 Ok(None)
             }
             Form::Undefined(place) => {
-                append_undefined(self.texts[place].as_str(), out)?;
+                append_undefined(self.text(place), out)?;
                 Ok(None)
             }
             Form::Stretched(c) => {
@@ -201,7 +180,6 @@ impl Writer<'_, '_> {
         works: &mut Vec<Work>,
         out: &mut String,
     ) -> Result<Option<usize>, AllocError>
-        requires whole { IsWhole self.now }
         requires place { IsPlace self.now end }
         requires inside { AreIn self.now works.old.items }
         ensures print { IfOk result (Writes self.now (string_bytes out.old) works.old.items
@@ -209,7 +187,7 @@ impl Writer<'_, '_> {
         ensures left { IfOk result (Leaves self.now works.old.items (print_weight (slashed (tree_at self.now end))) works.new.items) }
     {
         let _ = works;
-        if write_slashed(part_at(end, self.texts, self.list).form, out)? {
+        if write_slashed(self.part_at(end).form, out)? {
             return Ok(None);
         }
         Ok(Some(end))
@@ -226,9 +204,8 @@ impl Writer<'_, '_> {
         works: &mut Vec<Work>,
         out: &mut String,
     ) -> Result<Option<usize>, AllocError>
-        requires whole { IsWhole self.now }
         requires fits { arity kind ≤ length (trees_at self.now end) }
-        requires within { end ≤ length self.now.list.now }
+        requires within { end ≤ length self.now.list }
         requires inside { AreIn self.now works.old.items }
         ensures print { IfOk result (Writes self.now (string_bytes out.old) works.old.items
             (print (in_style style (top (put kind.entry (trees_at self.now end))))) (string_bytes out.new) works.new.items) }
@@ -236,7 +213,7 @@ impl Writer<'_, '_> {
     {
         match kind {
             Kind::Letter(c, own) => {
-                write_letter(c, given(style, own), out)?;
+                write_letter(c, letter_variant(style, own), out)?;
                 Ok(None)
             }
             Kind::Number(_)

@@ -8,7 +8,8 @@ ghost use Rattle.latex2mathml_formulas.specs.Openers.{opens};
 ghost use Rattle.latex2mathml_formulas.specs.Steps.{Counted, Follows, GoesOnBy, HasTrees, Holds, IsStretched, level, to_do};
 ghost use Rattle.latex2mathml_trees.specs.Productions.{fence_of};
 ghost use Rattle.latex2mathml_trees.specs.Tree.{undefined};
-ghost use Rattle.latex2mathml_parts.specs.Parts.{arity, fence_text, put, top, trees_in};
+ghost use Rattle.latex2mathml_parts.specs.Forests.{trees_in};
+ghost use Rattle.latex2mathml_parts.specs.Parts.{arity, fence_text, put, top};
 ghost use Rattle.latex2mathml_tokens.specs.Lexemes.{lexeme_tok};
 ghost use Rattle.latex2mathml_tokens.specs.Names.{limit_text, size_text};
 ghost use Rattle.latex2mathml_tokens.specs.TokenText.{token_text};
@@ -103,7 +104,7 @@ impl<'a> Parser<'a> {
                 Pair::Integral(c, Sign::Sup),
             ),
             Lexeme::Lim(name) => self.limit(name),
-            Lexeme::Big(size) => self.sized(size),
+            Lexeme::Big(size) => self.size_paren(size),
             Lexeme::Text => self.words(),
             Lexeme::OperatorName => self.function(),
             Lexeme::Slashed => self.slash(),
@@ -197,7 +198,7 @@ impl<'a> Parser<'a> {
     }
 
     /// A parenthesis of this size. It must stand next.
-    fn sized(&mut self, size: Size) -> Result<State, AllocError>
+    fn size_paren(&mut self, size: Size) -> Result<State, AllocError>
         requires { HasTrees 0 self.old }
         ensures holds { (input : List Tok) → GoesOnBy (takes_token (sized (size_text size))) 0 input self.old → IfOk result (Holds input self.new) }
         ensures counted { Counted 0 self.old self.new }

@@ -7,7 +7,8 @@ ghost use Rattle.latex2mathml_formulas.specs.Levels.{Leads, Made, Accepts, end_t
 ghost use Rattle.latex2mathml_formulas.specs.Steps.{Counted, Follows, GoesOnBy, HasTrees, Holds, last_tree_read, level, to_do, frame_weight};
 ghost use Rattle.latex2mathml_trees.specs.Productions.{stretched_operator};
 ghost use Rattle.latex2mathml_trees.specs.Tree.{Tree};
-ghost use Rattle.latex2mathml_parts.specs.Parts.{arity, fence_text, put, top, trees_in, words_of};
+ghost use Rattle.latex2mathml_parts.specs.Forests.{trees_in};
+ghost use Rattle.latex2mathml_parts.specs.Parts.{arity, fence_text, put, top, words_of};
 ghost use Rattle.latex2mathml_tokens.specs.Lexemes.{lexeme_tok};
 ghost use Rattle.latex2mathml_tokens.specs.Tok.{Tok};
 ghost use Rattle.latex2mathml_formulas.specs.declared.parse.frames.Due.{Due};
@@ -60,8 +61,8 @@ impl<'a> Parser<'a> {
                 Ok(State::Core)
             }
             Frame::Single(pair) => self.after_first(pair),
-            Frame::Slashed => self.slashed(),
-            Frame::Stretch(got) => self.stretched(got),
+            Frame::Slashed => self.end_slash(),
+            Frame::Stretch(got) => self.end_stretch(got),
             Frame::Script(sign) => {
                 self.parts.put(script(sign))?;
                 Ok(State::Part)
@@ -95,7 +96,7 @@ impl<'a> Parser<'a> {
     }
 
     /// Strikes the last tree through. The lexeme after it is skipped.
-    fn slashed(&mut self) -> Result<State, AllocError>
+    fn end_slash(&mut self) -> Result<State, AllocError>
         requires { HasTrees 1 self.old }
         ensures holds { (input : List Tok) → GoesOnBy (under_slash (top (trees_in self.old.parts))) 1 input self.old → IfOk result (Holds input self.new) }
         ensures counted { Counted 0 self.old self.new }
@@ -107,7 +108,7 @@ impl<'a> Parser<'a> {
     }
 
     /// Stretches the operator that is the last tree, or refuses the lexeme that stood after `\middle`.
-    fn stretched(&mut self, got: Lexeme<'a>) -> Result<State, AllocError>
+    fn end_stretch(&mut self, got: Lexeme<'a>) -> Result<State, AllocError>
         requires { HasTrees 1 self.old }
         ensures holds { (input : List Tok) → GoesOnBy (stretched_or_refused (lexeme_tok got.entry) (stretched_operator (top (trees_in self.old.parts)))) 1 input self.old → IfOk result (Holds input self.new) }
         ensures counted { Counted 0 self.old self.new }

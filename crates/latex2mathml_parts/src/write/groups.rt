@@ -2,16 +2,16 @@
 ghost use Rattle.std.specs.Prelude.{◌≡◌, ◌+◌, ◌<◌, ◌≤◌, ◌++◌, OnOk, length, reverse, string_bytes, sum_by, take, None};
 ghost use Rattle.latex2mathml_trees.specs.Print.{print};
 ghost use Rattle.latex2mathml_trees.specs.Tree.{trees_of};
+ghost use Rattle.latex2mathml_parts.specs.Forests.{IsPlace, tree_at, trees_at};
 ghost use Rattle.latex2mathml_parts.specs.Forms.{all_in, outer};
 ghost use Rattle.latex2mathml_parts.specs.Groups.{group_close, group_open, member_in, members_in, tree_of_group};
 ghost use Rattle.latex2mathml_parts.specs.Shapes.{print_weight};
-ghost use Rattle.latex2mathml_parts.specs.Works.{AreIn, IsIn, IsPlace, IsWhole, Leaves, Writes, due, load, tree_at, trees_at, work_print, work_weight};
+ghost use Rattle.latex2mathml_parts.specs.Works.{AreIn, IsIn, Leaves, Writes, due, load, work_print, work_weight};
 
 use crate::form::Form;
 use crate::kind::Kind;
-use crate::list::{before_last, part_at};
+use crate::parts::Parts;
 use crate::work::Work;
-use crate::write::Writer;
 use latex2mathml_tokens::attribute::{ColumnAlign, Variant};
 use std::alloc::AllocError;
 
@@ -56,7 +56,7 @@ pub(crate) fn outer(style: Option<Variant>, own: Option<Variant>) -> Option<Vari
     }
 }
 
-impl Writer<'_, '_> {
+impl Parts<'_> {
     /// Writes what stands before a group of so many trees, and puts them and what stands after them on the list.
     pub(crate) fn write_group(
         &self,
@@ -67,9 +67,8 @@ impl Writer<'_, '_> {
         works: &mut Vec<Work>,
         out: &mut String,
     ) -> Result<(), AllocError>
-        requires whole { IsWhole self.now }
         requires all { count ≤ length (trees_at self.now end) }
-        requires within { end ≤ length self.now.list.now }
+        requires within { end ≤ length self.now.list }
         requires inside { AreIn self.now works.old.items }
         ensures print { OnOk result (Writes self.now (string_bytes out.old) works.old.items
             (print (tree_of_group group (all_in style (trees_of (reverse (take count (trees_at self.now end)))))))
@@ -78,7 +77,7 @@ impl Writer<'_, '_> {
             (print_weight (tree_of_group group (all_in style (trees_of (reverse (take count (trees_at self.now end))))))) works.new.items None) }
     {
         out.push_str(group.open())?;
-        self.push(Work::Markup(group.close()), works)?;
+        self.push_work(Work::Markup(group.close()), works)?;
         self.push_members(group, count, style, end, works)?;
         Ok(())
     }
@@ -92,9 +91,8 @@ impl Writer<'_, '_> {
         end: usize,
         works: &mut Vec<Work>,
     ) -> Result<(), AllocError>
-        requires whole { IsWhole self.now }
         requires all { count ≤ length (trees_at self.now end) }
-        requires within { end ≤ length self.now.list.now }
+        requires within { end ≤ length self.now.list }
         requires inside { AreIn self.now works.old.items }
         ensures inside { OnOk result (AreIn self.now works.new.items) }
         ensures print { OnOk result (due self.now works.new.items
@@ -105,8 +103,8 @@ impl Writer<'_, '_> {
         let mut place = end;
         let mut left = count;
         'members: while left > 0 {
-            self.push(self.member(group, place, style), works)?;
-            place = before_last(place, self.texts, self.list);
+            self.push_work(self.member(group, place, style), works)?;
+            place = self.before_last(place);
             left -= 1;
         }
         Ok(())
@@ -114,7 +112,6 @@ impl Writer<'_, '_> {
 
     /// A member of a group: a tree, or in a matrix the end of a cell or of a row of the matrix.
     fn member(&self, group: Group, end: usize, style: Option<Variant>) -> Work
-        requires whole { IsWhole self.now }
         requires place { IsPlace self.now end }
         ensures inside { IsIn self.now result }
         ensures print { work_print self.now result ≡ member_in group style (tree_at self.now end) }
@@ -122,7 +119,7 @@ impl Writer<'_, '_> {
     {
         match group {
             Group::Row => Work::Tree(end, style),
-            Group::Matrix(_) => match part_at(end, self.texts, self.list).form {
+            Group::Matrix(_) => match self.part_at(end).form {
                 Form::Of(Kind::NewLine) => Work::Markup("</mtd></mtr><mtr><mtd>"),
                 Form::Of(Kind::Ampersand) => Work::Markup("</mtd><mtd>"),
                 _ => Work::Tree(end, style),
@@ -131,7 +128,7 @@ impl Writer<'_, '_> {
     }
 
     /// Puts a work on the list.
-    pub(crate) fn push(&self, work: Work, works: &mut Vec<Work>) -> Result<(), AllocError>
+    pub(crate) fn push_work(&self, work: Work, works: &mut Vec<Work>) -> Result<(), AllocError>
         requires one { IsIn self.now work }
         requires inside { AreIn self.now works.old.items }
         ensures inside { OnOk result (AreIn self.now works.new.items) }

@@ -51,7 +51,7 @@ pub fn write_leaf(kind: Kind, out: &mut String) -> Result<(), AllocError>
 }
 
 /// The variant of a letter in a style.
-pub(crate) fn given(style: Option<Variant>, own: Variant) -> Variant
+pub(crate) fn letter_variant(style: Option<Variant>, own: Variant) -> Variant
     ensures { result ≡ given style own }
 {
     match style {

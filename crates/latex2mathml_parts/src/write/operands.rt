@@ -2,20 +2,20 @@
 ghost use Rattle.std.specs.Prelude.{◌≡◌, ◌+◌, ◌<◌, ◌≤◌, ◌++◌, IfOk, OnOk, length, string_bytes, Option, Some};
 ghost use Rattle.latex2mathml_trees.specs.Print.{print};
 ghost use Rattle.latex2mathml_tokens.specs.declared.attribute.Variant.{Variant};
+ghost use Rattle.latex2mathml_parts.specs.Forests.{IsPlace, tree_at, trees_at};
 ghost use Rattle.latex2mathml_parts.specs.Forms.{in_style};
 ghost use Rattle.latex2mathml_parts.specs.Parts.{arity, put, top};
 ghost use Rattle.latex2mathml_parts.specs.Shapes.{count_of, opening, operands_print, operands_weight, print_weight};
-ghost use Rattle.latex2mathml_parts.specs.Works.{AreIn, IsIn, IsPlace, IsWhole, Leaves, Writes, due, load, tree_at, trees_at, work_print, work_weight};
+ghost use Rattle.latex2mathml_parts.specs.Works.{AreIn, IsIn, Leaves, Writes, due, load, work_print, work_weight};
 
 use crate::kind::Kind;
-use crate::list::before_last;
+use crate::parts::Parts;
 use crate::work::Work;
-use crate::write::Writer;
 use crate::write::leaves::write_operator;
 use crate::write::shapes::{Operands, Shape, shape_of};
 use std::alloc::AllocError;
 
-impl Writer<'_, '_> {
+impl Parts<'_> {
     /// Writes what stands first of the tree of a part with operands, after so many parts. Returns the operand that is
     /// next.
     #[inline(always)]
@@ -27,9 +27,8 @@ impl Writer<'_, '_> {
         out: &mut String,
     ) -> Result<Option<usize>, AllocError>
         requires some { 0 < arity kind }
-        requires whole { IsWhole self.now }
         requires fits { arity kind ≤ length (trees_at self.now end) }
-        requires within { end ≤ length self.now.list.now }
+        requires within { end ≤ length self.now.list }
         requires inside { AreIn self.now works.old.items }
         ensures print { IfOk result (λ next. (style : Option Variant) → Writes self.now (string_bytes out.old) works.old.items
             (print (in_style style (top (put kind.entry (trees_at self.now end))))) (string_bytes out.new) works.new.items next) }
@@ -49,9 +48,8 @@ impl Writer<'_, '_> {
         end: usize,
         works: &mut Vec<Work>,
     ) -> Result<usize, AllocError>
-        requires whole { IsWhole self.now }
         requires fits { count_of shape.operands ≤ length (trees_at self.now end) }
-        requires within { end ≤ length self.now.list.now }
+        requires within { end ≤ length self.now.list }
         requires after { IsIn self.now shape.after × (work_weight self.now shape.after ≡ 1) }
         requires inside { AreIn self.now works.old.items }
         ensures inside { OnOk result (AreIn self.now works.new.items) }
@@ -62,24 +60,24 @@ impl Writer<'_, '_> {
         ensures weight { IfOk result (λ next. load self.now works.new.items + print_weight (tree_at self.now next)
             < load self.now works.old.items + operands_weight shape.operands (trees_at self.now end) + 4) }
     {
-        self.push(shape.after, works)?;
+        self.push_work(shape.after, works)?;
         match shape.operands {
             Operands::One => Ok(end),
             Operands::Two => {
-                let first = before_last(end, self.texts, self.list);
-                self.push(Work::Tree(end, None), works)?;
+                let first = self.before_last(end);
+                self.push_work(Work::Tree(end, None), works)?;
                 Ok(first)
             }
             Operands::Swapped => {
-                let second = before_last(end, self.texts, self.list);
-                self.push(Work::Tree(second, None), works)?;
+                let second = self.before_last(end);
+                self.push_work(Work::Tree(second, None), works)?;
                 Ok(end)
             }
             Operands::Labelled(brace) => {
-                let first = before_last(end, self.texts, self.list);
-                self.push(Work::Tree(end, None), works)?;
-                self.push(Work::Operator(brace), works)?;
-                self.push(Work::Markup(shape.before), works)?;
+                let first = self.before_last(end);
+                self.push_work(Work::Tree(end, None), works)?;
+                self.push_work(Work::Operator(brace), works)?;
+                self.push_work(Work::Markup(shape.before), works)?;
                 Ok(first)
             }
         }

@@ -8,7 +8,7 @@ ghost use Rattle.latex2mathml_parts.specs.Parts.{arity, put, top};
 ghost use Rattle.latex2mathml_parts.specs.Shapes.{count_of, opening, operands_print, operands_weight, print_weight};
 ghost use Rattle.latex2mathml_parts.specs.Works.{IsIn, work_print, work_weight};
 ghost use Rattle.latex2mathml_parts.specs.declared.work.Work.{Work};
-ghost use Rattle.latex2mathml_parts.specs.declared.write.Writer.{Writer};
+ghost use Rattle.latex2mathml_parts.specs.Forests.{Forest};
 ghost use Rattle.latex2mathml_parts.specs.declared.write.shapes.Operands.{Operands};
 
 use crate::kind::Kind;
@@ -43,9 +43,9 @@ pub(crate) struct Shape {
 pub(crate) fn shape_of(kind: Kind) -> Shape
     requires { 0 < arity kind }
     ensures operands { count_of result.operands ≡ arity kind.entry }
-    ensures after { (w : Writer) → IsIn w result.after × (work_weight w result.after ≡ 1) }
-    ensures print { (w : Writer) (style : Option Variant) (ts : List Tree) → opening result.before.now result.sign
-        ++ operands_print result.operands result.before.now ts (work_print w result.after)
+    ensures after { (f : Forest) → IsIn f result.after × (work_weight f result.after ≡ 1) }
+    ensures print { (f : Forest) (style : Option Variant) (ts : List Tree) → opening result.before.now result.sign
+        ++ operands_print result.operands result.before.now ts (work_print f result.after)
         ≡ print (in_style style (top (put kind.entry ts))) }
     ensures weight { (ts : List Tree) → operands_weight result.operands ts + 4 ≤ print_weight (top (put kind.entry ts)) }
 {

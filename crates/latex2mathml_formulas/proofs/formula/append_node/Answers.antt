@@ -1,4 +1,4 @@
-use Rattle.latex2mathml_parts.specs.Parts.{trees_in}
+use Rattle.latex2mathml_parts.specs.Forests.{trees_in}
 use Rattle.latex2mathml_tokens.specs.Lexemes.{lexeme_tok}
 use Rattle.latex2mathml_formulas.proofs.Appending.{leaf_begun, leaf_read, node_begun}
 use Rattle.latex2mathml_formulas.proofs.formula.append_node.Goals as goal

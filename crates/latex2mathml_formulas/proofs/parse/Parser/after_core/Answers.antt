@@ -1,5 +1,6 @@
 use Rattle.latex2mathml_formulas.specs.Steps.{level}
-use Rattle.latex2mathml_parts.specs.Parts.{top, trees_in}
+use Rattle.latex2mathml_parts.specs.Forests.{trees_in}
+use Rattle.latex2mathml_parts.specs.Parts.{top}
 use Rattle.latex2mathml_formulas.proofs.Levels.{no_mark, no_prime}
 use Rattle.latex2mathml_formulas.proofs.parse.Parser.after_core.Goals as goal
 

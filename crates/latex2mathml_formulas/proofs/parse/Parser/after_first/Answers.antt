@@ -1,6 +1,6 @@
 use Rattle.std.proofs.Common.{ap, arith, length, ◌≤◌}
 use Rattle.latex2mathml_formulas.specs.Marks.{sign_token}
-use Rattle.latex2mathml_parts.specs.Parts.{trees_in}
+use Rattle.latex2mathml_parts.specs.Forests.{trees_in}
 use Rattle.latex2mathml_formulas.proofs.Delivering.{first_alone, second_due}
 use Rattle.latex2mathml_formulas.proofs.Signs.{sign_absent, sign_found}
 use Rattle.latex2mathml_formulas.proofs.parse.Parser.after_first.Goals as goal

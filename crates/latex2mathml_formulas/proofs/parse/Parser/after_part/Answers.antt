@@ -1,5 +1,5 @@
 use Rattle.std.proofs.Common.{drop}
-use Rattle.latex2mathml_parts.specs.Parts.{trees_in}
+use Rattle.latex2mathml_parts.specs.Forests.{trees_in}
 use Rattle.latex2mathml_formulas.proofs.Stacks.{taken_off}
 use Rattle.latex2mathml_formulas.proofs.parse.Parser.after_part.Goals as goal
 

@@ -3,7 +3,8 @@ use Rattle.latex2mathml_trees.specs.Productions.{prime_mark}
 use Rattle.latex2mathml_trees.specs.Tree.{superscript}
 use Rattle.latex2mathml_formulas.specs.Grammar.{single}
 use Rattle.latex2mathml_formulas.specs.Steps.{level}
-use Rattle.latex2mathml_parts.specs.Parts.{top, trees_in}
+use Rattle.latex2mathml_parts.specs.Forests.{trees_in}
+use Rattle.latex2mathml_parts.specs.Parts.{top}
 use Rattle.latex2mathml_formulas.specs.declared.parse.frames.Due.TheVariants as due
 use Rattle.latex2mathml_formulas.proofs.Combining.{made_put}
 use Rattle.latex2mathml_formulas.proofs.Levels.{passed, prime_taken}

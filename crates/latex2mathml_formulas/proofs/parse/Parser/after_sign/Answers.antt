@@ -3,7 +3,8 @@ use Rattle.latex2mathml_formulas.specs.Frames.{script, takes_script}
 use Rattle.latex2mathml_formulas.specs.Grammar.{gives, node}
 use Rattle.latex2mathml_formulas.specs.Levels.{Made}
 use Rattle.latex2mathml_formulas.specs.Steps.{level}
-use Rattle.latex2mathml_parts.specs.Parts.{top, trees_in}
+use Rattle.latex2mathml_parts.specs.Forests.{trees_in}
+use Rattle.latex2mathml_parts.specs.Parts.{top}
 use Rattle.latex2mathml_formulas.specs.declared.parse.frames.Due.TheVariants as due
 use Rattle.latex2mathml_formulas.proofs.Levels.{part_leads, passed, script_follows, sign_taken}
 use Rattle.latex2mathml_formulas.proofs.Stacks.{due_is_not}

@@ -3,7 +3,7 @@ use Rattle.latex2mathml_formulas.specs.Grammar.{Read, Reads, Refused, core, node
 use Rattle.latex2mathml_formulas.specs.Levels.{Made}
 use Rattle.latex2mathml_formulas.specs.Steps.{level}
 use Rattle.latex2mathml_trees.specs.Tree.{undefined}
-use Rattle.latex2mathml_parts.specs.Parts.{trees_in}
+use Rattle.latex2mathml_parts.specs.Forests.{trees_in}
 use Rattle.latex2mathml_tokens.specs.Refusal.{UnexpectedToken}
 use Rattle.latex2mathml_tokens.specs.Tok.{EOF}
 use Rattle.latex2mathml_tokens.specs.TokenText.{token_text}

@@ -91,7 +91,7 @@ returns-in-Lim-clause-holds c = λ input k.
 pub returns-in-Big-clause-holds : goal.returns-in-Big-clause-holds
 returns-in-Big-clause-holds c = λ input k.
     let l = level 0 input c.args.self.now in
-    c.sized.ensures.holds input (of_lexeme l _ _ _ c.in-Big.is k)
+    c.size_paren.ensures.holds input (of_lexeme l _ _ _ c.in-Big.is k)
 
 pub returns-in-Text-clause-holds : goal.returns-in-Text-clause-holds
 returns-in-Text-clause-holds c = λ input k.

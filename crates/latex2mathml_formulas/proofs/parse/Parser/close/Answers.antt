@@ -1,7 +1,7 @@
 use Rattle.std.proofs.Common.{ap, drop, reverse, take, ◌++◌, ◌∷◌, [], ◌∙◌}
 use Rattle.latex2mathml_formulas.specs.Grammar.{rule_gives}
 use Rattle.latex2mathml_trees.specs.Productions.{group_tree}
-use Rattle.latex2mathml_parts.specs.Parts.{trees_in}
+use Rattle.latex2mathml_parts.specs.Forests.{trees_in}
 use Rattle.latex2mathml_formulas.specs.declared.parse.frames.Frame.TheVariants.{Members}
 use Rattle.latex2mathml_formulas.specs.declared.parse.frames.Group.TheVariants.{Brace, Degree, Fence, Environment}
 use Rattle.latex2mathml_formulas.proofs.Combining.{core_put, group_closed}

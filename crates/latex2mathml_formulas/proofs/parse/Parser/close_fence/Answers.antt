@@ -4,7 +4,8 @@ use Rattle.latex2mathml_formulas.specs.Grammar.{core, gives, rule_gives}
 use Rattle.latex2mathml_formulas.specs.Levels.{Made}
 use Rattle.latex2mathml_trees.specs.Productions.{group_tree}
 use Rattle.latex2mathml_trees.specs.Tree.{fenced}
-use Rattle.latex2mathml_parts.specs.Parts.{fence_text, trees_in}
+use Rattle.latex2mathml_parts.specs.Forests.{trees_in}
+use Rattle.latex2mathml_parts.specs.Parts.{fence_text}
 use Rattle.latex2mathml_tokens.specs.Tok.{Right}
 use Rattle.latex2mathml_formulas.proofs.Delivering.{fences_put}
 use Rattle.latex2mathml_formulas.proofs.Signs.{fence_found, fence_missing, refused_at}

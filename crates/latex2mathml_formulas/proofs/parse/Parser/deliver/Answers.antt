@@ -1,6 +1,7 @@
 use Rattle.std.proofs.Common.{◌≡◌, ◌≤◌, ◌-◌, ◌+◌, ap, arith, drop, length, sym, ◌∙◌}
 use Rattle.latex2mathml_formulas.specs.Frames.{unfit}
-use Rattle.latex2mathml_parts.specs.Parts.{arity, trees_in}
+use Rattle.latex2mathml_parts.specs.Forests.{trees_in}
+use Rattle.latex2mathml_parts.specs.Parts.{arity}
 use Rattle.latex2mathml_formulas.specs.declared.parse.frames.Frame.TheVariants.{Single, Slashed, Stretch}
 use Rattle.latex2mathml_formulas.proofs.Combining.{as_frame, first_read, member_read, script_read, styled_read}
 use Rattle.latex2mathml_formulas.proofs.Delivering.{last_operand_read, waits_last}
@@ -45,11 +46,11 @@ returns-in-Single-clause-holds c = λ input k.
 
 pub returns-in-Slashed-clause-holds : goal.returns-in-Slashed-clause-holds
 returns-in-Slashed-clause-holds c = λ input k.
-    c.slashed.ensures.holds input (as_frame input c.args.self.now.frames.stack.items c.args.frame Slashed (drop 1 (trees_in c.args.self.now.parts)) _ c.in-Slashed.is k)
+    c.end_slash.ensures.holds input (as_frame input c.args.self.now.frames.stack.items c.args.frame Slashed (drop 1 (trees_in c.args.self.now.parts)) _ c.in-Slashed.is k)
 
 pub returns-in-Stretch-clause-holds : goal.returns-in-Stretch-clause-holds
 returns-in-Stretch-clause-holds c = λ input k.
-    c.stretched.ensures.holds input (as_frame input c.args.self.now.frames.stack.items c.args.frame (Stretch c.in-Stretch.got) (drop 1 (trees_in c.args.self.now.parts)) _ c.in-Stretch.is k)
+    c.end_stretch.ensures.holds input (as_frame input c.args.self.now.frames.stack.items c.args.frame (Stretch c.in-Stretch.got) (drop 1 (trees_in c.args.self.now.parts)) _ c.in-Stretch.is k)
 
 pub returns-in_ok-put-in-Script-clause-holds : goal.returns-in_ok-put-in-Script-clause-holds
 returns-in_ok-put-in-Script-clause-holds c = λ input k.

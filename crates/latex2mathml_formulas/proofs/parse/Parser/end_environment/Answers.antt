@@ -1,5 +1,5 @@
 use Rattle.std.proofs.Common.{◌∙◌}
-use Rattle.latex2mathml_parts.specs.Parts.{trees_in}
+use Rattle.latex2mathml_parts.specs.Forests.{trees_in}
 use Rattle.latex2mathml_formulas.proofs.Delivering.{environment_ended, environment_unknown}
 use Rattle.latex2mathml_formulas.proofs.Stepping.{refused}
 use Rattle.latex2mathml_formulas.proofs.parse.Parser.end_environment.Goals as goal

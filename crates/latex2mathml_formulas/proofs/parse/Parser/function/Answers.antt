@@ -2,7 +2,7 @@ use Rattle.latex2mathml_formulas.specs.Grammar.{core, gives}
 use Rattle.latex2mathml_formulas.specs.Levels.{Made}
 use Rattle.latex2mathml_formulas.specs.Steps.{level}
 use Rattle.latex2mathml_trees.specs.Tree.{function}
-use Rattle.latex2mathml_parts.specs.Parts.{trees_in}
+use Rattle.latex2mathml_parts.specs.Forests.{trees_in}
 use Rattle.latex2mathml_formulas.proofs.Beginning.{giving}
 use Rattle.latex2mathml_formulas.proofs.Combining.{core_put}
 use Rattle.latex2mathml_formulas.proofs.Levels.{named}

@@ -2,7 +2,7 @@ use Rattle.latex2mathml_formulas.specs.Frames.{after_first}
 use Rattle.latex2mathml_formulas.specs.Grammar.{core, single}
 use Rattle.latex2mathml_formulas.specs.Levels.{Made}
 use Rattle.latex2mathml_formulas.specs.Steps.{level}
-use Rattle.latex2mathml_parts.specs.Parts.{trees_in}
+use Rattle.latex2mathml_parts.specs.Forests.{trees_in}
 use Rattle.latex2mathml_tokens.specs.Tok.{Circumflex, Underscore}
 use Rattle.latex2mathml_formulas.proofs.Beginning.{giving}
 use Rattle.latex2mathml_formulas.proofs.Levels.{part_leads, signed, unsigned}

@@ -2,7 +2,7 @@ use Rattle.std.proofs.Common.{◌≡◌, ◌∷◌, ◌+◌, length, sum_by, ap,
 use Rattle.std.proofs.lemmas.List.Sums.{sum_by_push}
 use Rattle.latex2mathml_formulas.specs.Frames.{tree_count}
 use Rattle.latex2mathml_formulas.specs.Steps.{frame_weight}
-use Rattle.latex2mathml_parts.specs.Parts.{trees_in}
+use Rattle.latex2mathml_parts.specs.Forests.{trees_in}
 use Rattle.latex2mathml_tokens.specs.Lexemes.{lexeme_tok}
 use Rattle.latex2mathml_formulas.specs.declared.parse.frames.Frame.TheVariants as frame
 use Rattle.latex2mathml_formulas.proofs.Beginning.{stood, stretch_begun}

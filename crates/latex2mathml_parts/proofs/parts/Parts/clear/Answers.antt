@@ -1,5 +1,5 @@
 use Rattle.std.proofs.Common.{subst, sym}
-use Rattle.latex2mathml_parts.specs.Forms.{AreWhole, aside}
+use Rattle.latex2mathml_parts.specs.Forests.{AreWhole, aside}
 use Rattle.latex2mathml_parts.proofs.Forests.{whole_empty}
 use Rattle.latex2mathml_parts.proofs.parts.Parts.clear.Goals as goal
 

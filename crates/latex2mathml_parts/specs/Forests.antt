@@ -1,0 +1,51 @@
+-- The list of the parts as trees.
+use Rattle.std.specs.Prelude.{◌≡◌, ℕ, ◌+◌, ◌-◌, ◌<◌, ◌≤◌, List, [], ◌∷◌, drop, length, map, slice_index_or, string_bytes, take, String}
+use Rattle.std.specs.declared.alloc.Global.{Global}
+use Rattle.latex2mathml_trees.specs.Tree.{Tree}
+use Rattle.latex2mathml_parts.specs.Forms.{HasText, arity_of, put_form}
+use Rattle.latex2mathml_parts.specs.Parts.{top}
+use Rattle.latex2mathml_parts.specs.declared.form.Part.{Part}
+
+abbrev pub forest_on : List (List ℕ) → List Tree → List Part → List Tree
+forest_on texts ts [] = ts
+forest_on texts ts (p ∷ ps) = forest_on texts (put_form texts p.form ts) ps
+
+-- the trees of a list of parts, the last tree first
+abbrev pub forest : List (List ℕ) → List Part → List Tree
+forest texts = forest_on texts []
+
+-- a part stands at this place after its operands, and its size leads to where they begin
+pub record Stands (texts : List (List ℕ)) (ps : List Part) (n : ℕ) (p : Part) : Type 0 where
+  pub text : HasText texts p.form
+  pub fits : arity_of p.form ≤ length (forest texts (take n ps))
+  pub some : 0 < p.size
+  pub within : p.size ≤ n + 1
+  pub below : forest texts (take (n + 1 - p.size) ps) ≡ drop (arity_of p.form) (forest texts (take n ps))
+
+unfoldable pub AreWhole : List (List ℕ) → List Part → Type 0
+AreWhole texts ps = (n : ℕ) (d : Part) → n < length ps → Stands texts ps n (slice_index_or ps n d)
+
+-- the texts that stand aside, as their bytes
+abbrev pub aside : List (String Global) → List (List ℕ)
+aside = map string_bytes
+
+-- The list of the parts with the texts that stand aside, as contracts see it.
+pub record Forest : Type 0 where
+  pub texts : List (List ℕ)
+  pub list : List Part
+
+-- its trees, the last first
+abbrev pub trees_in : Forest → List Tree
+trees_in f = forest f.texts f.list
+
+-- the trees of so many of its parts
+abbrev pub trees_at : Forest → ℕ → List Tree
+trees_at f end = forest f.texts (take end f.list)
+
+-- the last of them
+abbrev pub tree_at : Forest → ℕ → Tree
+tree_at f end = top (trees_at f end)
+
+-- a tree ends after so many parts
+abbrev pub IsPlace : Forest → ℕ → Type 0
+IsPlace f end = (0 < end) × (end ≤ length f.list)
