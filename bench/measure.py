@@ -46,7 +46,7 @@ def least(command, path, times):
     return Measure(min(one.seconds for one in measures), min(one.memory for one in measures))
 
 
-def counted(command, word, text):
+def count_instructions(command, word, text):
     """The instructions of a run of the program, or of the crate's driver, over a workload."""
     return instructions([*command, word], text(COUNTED).encode())
 
@@ -59,7 +59,7 @@ def figures():
 
 def renew():
     """Counts the instructions of each workload, and writes the file."""
-    counts = [(counted([program.built()], word, text), name.strip()) for word, name, text in workloads.workloads()]
+    counts = [(count_instructions([program.path()], word, text), name.strip()) for word, name, text in workloads.workloads()]
     FIGURES.write_text("".join(f"{count:,}  {name}\n" for count, name in counts), encoding="utf-8")
     print(FIGURES.read_text(encoding="utf-8"), end="")
 
@@ -83,7 +83,7 @@ def show_times(name, commands, path, times):
 def show_instructions(word, name, text, programs):
     """One line: instructions of the program, also a byte of the text, and of the crate with the ratio."""
     size = len(text(COUNTED).encode())
-    counts = [counted([one], word, text) for one in programs]
+    counts = [count_instructions([one], word, text) for one in programs]
     columns = [f"{count:14,} {count / size:8.0f} a byte" for count in counts]
     if len(counts) == 2:
         columns.append(f"ratio {ratio(*counts)}")
@@ -106,7 +106,7 @@ def main():
         renew()
         return
     with tempfile.TemporaryDirectory() as folder:
-        programs = [program.built()]
+        programs = [program.path()]
         if chosen.crate:
             programs.append(rust_crate.build(chosen.crate, f"{folder}/driver"))
         print("the program" + " and the crate" * (len(programs) - 1))

@@ -19,7 +19,7 @@ def formulas(heading=None):
     return [case.input.decode() for case in every if heading in (None, case.heading)]
 
 
-def joined(size, next_piece):
+def join(size, next_piece):
     """Pieces of a text, by their numbers, up to about this many bytes."""
     pieces, length = [], 0
     while length < size:
@@ -32,7 +32,7 @@ def joined(size, next_piece):
 def prose(size):
     """Prose alone."""
     choice = random.Random(SEED)
-    return joined(size, lambda place: words(choice) + ". ")
+    return join(size, lambda place: words(choice) + ". ")
 
 
 def words(choice):
@@ -47,16 +47,16 @@ def document(size):
     def piece(place):
         sign = "$$" if place % 5 == 0 else "$"
         return f"{words(choice)} {sign}{choice.choice(every)}{sign} "
-    return joined(size, piece)
+    return join(size, piece)
 
 
 def real_formulas(size):
     """The formulas that people write, one after another, with a word before each."""
     every = formulas()
-    return joined(size, lambda place: f"{WORDS[place % len(WORDS)]} ${every[place % len(every)]}$ ")
+    return join(size, lambda place: f"{WORDS[place % len(WORDS)]} ${every[place % len(every)]}$ ")
 
 
-def repeated(formula, size):
+def repeat(formula, size):
     """One formula that repeats another one, up to about this many bytes."""
     return formula * (size // len(formula.encode()))
 
@@ -65,4 +65,4 @@ def workloads():
     """What is measured: the program's argument, a name, and a function from a size to the text."""
     documents = [("prose", prose), ("prose and formulas", document), ("real formulas", real_formulas)]
     return [("document", name, text) for name, text in documents] + [
-        ("inline", formula, lambda size, formula=formula: repeated(formula, size)) for formula in REPEATED]
+        ("inline", formula, lambda size, formula=formula: repeat(formula, size)) for formula in REPEATED]

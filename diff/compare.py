@@ -33,7 +33,7 @@ class Trial:
     left_out: str | None = None
 
     @cached_property
-    def wanted(self):
+    def right_answers(self):
         """The answers that the program may give: one, unless the crate panics. The markup of a formula is followed by a line
         feed, and the text of a document by nothing."""
         if self.kind == "o":
@@ -47,7 +47,7 @@ class Trial:
 
     def is_met_by(self, answer):
         """Whether the program may give this answer. In any case it must end by itself."""
-        return answer.status in (0, 1) if self.left_out else answer in self.wanted
+        return answer.status in (0, 1) if self.left_out else answer in self.right_answers
 
     def fits_into_a_document(self):
         """Whether the formula is to be converted, and dollar signs can enclose it."""
@@ -101,7 +101,7 @@ class Program:
     """The program, run on several texts in parallel."""
 
     def __init__(self, processes):
-        self.path = program.built()
+        self.path = program.path()
         self.pool = ThreadPoolExecutor(processes)
         self.has_documents = program.knows(self.path, "document")
 
@@ -116,7 +116,7 @@ class Program:
         groups = [trials[start:start + size] for start in range(0, len(trials), size)]
         documents = [Trial("document", "".join(f"${trial.text}$\n" for trial in group), "") for group in groups]
         for group, answer in zip(groups, self.each(documents)):
-            wanted = [trial.wanted[0] for trial in group]
+            wanted = [trial.right_answers[0] for trial in group]
             if answer == program.Answer(0, "".join(one.output for one in wanted), ""):
                 yield from wanted
             else:
@@ -153,12 +153,12 @@ class Comparison:
 
     def show(self, text):
         """Prints the text, and the answers to its shortened form."""
-        trial, answer = self.asked(self.shortened(text))
-        that_is = f"left out: {trial.left_out}" if trial.left_out else " or ".join(map(str, trial.wanted))
+        trial, answer = self.ask(self.shorten(text))
+        that_is = f"left out: {trial.left_out}" if trial.left_out else " or ".join(map(str, trial.right_answers))
         print(f"MISMATCH\n  {trial.word:10} {text!r}\n  shortened  {trial.text!r}\n"
               f"  the crate  {KINDS[trial.kind]}: {trial.said!r}\n  that is    {that_is}\n  here       {answer}")
 
-    def shortened(self, text):
+    def shorten(self, text):
         """The text without the pieces that the wrong answer does not need."""
         before = None
         while text != before:
@@ -172,14 +172,14 @@ class Comparison:
         start = 0
         while start < len(text):
             shorter = text[:start] + text[start + size:]
-            trial, answer = self.asked(shorter)
+            trial, answer = self.ask(shorter)
             if trial.is_met_by(answer):
                 start += size
             else:
                 text = shorter
         return text
 
-    def asked(self, text):
+    def ask(self, text):
         """The answers of the crate and of the program to one text."""
         (trial,) = self.crate.trials(self.word, [text])
         (answer,) = self.ours.each([trial])

@@ -54,11 +54,11 @@ def tree(markup):
     return root
 
 
-def printed(part):
+def print_of(part):
     """The print of an element or a text."""
     if isinstance(part, str):
         return part
-    return part.start + "".join(map(printed, part.inside)) + part.end
+    return part.start + "".join(map(print_of, part.inside)) + part.end
 
 
 # Texts
@@ -84,7 +84,7 @@ def plain(derived):
                               derived[1:-1])
 
 
-def quoted(text, mark):
+def quotation(text, mark):
     """A text in quotation marks, or a character in apostrophes, as the language's token texts have it."""
     return mark + re.sub(rf"[{mark}\\]", r"\\\g<0>", text) + mark
 
@@ -94,7 +94,7 @@ def token_text(derived):
     combining characters. Here only the mark itself and backslashes are escaped."""
     if derived.startswith("Space("):
         return space_token(derived)
-    retold = re.sub(f"{QUOTED}|{CHARACTER}", lambda found: quoted(plain(found[0]), found[0][0]), derived, flags=re.S)
+    retold = re.sub(f"{QUOTED}|{CHARACTER}", lambda found: quotation(plain(found[0]), found[0][0]), derived, flags=re.S)
     return lone_backslash(with_named_brackets(retold))
 
 
@@ -114,7 +114,7 @@ def marked_error(text):
     found = re.fullmatch(rf"\[PARSE ERROR: Undefined\(({QUOTED})\)\]", text, re.S)
     if not found:
         return text
-    return "[PARSE ERROR: Undefined(" + quoted(token_text(plain(found[1])), '"') + ")]"
+    return "[PARSE ERROR: Undefined(" + quotation(token_text(plain(found[1])), '"') + ")]"
 
 
 # Elements
@@ -136,11 +136,11 @@ def with_matching_end(element):
 def with_rounded_width(element):
     """The width of a space prints as its float there, and rounded to the nearest thousandth here."""
     if element.is_a("mspace"):
-        element.start = re.sub(r'(?<=width=")[-.0-9]+(?=em")', rounded, element.start)
+        element.start = re.sub(r'(?<=width=")[-.0-9]+(?=em")', round_width, element.start)
     return element
 
 
-def rounded(width):
+def round_width(width):
     thousandths = f"{Decimal(width[0]):.3f}"
     return thousandths.rstrip("0").rstrip(".")
 
@@ -167,7 +167,7 @@ def normal(part):
 
 def markup(answer):
     """The form here of a text in which the crate has set formulas: prose stays, and each formula is brought to it."""
-    return MATH.sub(lambda found: printed(normal(tree(found[0]))), answer)
+    return MATH.sub(lambda found: print_of(normal(tree(found[0]))), answer)
 
 
 def refusal(text):
@@ -195,7 +195,7 @@ def with_stand_in(formula):
 
 def for_crate(formula):
     """Scripts and primes behind an operand belong to it there, and stay outside here. Braces say so there."""
-    return operands.braced(with_stand_in(formula))
+    return operands.add_braces(with_stand_in(formula))
 
 
 def has_stand_in(text, handed):

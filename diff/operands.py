@@ -149,12 +149,12 @@ class Reader:
         return end
 
 
-def braced(formula):
+def add_braces(formula):
     """The formula with these braces.
 
     >>> for formula in [r"\\hat x_1", r"\\sqrt\\sqrt x^2", r"\\frac1 2^3", r"\\frac a^2 b", r"\\frac a'^2", r"\\bm{x_1}'",
     ...                 r"\\hat2", r"\\hat\\sum_a^b'", r"\\slashed{\\hat x_1}", r"\\text\\hat x_1", r"\\sqrt[\\bm x']y^2"]:
-    ...     print(braced(formula))
+    ...     print(add_braces(formula))
     {\\hat x}_1
     {\\sqrt{\\sqrt x}}^2
     {\\frac1 2}^3

@@ -31,7 +31,7 @@ def ask(program, word, text):
     return Answer(run.returncode, run.stdout.decode(), run.stderr.decode())
 
 
-def built():
+def path():
     """The built program. The launcher builds it first if it is missing or older than its sources."""
     subprocess.run([LAUNCHER, "inline"], input=b"", stdout=subprocess.DEVNULL, check=True)
     return BINARY

@@ -42,7 +42,7 @@ class Formulas:
         """A formula of one to thirty pieces, whose commands are all read: one whose groups close, pieces as they come,
         or characters as they come, as often as the kinds say."""
         while True:
-            make = self.random.choices([self.well_formed, self.pieces, self.characters], kinds)[0]
+            make = self.random.choices([self.nodes, self.pieces, self.characters], kinds)[0]
             formula = make(self.random.randint(1, 30))
             if self.random.random() < 0.01:
                 formula += "\\"
@@ -60,9 +60,9 @@ class Formulas:
 
     def pieces(self, count):
         """Pieces side by side, in random order."""
-        return self.joined([self.piece() for _ in range(count)])
+        return self.join([self.piece() for _ in range(count)])
 
-    def joined(self, parts):
+    def join(self, parts):
         """The parts, mostly with white space where a name would run on into a letter, and sometimes elsewhere."""
         text = ""
         for part in parts:
@@ -108,14 +108,14 @@ class Formulas:
             lambda: "\\left" + choose(FENCES), lambda: "\\right" + choose(FENCES), lambda: "\\middle" + choose(FENCES),
             lambda: "\\begin{" + choose(ENVIRONMENTS) + "}", lambda: "\\end{" + choose(ENVIRONMENTS) + "}"])()
 
-    def well_formed(self, count):
+    def nodes(self, count):
         """Nodes side by side, whose groups close."""
         parts = []
         while count > 0:
             share = self.random.randint(1, count)
             parts.append(self.node(share))
             count -= share
-        return self.joined(parts)
+        return self.join(parts)
 
     def node(self, count):
         """A core of some of the pieces, and scripts or primes of the others."""
@@ -135,11 +135,11 @@ class Formulas:
     def core(self, count):
         if count < 2:
             return self.atom()
-        make = self.random.choices([self.group, self.command, self.fenced, self.environment], [2, 6, 2, 2])[0]
+        make = self.random.choices([self.group, self.command, self.fence, self.environment], [2, 6, 2, 2])[0]
         return make(count - 1)
 
     def group(self, count):
-        return "{" + self.well_formed(count) + "}"
+        return "{" + self.nodes(count) + "}"
 
     def operand(self, count):
         """Mostly a group, otherwise a letter, a digit, or several of them."""
@@ -152,24 +152,24 @@ class Formulas:
         name = self.acting_command()
         share = self.random.randint(0, count)
         if self.random.random() < 0.2:
-            return self.joined([name + self.random.choice(NUMBERS), self.operand(count)])
+            return self.join([name + self.random.choice(NUMBERS), self.operand(count)])
         if name in ("\\text", "\\operatorname"):
             return name + "{" + "".join(self.random.choices(LETTERS + " \u00e9", k=count)) + "}"
         if name == "\\sqrt" and self.random.random() < 0.4:
-            return name + "[" + self.well_formed(share) + "]" + self.operand(count - share)
+            return name + "[" + self.nodes(share) + "]" + self.operand(count - share)
         if name[1:].lower() in ("bigl", "bigr", "biggl", "biggr"):
             return name + self.random.choice(FENCES)
         signs = self.random.choice([("", ""), ("_", "^"), ("^", "_"), ("_", ""), ("^", ""), ("", "_"), ("", "^")])
-        return self.joined([name + signs[0], self.operand(share) + signs[1], self.operand(count - share)])
+        return self.join([name + signs[0], self.operand(share) + signs[1], self.operand(count - share)])
 
-    def fenced(self, count):
+    def fence(self, count):
         if not (self.is_read("left") and self.is_read("right")):
             return self.group(count)
-        inside = [self.well_formed(count)]
+        inside = [self.nodes(count)]
         if self.random.random() < 0.3 and self.is_read("middle"):
-            inside += ["\\middle" + self.random.choice(FENCES), self.well_formed(1)]
+            inside += ["\\middle" + self.random.choice(FENCES), self.nodes(1)]
         ends = [fence for fence in FENCES if self.random.random() < 0.1 or fence not in ("<", "x", "")]
-        return self.joined(
+        return self.join(
             ["\\left" + self.random.choice(ends), *inside, "\\right" + self.random.choice(ends)])
 
     def environment(self, count):
@@ -179,9 +179,9 @@ class Formulas:
         cells = []
         while count > 0:
             share = self.random.randint(1, count)
-            cells += [self.well_formed(share), self.random.choice(["&", "\\\\", " & ", " \\\\ ", ""])]
+            cells += [self.nodes(share), self.random.choice(["&", "\\\\", " & ", " \\\\ ", ""])]
             count -= share
-        return "\\begin{" + name + "}" + self.joined(cells) + "\\end{" + name + "}"
+        return "\\begin{" + name + "}" + self.join(cells) + "\\end{" + name + "}"
 
 
 class Documents:

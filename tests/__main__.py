@@ -20,7 +20,7 @@ from tools.progress import Screen, Stopwatch, clock
 
 
 @contextlib.contextmanager
-def proving(screen):
+def prove(screen):
     """Proves everything, and builds the library for C from what was proved. The block, which gets the steps, runs beside the last
     wrong bodies."""
     with scratch() as folder:
@@ -40,8 +40,8 @@ def try_modules(names, screen, renews=True):
     return modules, runs.failures
 
 
-def everything(screen):
-    with proving(screen) as steps:
+def try_everything(screen):
+    with prove(screen) as steps:
         # from here on, the tests use only what was proved and built
         os.environ[BUILD_NOTHING] = "1"
         modules, failures = try_modules(every_name(), screen)
@@ -55,13 +55,13 @@ def main(words):
     with scratch() as folder:
         os.environ[RUN] = str(folder)
         if words == ["proofs"]:
-            with proving(screen) as steps:
+            with prove(screen) as steps:
                 failures = []
         elif words:
             # a build that they need shows its own progress
             steps, failures = try_modules([name_of(word) for word in words], screen, renews=False)
         else:
-            steps, failures = everything(screen)
+            steps, failures = try_everything(screen)
     total = Counts()
     for step in steps:
         total.add(step.counts)

@@ -80,7 +80,7 @@ def name_of(code):
     return code.name if isinstance(code, Code) else code
 
 
-def shown(given):
+def show(given):
     text = repr(given.decode(errors="backslashreplace"))
     return text if len(text) <= LIMIT else f"{text[:LIMIT]}.. ({len(given)} bytes)"
 
@@ -94,4 +94,4 @@ class AnswerCase(unittest.TestCase):
             found, came = way(word, given)
             if (found, came) != (code, wanted):
                 differs = f": {name_of(found)} where {name_of(code)} is due" if found != code else ""
-                self.fail(f"\n{place}: {word} of {shown(given)}\nby {name}{differs}\n{difference(wanted, came)}")
+                self.fail(f"\n{place}: {word} of {show(given)}\nby {name}{differs}\n{difference(wanted, came)}")

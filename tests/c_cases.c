@@ -249,7 +249,7 @@ static const struct nest nests[] = {
 };
 
 /* The middle between so many of both ends, which the caller frees. */
-static char *repeated(size_t times, const char *before, const char *middle, const char *after, size_t *length) {
+static char *repeat(size_t times, const char *before, const char *middle, const char *after, size_t *length) {
     size_t b = strlen(before), m = strlen(middle), a = strlen(after);
     char *text = malloc(times * (b + a) + m + 1);
     if (!text)
@@ -267,8 +267,8 @@ static char *repeated(size_t times, const char *before, const char *middle, cons
 /* What the nested formula comes to, which the caller frees. */
 static char *due_of(const struct nest *nest, size_t *length) {
     if (nest->code != LATEX2MATHML_DONE)
-        return repeated(1, "", OPEN_BRACE, "", length);
-    char *contents = repeated(LEVELS, nest->printed_before, nest->printed_middle, nest->printed_after, length);
+        return repeat(1, "", OPEN_BRACE, "", length);
+    char *contents = repeat(LEVELS, nest->printed_before, nest->printed_middle, nest->printed_after, length);
     char *due = malloc(*length + sizeof MATH("inline", ""));
     size_t start = sizeof MATH("inline", "") - sizeof "</math>";
     if (!due)
@@ -286,7 +286,7 @@ static void *is_nested(void *given) {
     static char met;
     const struct nest *nest = given;
     size_t length, due_length, asked, needed;
-    char *formula = repeated(LEVELS, nest->before, nest->middle, nest->after, &length);
+    char *formula = repeat(LEVELS, nest->before, nest->middle, nest->after, &length);
     char *due = due_of(nest, &due_length), *room = malloc(due_length);
     if (!room)
         abort();

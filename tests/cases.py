@@ -35,7 +35,7 @@ class Line:
     def place(self):
         return f"{os.path.relpath(self.path, ROOT)}:{self.number}"
 
-    def expanded(self, text=None):
+    def expand(self, text=None):
         """What the line, or a part of it, stands for: bytes, with each escape replaced."""
         try:
             return expand(self.text if text is None else text)
@@ -56,11 +56,11 @@ class Case:
 
     @property
     def input(self):
-        return self.first.expanded()
+        return self.first.expand()
 
     @property
     def answer(self):
-        return self.second.expanded()
+        return self.second.expand()
 
     @property
     def document_answer(self):
@@ -70,7 +70,7 @@ class Case:
     def with_space(self, number, space):
         """The formula of white_space.txt with this space at the place of this number, and at no other."""
         parts = self.first.text.split(PLACE)
-        return self.first.expanded("".join(parts[:number])) + space + self.first.expanded("".join(parts[number:]))
+        return self.first.expand("".join(parts[:number])) + space + self.first.expand("".join(parts[number:]))
 
     @property
     def places(self):
@@ -102,12 +102,12 @@ def expand(text):
     """
     parts, done = [], 0
     for escape in ESCAPE.finditer(text):
-        parts += [text[done:escape.start()].encode(), escaped(escape)]
+        parts += [text[done:escape.start()].encode(), bytes_of(escape)]
         done = escape.end()
     return b"".join(parts) + text[done:].encode()
 
 
-def escaped(escape):
+def bytes_of(escape):
     if escape["code"]:
         return chr(int(escape["code"], 16)).encode()
     if escape["byte"]:
@@ -180,7 +180,7 @@ def commands():
         columns = COLUMNS.split(line.text)
         if len(columns) != 3:
             raise WrongCase(f"{line.place}: an entry has three columns, and two spaces or more between them")
-        entries.append(Command(line, *(line.expanded(column).decode() for column in columns)))
+        entries.append(Command(line, *(line.expand(column).decode() for column in columns)))
     return entries
 
 

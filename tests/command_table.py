@@ -16,7 +16,7 @@ def character(text):
     return "'" + re.sub(r"(['\\])", r"\\\1", text) + "'"
 
 
-def quoted(text):
+def quotation(text):
     return '"' + re.sub(r'(["\\])', r"\\\1", text) + '"'
 
 
@@ -26,7 +26,7 @@ KIND = re.compile(r"^(?:- )?(?:`(?P<kind>\w+)(?:\((?P<argument>\w)(?P<more>, \w+
 NAME = r"`\\(?P<name>[A-Za-z]+|[^A-Za-z\s])`|(?P<space>a backslash and a space)"
 VALUE = r"`(?P<code>[^`\\]+)`|(?<=\| )(?P<number>-?\d+)(?= \|)|(?P<backquote>a backquote)|(?<=\s)(?P<sign>[^\s\w\-|]|[^\W\d_])(?=[\s,;.])"
 PART = re.compile(rf"{NAME}|(?:{VALUE})(?:\s+\(U\+(?P<point>[0-9A-F]{{4}})\))?")
-SHAPES = {"c": character, "p": quoted, "f": quoted, "s": quoted, "v": str, "d": str, "n": str}
+SHAPES = {"c": character, "p": quotation, "f": quotation, "s": quotation, "v": str, "d": str, "n": str}
 
 
 @functools.cache
@@ -100,9 +100,9 @@ def argument_text(argument):
     if argument["point"]:
         return character(chr(int(argument["point"], 16)))
     if argument["encoded"]:
-        return quoted(chr(int(argument["encoded"], 16)))
+        return quotation(chr(int(argument["encoded"], 16)))
     if argument["text"] is not None:
-        return quoted(argument["text"])
+        return quotation(argument["text"])
     if argument["pos"]:
         return argument["pos"]
     if argument["negsuc"]:

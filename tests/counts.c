@@ -34,7 +34,7 @@ extern void __libc_free(void *);
 static long requests, held, readings, writings, openings, closings;
 static size_t bytes, peak;
 
-static void *gained(void *block) {
+static void *count_block(void *block) {
     if (!block) return NULL;
     held++;
     bytes += malloc_usable_size(block);
@@ -42,7 +42,7 @@ static void *gained(void *block) {
     return block;
 }
 
-static void lost(void *block) {
+static void uncount_block(void *block) {
     if (!block) return;
     held--;
     bytes -= malloc_usable_size(block);
@@ -50,12 +50,12 @@ static void lost(void *block) {
 
 void *malloc(size_t size) {
     requests++;
-    return gained(__libc_malloc(size));
+    return count_block(__libc_malloc(size));
 }
 
 void *calloc(size_t count, size_t size) {
     requests++;
-    return gained(__libc_calloc(count, size));
+    return count_block(__libc_calloc(count, size));
 }
 
 void *realloc(void *old, size_t size) {
@@ -73,12 +73,12 @@ void *realloc(void *old, size_t size) {
         held--;
         bytes -= before;
     }
-    return gained(block);
+    return count_block(block);
 }
 
 void *aligned_alloc(size_t alignment, size_t size) {
     requests++;
-    return gained(__libc_memalign(alignment, size));
+    return count_block(__libc_memalign(alignment, size));
 }
 
 int posix_memalign(void **block, size_t alignment, size_t size) {
@@ -87,7 +87,7 @@ int posix_memalign(void **block, size_t alignment, size_t size) {
 }
 
 void free(void *block) {
-    lost(block);
+    uncount_block(block);
     __libc_free(block);
 }
 
@@ -101,7 +101,7 @@ ssize_t write(int file, const void *from, size_t count) {
     return NEXT(write)(file, from, count);
 }
 
-static int opened(int file) {
+static int count_file(int file) {
     if (file >= 0) openings++;
     return file;
 }
@@ -113,7 +113,7 @@ int open(const char *path, int flags, ...) {
     va_start(rest, flags);
     mode_t mode = mode_of(flags, rest);
     va_end(rest);
-    return opened(NEXT(open)(path, flags, mode));
+    return count_file(NEXT(open)(path, flags, mode));
 }
 
 int openat(int folder, const char *path, int flags, ...) {
@@ -121,7 +121,7 @@ int openat(int folder, const char *path, int flags, ...) {
     va_start(rest, flags);
     mode_t mode = mode_of(flags, rest);
     va_end(rest);
-    return opened(NEXT(openat)(folder, path, flags, mode));
+    return count_file(NEXT(openat)(folder, path, flags, mode));
 }
 
 int close(int file) {

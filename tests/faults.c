@@ -40,25 +40,25 @@ static const char *path_due, *command, *report_file;
 static long time_due, times;
 
 /* what the environment says, or NULL */
-static const char *said(const char *name) {
+static const char *setting(const char *name) {
     const char *value = getenv(name);
     return value && *value ? value : NULL;
 }
 
 __attribute__((constructor)) static void begin(void) {
-    const char *fault = said("FAULT"), *steps = said("FAULT_STEP"), *time = said("FAULT_TIME"),
-               *errors = said("FAULT_ERRORS");
+    const char *fault = setting("FAULT"), *steps = setting("FAULT_STEP"), *time = setting("FAULT_TIME"),
+               *errors = setting("FAULT_ERRORS");
     if (fault && sscanf(fault, "%15[a-z]:%ld:%ld:%d", kind, &first, &last, &error) != 4) {
         dprintf(2, "faults.c: FAULT=%s is no fault\n", fault);
         _exit(125);
     }
     step = steps ? strtoul(steps, NULL, 10) : 0;
     errors_left = errors ? atol(errors) : -1;
-    path_due = said("FAULT_PATH");
-    command = said("FAULT_RUN");
+    path_due = setting("FAULT_PATH");
+    command = setting("FAULT_RUN");
     time_due = time ? atol(time) : 1;
-    report_file = said("FAULT_REPORT");
-    is_marked = said("FAULT_MARKED") != NULL;
+    report_file = setting("FAULT_REPORT");
+    is_marked = setting("FAULT_MARKED") != NULL;
     counts = !is_marked;
 }
 
@@ -97,7 +97,7 @@ void *malloc(size_t size) { return is_refused(size) ? NULL : NEXT(malloc)(size);
 void *realloc(void *old, size_t size) { return is_refused(size) ? NULL : NEXT(realloc)(old, size); }
 
 /* runs the command where this is the opening that it waits for */
-static void before_opening(const char *path) {
+static void prepare_opening(const char *path) {
     if (!command || !path_due || strncmp(path, path_due, strlen(path_due)) != 0 || ++times != time_due) return;
     const char *now = command;
     command = NULL;
@@ -113,7 +113,7 @@ int openat(int folder, const char *path, int flags, ...) {
     va_start(rest, flags);
     mode_t mode = mode_of(flags, rest);
     va_end(rest);
-    before_opening(path);
+    prepare_opening(path);
     return fails("open") ? -1 : NEXT(openat)(folder, path, flags, mode);
 }
 
@@ -122,14 +122,14 @@ int open(const char *path, int flags, ...) {
     va_start(rest, flags);
     mode_t mode = mode_of(flags, rest);
     va_end(rest);
-    before_opening(path);
+    prepare_opening(path);
     return fails("open") ? -1 : NEXT(open)(path, flags, mode);
 }
 
-static size_t stepped(size_t count) { return step && step < count ? step : count; }
+static size_t limit_step(size_t count) { return step && step < count ? step : count; }
 
 ssize_t read(int file, void *room, size_t count) {
-    return fails("read") ? failure() : NEXT(read)(file, room, stepped(count));
+    return fails("read") ? failure() : NEXT(read)(file, room, limit_step(count));
 }
 
 static ssize_t write_error(const void *bytes, size_t count) {
@@ -144,7 +144,7 @@ static ssize_t write_error(const void *bytes, size_t count) {
 
 ssize_t write(int file, const void *bytes, size_t count) {
     if (file == 2) return write_error(bytes, count);
-    return fails("write") ? failure() : NEXT(write)(file, bytes, stepped(count));
+    return fails("write") ? failure() : NEXT(write)(file, bytes, limit_step(count));
 }
 
 ssize_t __write(int file, const void *bytes, size_t count) { return write(file, bytes, count); }

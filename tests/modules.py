@@ -92,8 +92,8 @@ class Runs:
         for module in modules:
             module.left = len(module.parts)
             if not module.parts:
-                self.failed(module, module.name, "it has no case")
-                self.ended(module)
+                self.report_failure(module, module.name, "it has no case")
+                self.report_end(module)
         self.run_parts([(module, part) for module in beside for part in module.parts], len(os.sched_getaffinity(0)))
         self.run_parts([(module, part) for module in alone for part in module.parts], 1)
 
@@ -132,7 +132,7 @@ class Runs:
                     has_ended = True
                     module.spent += case[0]
                 else:
-                    self.told(module, outcome, *case)
+                    self.report(module, outcome, *case)
             status = process.wait()
             timer.cancel()
             with self.lock:
@@ -140,12 +140,12 @@ class Runs:
             if not has_ended and not self.is_stopped:
                 said.seek(0)
                 last = "".join(said.readlines()[-SHOWN:])
-                self.failed(module, part, f"its process ended with status {status}, or had not ended after {module.limit} s\n{last}")
+                self.report_failure(module, part, f"its process ended with status {status}, or had not ended after {module.limit} s\n{last}")
         with self.lock:
             module.left -= 1
             is_last = not module.left
         if is_last:
-            self.ended(module)
+            self.report_end(module)
 
     def start(self, part, said):
         words = [sys.executable, "-m", "tests.worker", part]
@@ -158,22 +158,22 @@ class Runs:
             self.running[process] = part
             return process
 
-    def told(self, module, outcome, name, text):
+    def report(self, module, outcome, name, text):
         if outcome == "failed":
-            self.failed(module, name, text)
+            self.report_failure(module, name, text)
             return
         with self.lock:
             setattr(module.counts, outcome, getattr(module.counts, outcome) + 1)
         if outcome == "skipped":
             self.screen.say(f"SKIPPED: {name}: {text}")
 
-    def failed(self, module, name, text):
+    def report_failure(self, module, name, text):
         with self.lock:
             module.counts.failed += 1
             self.failures.append(name)
-        self.screen.say(f"FAILED: {name}\n{indented(text)}")
+        self.screen.say(f"FAILED: {name}\n{indent(text)}")
 
-    def ended(self, module):
+    def report_end(self, module):
         module.seconds = module.watch.seconds() if module.watch else 0
         self.screen.say(f"{module.name}: {module.counts}, {clock(module.seconds)}")
 
@@ -193,5 +193,5 @@ def end(process):
         pass
 
 
-def indented(text):
+def indent(text):
     return "\n".join(f"    {line}" for line in text.split("\n"))

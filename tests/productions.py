@@ -52,7 +52,7 @@ class Production:
         """How many of these are nested in a formula that is so many nodes deep."""
         return nodes // self.nodes
 
-    def nested(self, levels):
+    def nest(self, levels):
         before, behind = self.formula.split("@")
         return before * levels + " x" + behind * levels
 
@@ -153,21 +153,21 @@ class Wide:
     def levels(self, nodes):
         return nodes
 
-    def nested(self, members):
-        return repeated(self.formula, members)
+    def nest(self, members):
+        return repeat(self.formula, members)
 
     def cut(self, members):
         before, member, _ = self.formula
         return before + member * members
 
     def contents(self, members):
-        return repeated(self.markup, members)
+        return repeat(self.markup, members)
 
     def styled_contents(self, members):
-        return repeated(self.styled, members)
+        return repeat(self.styled, members)
 
 
-def repeated(parts, members):
+def repeat(parts, members):
     before, member, behind = parts
     return before + member * members + behind
 

@@ -83,7 +83,7 @@ class Quote:
         return bool(names) and self.text == "\n".join(signature(self.source, name) for name in names)
 
 
-def quoted(document):
+def quotes_in(document):
     """The blocks that a document quotes."""
     for found in QUOTE.finditer(document.read_text()):
         yield Quote(ROOT / found["path"], found["text"])

@@ -52,9 +52,9 @@ class Command(Step):
     def run(self, screen, watch):
         screen.say(f"    all that it prints is kept in {self.log}")
         self.counts = counts_of(self.words, self.log, screen, cwd=self.folder, on_line=lambda line: self.read(line, screen),
-                                on_second=lambda: self.renew(screen, watch), on_end=self.took)
+                                on_second=lambda: self.renew(screen, watch), on_end=self.keep_time)
 
-    def took(self, spent):
+    def keep_time(self, spent):
         self.spent = spent
 
     def read(self, line, screen):
@@ -119,12 +119,14 @@ class Proofs(Command):
                 step.begin(told[1], screen)
 
     def renew(self, screen, watch):
-        screen.renew(f"    {len(self.proved)} of {len(listed())} crates  {watch}")
+        screen.renew(f"    {len(self.proved)} of {len(dependencies())} crates  {watch}")
 
 
 class Beside(Step):
     """A step that begins beside the proofs, crate by crate, and then waits for what has not ended. If the run is interrupted, it ends
     its commands."""
+
+    tasks_are = "tasks"
 
     def __init__(self, name, at_once):
         super().__init__(name)
@@ -150,18 +152,18 @@ class Beside(Step):
         """Begins a task that returns its counts."""
         self.tasks.append(self.pool.submit(task, *arguments))
 
-    def watching(self):
+    def callbacks(self):
         """What `follow` is to do with the commands of the tasks."""
-        return {"on_start": self.started, "on_end": self.times.append}
+        return {"on_start": self.keep_running, "on_end": self.times.append}
 
-    def started(self, command):
+    def keep_running(self, command):
         self.running.append(command)
         if self.is_over:
             command.terminate()
 
     def run(self, screen, watch):
         while left := sum(not it.done() for it in self.tasks):
-            screen.renew(f"    {len(self.tasks) - left} of {len(self.tasks)}  {watch}")
+            screen.renew(f"    {len(self.tasks) - left} of {len(self.tasks)} {self.tasks_are}  {watch}")
             concurrent.futures.wait(self.tasks, timeout=1)
         for it in self.tasks:
             self.counts.add(it.result())
@@ -171,6 +173,8 @@ class Beside(Step):
 class WrongBodies(Beside):
     """Tries the wrong bodies of crates. They get the processors that nothing else needs: other crates wait for a proof, and nothing
     waits for a wrong body."""
+
+    tasks_are = "checks"
 
     def __init__(self, folder):
         super().__init__("the last wrong bodies", len(os.sched_getaffinity(0)))
@@ -188,7 +192,7 @@ class WrongBodies(Beside):
         watch, log = Stopwatch(), OUT / f"wrong-bodies-{crate}-{number}.log"
         bodies = [f"{crate}/{it.path.stem}" for it in group]
         words = ["nice", "-n", "19", ROOT / "tools/try-wrong-body", "--proved", self.folder, *bodies]
-        counts = counts_of(words, log, screen, **self.watching())
+        counts = counts_of(words, log, screen, **self.callbacks())
         screen.say(f"    {name}: wrong bodies: {counts}, {watch}")
         return counts
 
@@ -213,7 +217,7 @@ class Library(Beside):
         archive = ROOT / "crates" / self.crate / "out" / f"lib{self.crate}.a"
         archive.parent.mkdir(exist_ok=True)
         words = rattle_words(self.crate, crates_below(self.crate), proved, archive)
-        if follow(words, self.log, cwd=proved / self.crate, **self.watching()):
+        if follow(words, self.log, cwd=proved / self.crate, **self.callbacks()):
             screen.say(end_of(self.log))
             return Counts(failed=1)
         self.copy.date(archive)
@@ -231,7 +235,7 @@ def rattle_words(crate, below, proved, archive):
     tools = kit()
     rlibs = {name: proved / name / "out/rlib" for name in below}
     words = [tools / "bin/rattle", "build", "--crate-name", crate, "src/lib.rt", "--crate-type", "staticlib"]
-    for name in ["std", *listed()[crate]]:
+    for name in ["std", *dependencies()[crate]]:
         words += ["--extern", f"{name}={rlibs.get(name, tools / 'rlibs')}/{name}.rlib"]
     for folder in [tools / "rlibs", *rlibs.values()]:
         words += ["-L", f"dependency={folder}"]
@@ -241,7 +245,7 @@ def rattle_words(crate, below, proved, archive):
 
 
 @functools.cache
-def listed():
+def dependencies():
     """The crates of crates.txt, with the dependencies of each."""
     crates = {}
     for line in (ROOT / "crates.txt").read_text(encoding="utf-8").splitlines():
@@ -254,8 +258,8 @@ def listed():
 def crates_below(crate):
     """The crates of this repository that a crate depends on, lowest first."""
     found = []
-    for name in listed()[crate]:
-        if name in listed():
+    for name in dependencies()[crate]:
+        if name in dependencies():
             found += [it for it in [*crates_below(name), name] if it not in found]
     return found
 

@@ -29,11 +29,11 @@ SHOWN = 2000
 @functools.cache
 def program():
     """The path of the built program, which is built first if it is missing or older than its sources."""
-    return built("latex2mathml_app")
+    return build("latex2mathml_app")
 
 
 @functools.cache
-def built(crate):
+def build(crate):
     """The path of the built program of a crate, or of its static library."""
     with once(crate):
         screen = int(os.environ.get(SCREEN, "2"))
@@ -46,7 +46,7 @@ def built(crate):
 @functools.cache
 def c_library():
     """The folder with the library for C, its header and its examples, which `tools/make-c-library` makes once per run."""
-    built("latex2mathml_c")
+    build("latex2mathml_c")
     folder = run_folder() / "c"
     with once("c"):
         if not folder.exists():
@@ -108,7 +108,7 @@ def scratch():
         shutil.rmtree(folder, ignore_errors=True)
 
 
-def missing(*tools):
+def missing_tools(*tools):
     """Those of these tools and Python modules that are missing. A module is written `python:NAME`."""
     return [tool for tool in tools if not is_there(tool)]
 
@@ -125,7 +125,7 @@ def requires(*tools):
 
     Where LATEX2MATHML_SKIP_NOTHING is 1, `./test` counts every case that is skipped as one that failed.
     """
-    lacking = missing(*tools)
+    lacking = missing_tools(*tools)
     return unittest.skipIf(lacking, f"{', '.join(lacking)} not found")
 
 

@@ -2,8 +2,8 @@
 import unittest
 
 from tests import cases
-from tests.answers import WAYS, AnswerCase, Code, shown
-from tests.support import built, run, scratch
+from tests.answers import WAYS, AnswerCase, Code, show
+from tests.support import build, run, scratch
 
 WHITE_SPACE = [space * count for space in (b" ", b"\t", b"\n", b"\r") for count in (1, 1000)]
 NO_WHITE_SPACE = ["\u000c".encode(), "\u00a0".encode()]
@@ -38,12 +38,12 @@ class CaseOfFile(AnswerCase):
             for character in NO_WHITE_SPACE:
                 given = case.with_space(number, character)
                 for name, way in WAYS:
-                    self.assertNotEqual(way("inline", given), (Code.DONE, answer), f"{case.place}, place {number}: {shown(given)} by {name}")
+                    self.assertNotEqual(way("inline", given), (Code.DONE, answer), f"{case.place}, place {number}: {show(given)} by {name}")
 
 
     def counts(self, case):
         """The steps of a formula: a command takes 1 to 9 comparisons."""
-        done = run([built("latex2mathml_single_calls"), "steps", case.input])
+        done = run([build("latex2mathml_single_calls"), "steps", case.input])
         outcome, steps = done.stdout.decode().splitlines()
         found = dict(reversed(part.split()) for part in steps.split(", "))
         kind, *wanted = case.answer.decode().split(", ")

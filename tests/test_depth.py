@@ -61,7 +61,7 @@ class Printed(Depth):
 
     def judge(self, kind):
         levels = kind.levels(self.nodes)
-        self.answers(kind.nested(levels), kind.contents(levels))
+        self.answers(kind.nest(levels), kind.contents(levels))
 
 
 @support.requires("cc")
@@ -70,14 +70,14 @@ class Styled(Shallow):
 
     def judge(self, kind):
         levels = kind.levels(self.nodes)
-        self.answers("\\mathbf{" + kind.nested(levels) + "}", kind.styled_contents(levels))
+        self.answers("\\mathbf{" + kind.nest(levels) + "}", kind.styled_contents(levels))
 
 
 class Dropped(Shallow):
     """The whole node is the member of a group that is never closed."""
 
     def judge(self, kind):
-        self.is_refused("{" + kind.nested(kind.levels(self.nodes)), OPEN.format("RBrace"))
+        self.is_refused("{" + kind.nest(kind.levels(self.nodes)), OPEN.format("RBrace"))
 
 
 @support.requires("cc")
@@ -101,7 +101,7 @@ class WithoutMemory(Shallow):
     """An allocation fails while the tree is deep or wide: the one after three quarters of them."""
 
     def judge(self, kind):
-        formula = kind.nested(kind.levels(self.nodes))
+        formula = kind.nest(kind.levels(self.nodes))
         _, counts = faulty.counts_of([support.program(), "inline"], stdin=formula.encode())
         self.wants_memory(formula, counts["requests"] * 3 // 4)
 

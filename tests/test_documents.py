@@ -66,7 +66,7 @@ class Quotes(Case):
     def test_signatures_are_those_of_the_source(self):
         wrong = []
         for document in documents():
-            for quote in quotes.quoted(document):
+            for quote in quotes.quotes_in(document):
                 if not quote.stands():
                     wrong.append(f"{document.relative_to(ROOT)}: {quote.source.relative_to(ROOT)} does not have\n{quote.text}")
         self.assertFalse(wrong, "\n".join(wrong))

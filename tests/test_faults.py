@@ -38,7 +38,7 @@ WRITE_ERRORS = {"a full device": 28, "an interruption": 4, "a closed pipe": 32, 
 ROOM = 4096
 
 
-def stopped(count):
+def stop_message(count):
     return ERROR + b"The output stopped after %d bytes.\n" % count
 
 
@@ -139,7 +139,7 @@ class Outputs(Streams):
                     done, failed = self.run_with(word, given, fault=Fault("write", number, number, error), step=1)
                     self.assertEqual(bool(failed), number <= len(answer))
                     if failed:
-                        self.expect(done, 1, answer[:number - 1], stopped(number - 1))
+                        self.expect(done, 1, answer[:number - 1], stop_message(number - 1))
                     else:
                         self.expect(done, 0, answer)
 
@@ -179,9 +179,9 @@ class Errors(Streams):
 
     def test_outputs(self):
         for error in WRITE_ERRORS.values():
-            for taken in self.each_end(stopped(2)):
+            for taken in self.each_end(stop_message(2)):
                 done, _ = self.run_with("inline", b"x<y", fault=Fault("write", 3, 3, error), step=1, errors=taken)
-                self.expect(done, 1, LESS[:2], stopped(2)[:taken])
+                self.expect(done, 1, LESS[:2], stop_message(2)[:taken])
 
     def test_files(self):
         """The stream of the input is not read, and all files are converted."""
@@ -206,7 +206,7 @@ class Pipes(Streams):
         os.close(read)
         with open(write, "wb") as output:
             done = support.run([faulty.program(), word], stdin=b"x", stdout=output, restore_signals=False)
-        self.expect(done, 1, None, stopped(0))
+        self.expect(done, 1, None, stop_message(0))
 
     def test_inline(self):
         self.nobody_reads("inline")
@@ -223,7 +223,7 @@ class Pipes(Streams):
         os.close(read)
         with open(write, "wb") as output:
             done = support.run([faulty.program(), "inline"], stdin=b"x", stdout=output)
-        self.expect(done, 1, None, stopped(0))
+        self.expect(done, 1, None, stop_message(0))
 
     def test_reader_goes(self):
         """The reader closes its end while there is more to write than a pipe holds."""
@@ -252,7 +252,7 @@ class FullDevice(Streams):
     def is_full(self, word):
         with open(FULL, "wb") as output:
             done = support.run([faulty.program(), word], stdin=b"x", stdout=output)
-        self.expect(done, 1, None, stopped(0))
+        self.expect(done, 1, None, stop_message(0))
 
     def test_inline(self):
         self.is_full("inline")

@@ -146,7 +146,7 @@ class Writing(Walks):
     """The writing of a file stops: it holds the first bytes of its answer, and all others their answers."""
 
 
-def writing(error, written):
+def writing_case(error, written):
     def case(self):
         self.anew()
         number = len(X) + written + 1
@@ -159,7 +159,7 @@ def writing(error, written):
 STOPS = sorted({0, 1, 2, *range(3, len(X), 7), len(X) - 3, len(X) - 2, len(X) - 1})
 
 for error, written in itertools.product((28, 5, 4, 0), STOPS):
-    setattr(Writing, f"test_error_{error}_after_{written}", writing(error, written))
+    setattr(Writing, f"test_error_{error}_after_{written}", writing_case(error, written))
 
 
 @support.requires("cc")

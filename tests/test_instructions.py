@@ -25,7 +25,7 @@ class Figures(support.Case):
 class Instructions(support.Case):
     def judge(self, name):
         word, text = LOADS[name]
-        due, counted = measure.figures()[name], measure.counted([support.program()], word, text)
+        due, counted = measure.figures()[name], measure.count_instructions([support.program()], word, text)
         change = f"{counted:,} instructions, and {due:,} stand in bench/instructions.txt: {counted / due:.3f} times as many"
         self.assertLessEqual(abs(counted - due), MARGIN * due, f"{change}; bench/measure.py --renew takes the new ones")
 

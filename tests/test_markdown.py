@@ -37,12 +37,12 @@ print(json.dumps([md.reset().convert(text) for text in json.load(sys.stdin)]))
 """
 
 
-def converted(*texts, options=None, others=()):
+def convert(*texts, options=None, others=()):
     """The pages of texts, without links, and the log of each."""
     return ask(environment("markdown"), CONVERT, [[text, {"page": False, **(options or {})}, others] for text in texts])
 
 
-def shown(page):
+def letters_of(page):
     """A page with each formula as its letters, in a notation of ours: [x] in a line, [[x]] as a block."""
     page = re.sub(r'<(span|div) class="math">(.*?)</\1>', r"\2", page, flags=re.DOTALL)
     page = re.sub(r'<math [^>]*display="inline">(.*?)</math>', lambda math: f"[{letters(math[1])}]", page)
@@ -56,12 +56,12 @@ def letters(markup):
 @requires_python("markdown")
 class Formulas(unittest.TestCase):
     def check(self, cases, **more):
-        for (text, wanted), (page, _) in zip(cases.items(), converted(*cases, **more), strict=True):
+        for (text, wanted), (page, _) in zip(cases.items(), convert(*cases, **more), strict=True):
             with self.subTest(text):
-                self.assertEqual(shown(page), wanted)
+                self.assertEqual(letters_of(page), wanted)
 
     def test_markup(self):
-        [[page, _]] = converted("a $x<y$ b\n\n$$x<y$$")
+        [[page, _]] = convert("a $x<y$ b\n\n$$x<y$$")
         math = '<math xmlns="http://www.w3.org/1998/Math/MathML" display="{}"><mi>x</mi><mo>&lt;</mo><mi>y</mi></math>'
         self.assertEqual(page, f'<p>a <span class="math">{math.format("inline")}</span> b</p>\n<div class="math">{math.format("block")}</div>')
 
@@ -154,18 +154,18 @@ class Options(unittest.TestCase):
         text = r"$\R \le \tfrac12$"
         for option, marked in [(True, ["R"]), (False, ["R", "le", "tfrac"]), ({r"\R": r"\mathbb{R}"}, []), ({r"\le": "<"}, ["R"])]:
             with self.subTest(str(option)):
-                [[page, _]] = converted(text, options={"names": option})
+                [[page, _]] = convert(text, options={"names": option})
                 self.assertEqual(re.findall(r'Command\(\\"(\w+)', page), marked)
 
     def test_a_name_that_is_none(self):
-        [[page, said]] = converted("a", options={"names": {"R": "x"}})
+        [[page, said]] = convert("a", options={"names": {"R": "x"}})
         self.assertEqual(page, None)
         self.assertIn("'R' is no whole name", said[0])
 
     def test_refused(self):
         """The page shows the formula as it was written, and the rest is converted. The warning names the line."""
         text = "a\n\nb $x$\n$x$ ${x<\"$ c\n\n- $y$\n\n    $$\n    {y\n    $$\n"
-        [[page, said]] = converted(text)
+        [[page, said]] = convert(text)
         reason = OPEN.replace('"', "&quot;")
         self.assertIn(f'<span class="math"><code class="latex2mathml-refused" title="{reason}">{{x&lt;&quot;</code></span> c', page)
         self.assertIn(f'<div class="math"><code class="latex2mathml-refused" title="{reason}">{{y</code></div>', page)
@@ -175,17 +175,17 @@ class Options(unittest.TestCase):
     def test_lines(self):
         """The line of formulas in lists, quotations, titles and notes. If a formula is also in code, it has no line."""
         text = "`${a$`\n\n# ${a$ ${b$\n\n> b\n> $$\n> {c\n> $$\n\n1. d\n\n    ${e\n    f$ [^1]\n\n${b$ ${g$\n\n[^1]: ${h$\n"
-        [[_, said]] = converted(text, others=["extra"])
+        [[_, said]] = convert(text, others=["extra"])
         found = [re.match(r"latex2mathml: (?:line (\d+): )?\{(\w)", line).groups() for line in said]
         self.assertEqual(found, [(None, "a"), ("3", "b"), ("6", "c"), ("12", "e"), ("15", "b"), ("15", "g"), ("17", "h")])
 
     def test_marked(self):
-        [[page, said]] = converted("a\n$\\foo$")
+        [[page, said]] = convert("a\n$\\foo$")
         self.assertIn('<mtext>[PARSE ERROR: Undefined("Command(\\"foo\\")")]</mtext>', page)
         self.assertEqual(said, ['latex2mathml: line 2: \\foo: marked as an error: Undefined("Command(\\"foo\\")")'])
 
     def test_strict(self):
-        answers = converted("$x$", "a\n${x$", "$\\foo$", options={"strict": True})
+        answers = convert("$x$", "a\n${x$", "$\\foo$", options={"strict": True})
         self.assertEqual([page is None for page, _ in answers], [False, True, True])
         self.assertEqual([said for _, said in answers[1:]], [
             [f"line 2: {{x: {OPEN}"], ['line 1: \\foo: marked as an error: Undefined("Command(\\"foo\\")")']])

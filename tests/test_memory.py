@@ -129,7 +129,7 @@ def call(name, text, answer, wanting, way):
             self.expect(done, 0, None)
             may_be = [answer + b"\n"] + [b"refusal: " + wanting + b"\n"] * is_refused
             self.assertIn(done.stdout, may_be)
-        self.in_turn([support.built("latex2mathml_single_calls"), name, text], way, judge, marked=True)
+        self.in_turn([support.build("latex2mathml_single_calls"), name, text], way, judge, marked=True)
     return case
 
 
@@ -150,7 +150,7 @@ def walk_of_library(way):
             self.expect(done, 0, None)
             is_wanting = done.stdout == b"refusal: memory allocation failed\n"
             folder.judge(self, b"" if is_wanting else done.stdout, is_refused, way is one, is_wanting)
-        words = [support.built("latex2mathml_single_calls"), "convert_html", folder.path]
+        words = [support.build("latex2mathml_single_calls"), "convert_html", folder.path]
         self.in_turn(words, way, judge, marked=True, before=folder.fill)
     return case
 

@@ -65,7 +65,7 @@ def firefox(profile, address):
 
 
 @contextlib.contextmanager
-def started(words, home):
+def open_browser(words, home):
     """A browser for the time of a `with`."""
     environment = {**os.environ, "HOME": os.fspath(home)}
     with open(home / "said", "wb") as said:
@@ -81,13 +81,13 @@ def started(words, home):
             browser.wait()
 
 
-def judged(words_of, site, pages):
+def judge(words_of, site, pages):
     """The results of the pages of a folder in a browser, which `words_of` starts: a list for each page."""
     frames = "".join(f'<iframe src="{page}" width="{WIDTHS.get(page, 1000)}" height="2000"></iframe>' for page in pages)
     (site / "index.html").write_text(f"<!DOCTYPE html>{frames}")
     with support.scratch() as home, Server(site) as server:
         threading.Thread(target=server.serve_forever, daemon=True).start()
-        with started(words_of(home, server.address_of("index.html")), home):
+        with open_browser(words_of(home, server.address_of("index.html")), home):
             verdicts = {}
             while len(verdicts) < len(pages):
                 try:
@@ -210,7 +210,7 @@ class Browser(support.Case):
     def judge(self, words_of):
         site = self.enterContext(support.scratch())
         pages = build_site(site)
-        for page, judgements in judged(words_of, site, pages).items():
+        for page, judgements in judge(words_of, site, pages).items():
             self.assertTrue(judgements, f"{page} made no judgement")
             for each in judgements:
                 with self.subTest(f"{page}: {each['name']}"):

@@ -1,6 +1,6 @@
 """Converts the files of a folder, each by its own path and all by the folder's, and checks their contents."""
 from tests.cases import math
-from tests.support import Case, built, program, run, scratch
+from tests.support import Case, build, program, run, scratch
 
 ERROR = b"LaTeX2MathML Error: "
 UNPAIRED = b": The number of dollar sings found is invalid.\n"
@@ -36,7 +36,7 @@ class Paths(Case):
 
     def test_call_of_the_library(self):
         """The same list as that of the program, by the library's own call for files."""
-        done = run([built("latex2mathml_single_calls"), "convert_html", self.folder])
+        done = run([build("latex2mathml_single_calls"), "convert_html", self.folder])
         self.expect(done, stdout=b"".join(str(self.folder / name).encode() + fault for name, fault in [("b.html", UNPAIRED), ("f.html", NOT_UTF8)]))
         self.holds(CONVERTED)
 

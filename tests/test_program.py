@@ -35,7 +35,7 @@ NO_OUTPUT = error("The output stopped after 0 bytes.")
 UNPAIRED = "The number of dollar sings found is invalid."
 
 
-def closing(*streams):
+def closed_streams(*streams):
     """Starts a process with these streams closed."""
     def close():
         for stream in streams:
@@ -164,7 +164,7 @@ class Streams(Case):
     def test_closed_input(self):
         for word in ("inline", "document"):
             with self.subTest(word):
-                self.expect(run([LAUNCHER, word], stdin=subprocess.DEVNULL, **closing(0)), 1, b"", NO_INPUT)
+                self.expect(run([LAUNCHER, word], stdin=subprocess.DEVNULL, **closed_streams(0)), 1, b"", NO_INPUT)
 
     def test_a_directory_as_the_input(self):
         folder = os.open(self.folder, os.O_RDONLY)
@@ -174,7 +174,7 @@ class Streams(Case):
     def test_closed_output(self):
         for word in ("inline", "document"):
             with self.subTest(word):
-                done = run([LAUNCHER, word], stdin=b"x<y", stdout=subprocess.DEVNULL, **closing(1))
+                done = run([LAUNCHER, word], stdin=b"x<y", stdout=subprocess.DEVNULL, **closed_streams(1))
                 self.expect(done, 1, None, NO_OUTPUT)
 
     def test_a_full_device(self):
@@ -184,9 +184,9 @@ class Streams(Case):
     def test_closed_errors(self):
         quiet = {"stderr": subprocess.DEVNULL}
         with self.subTest("wrong words"):
-            self.expect(run([LAUNCHER], stdin=b"x<y", **quiet, **closing(2)), 2, b"", None)
+            self.expect(run([LAUNCHER], stdin=b"x<y", **quiet, **closed_streams(2)), 2, b"", None)
         with self.subTest("and a closed input"):
-            self.expect(run([LAUNCHER, "inline"], stdin=subprocess.DEVNULL, **quiet, **closing(0, 2)), 1, b"", None)
+            self.expect(run([LAUNCHER, "inline"], stdin=subprocess.DEVNULL, **quiet, **closed_streams(0, 2)), 1, b"", None)
 
     def test_what_is_read_of_the_input(self):
         """With wrong arguments the program leaves the input to the next reader, and with right ones it reads all of it."""
@@ -329,7 +329,7 @@ class Files(Site):
         """They do not change the status."""
         self.put({"a.html": b"$$$", "b.html": b"$x$"})
         quiet = {"stdout": subprocess.DEVNULL, "stderr": subprocess.DEVNULL}
-        done = run([LAUNCHER, "html", self.site], stdin=subprocess.DEVNULL, **quiet, **closing(0, 1, 2))
+        done = run([LAUNCHER, "html", self.site], stdin=subprocess.DEVNULL, **quiet, **closed_streams(0, 1, 2))
         self.expect(done, 1, None, None)
         self.expect_files({"a.html": b"$$$", "b.html": X})
 

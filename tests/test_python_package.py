@@ -192,12 +192,12 @@ import latex2mathml_proved.rendering as it
 
 calls = 0
 
-def counted(*words):
+def count_call(*words):
     global calls
     calls += 1
     return convert(*words)
 
-convert, it.formula = it.formula, counted
+convert, it.formula = it.formula, count_call
 
 def count(formula):
     global calls

@@ -60,13 +60,13 @@ class BuiltSites(Recipe):
     PAGE = "<p>For $5 <!--m-->x<y<!--m--> <code>$HOME</code></p>\n<!--mm-->\na & b\n<!--mm-->\n"
     CONVERTED = "<p>For &#x24;5 {} <code>&#x24;HOME</code></p>\n{}\n"
 
-    def converted(self):
+    def converted_page(self):
         return self.CONVERTED.format(answer_of("x<y"), answer_of("\na & b\n", "block"))
 
     def test_a_site(self):
         self.put({"public/a.html": self.PAGE, "public/b/c.html": self.PAGE, "public/b/d.css": "$"})
         self.convert()
-        for name, text in (("a.html", self.converted()), ("b/c.html", self.converted()), ("b/d.css", "$")):
+        for name, text in (("a.html", self.converted_page()), ("b/c.html", self.converted_page()), ("b/d.css", "$")):
             self.assertEqual((self.site / "public" / name).read_text(), text)
         self.assertEqual([path.name for path in self.site.iterdir()], ["public"])
 
@@ -76,11 +76,11 @@ class BuiltSites(Recipe):
         self.assertEqual(said, f"LaTeX2MathML Error: public.new/b.html: {UNCLOSED}\n")
         self.assertIn(said, section("Convert a built site"))
         self.assertEqual((self.site / "public/a.html").read_text(), self.PAGE)
-        self.assertEqual((self.site / "public.new/c.html").read_text(), self.converted())
+        self.assertEqual((self.site / "public.new/c.html").read_text(), self.converted_page())
         # and again, once the page is corrected, over what the first run left
         self.put({"public/b.html": self.PAGE})
         self.convert()
-        self.assertEqual((self.site / "public/b.html").read_text(), self.converted())
+        self.assertEqual((self.site / "public/b.html").read_text(), self.converted_page())
 
     def test_several_processors(self):
         first, beside = blocks("Convert a built site", "sh")
@@ -90,7 +90,7 @@ class BuiltSites(Recipe):
         self.put(pages)
         self.do("sh", "-c", commands)
         for name in pages:
-            self.assertEqual((self.site / name).read_text(), self.converted())
+            self.assertEqual((self.site / name).read_text(), self.converted_page())
         self.put({"public/b/3.html": "<!--m-->{x<!--m-->"})
         self.do("sh", "-c", commands, status=123, stderr=f"LaTeX2MathML Error: public.new/b/3.html: {UNCLOSED}\n".encode())
 

@@ -26,14 +26,14 @@ fn page(document: &str) -> Result<String, Box<dyn std::error::Error>> {
     Ok(format!("<p>{}</p>", replace(document)?))
 }
 
-fn shown(latex: &str, display: DisplayStyle) -> Result<String, LatexError> {
+fn show(latex: &str, display: DisplayStyle) -> Result<String, LatexError> {
     latex_to_mathml(latex, display)
 }
 
 fn main() {
     println!("{}", latex_to_mathml(r"E = m c^2", DisplayStyle::Block).unwrap());
     println!("{}", page("Let $r$ be.").unwrap());
-    for fault in [shown("{x", DisplayStyle::Inline).unwrap_err().clone(), replace("$").unwrap_err()].iter() {
+    for fault in [show("{x", DisplayStyle::Inline).unwrap_err().clone(), replace("$").unwrap_err()].iter() {
         println!("{}", fault);
         assert!(!format!("{:?}", fault).is_empty());
     }
@@ -42,7 +42,7 @@ fn main() {
 SENTENCE = "Let $x$ be. "
 
 
-def limited(megabytes):
+def memory_limit(megabytes):
     """Limits the memory that a process may allocate."""
     return lambda: resource.setrlimit(resource.RLIMIT_AS, (megabytes * MEGABYTE, megabytes * MEGABYTE))
 
@@ -108,10 +108,10 @@ class Crate(Case):
         page = self.example()
         prose = "No formula. ".encode() * (8 * MEGABYTE // 12)
         # the first guess of the buffer would be half a gigabyte
-        done = run([page], stdin=prose, preexec_fn=limited(200))
+        done = run([page], stdin=prose, preexec_fn=memory_limit(200))
         self.expect(done, stdout=None)
         self.assertIn(prose, done.stdout)
-        done = run([page], stdin=(SENTENCE * (4 * MEGABYTE // len(SENTENCE))).encode(), preexec_fn=limited(30))
+        done = run([page], stdin=(SENTENCE * (4 * MEGABYTE // len(SENTENCE))).encode(), preexec_fn=memory_limit(30))
         self.expect(done, status=1, stdout=b"", stderr=b"Error: OutOfMemory\n")
 
 

@@ -23,7 +23,7 @@ Row = collections.namedtuple("Row", "line cells")
 Contract = collections.namedtuple("Contract", "clauses body")
 
 
-def quoted(cell):
+def names_in(cell):
     """The words of a cell that are in backticks."""
     return re.findall(r"`([^`]+)`", cell)
 
@@ -35,7 +35,7 @@ def rows(heading):
     for number, line in enumerate(TABLE.read_text().split("\n"), 1):
         marks = re.match(r"(#+) (.*)", line)
         if marks and (not level or len(marks[1]) <= level):
-            level = len(marks[1]) if quoted(marks[2]) == [heading] or marks[2] == heading else 0
+            level = len(marks[1]) if names_in(marks[2]) == [heading] or marks[2] == heading else 0
         elif level and line.startswith("| `"):
             found.append(Row(number, [cell.strip() for cell in line.strip("|").split("|")]))
     return found
@@ -70,17 +70,17 @@ def contracts(crate):
                 around = line
             elif re.match(r"\S", line) and not re.match(r"[)}]", line):
                 around = None
-            name = called(line, around)
+            name = name_of_call(line, around)
             promise = contract(lines, at) if name else None
             if promise and promise.clauses:
                 found[name] = promise
             ghost = re.match(r"    ghost (output|from_gives) = ", line)
-            if ghost and implemented(around):
-                found[implemented(around)] = Contract([ghost[1]], "")
+            if ghost and name_of_impl(around):
+                found[name_of_impl(around)] = Contract([ghost[1]], "")
     return found
 
 
-def called(line, around):
+def name_of_call(line, around):
     """The name in the table of the function that begins on the line, if it is public."""
     function = re.match(r"( {4})?(pub )?(?:extern \"C\" )?fn (\w+)", line)
     if not function:
@@ -94,10 +94,10 @@ def called(line, around):
         return f"{trait[1]}::{name}"
     if own:
         return f"{own[1]}::{name}" if is_public and own[1] in public_types() else None
-    return implemented(around)
+    return name_of_impl(around)
 
 
-def implemented(around):
+def name_of_impl(around):
     """`TRAIT for TYPE`, if the lines around implement a trait for a public type."""
     found = re.match(r"impl(?:<.*?>)? (?:\w+::)*(\w+(?:<.*?>+)?) for (\w+)", around or "")
     return f"{found[1]} for {found[2]}" if found and found[2] in public_types() else None
@@ -142,11 +142,11 @@ class WrongBodies(unittest.TestCase):
     def test_each_can_be_applied(self):
         for name, path in edits().items():
             with self.subTest(edit=name):
-                self.assertEqual(unapplied(path), [])
+                self.assertEqual(faults_of(path), [])
 
     def test_each_clause_has_one(self):
         for crate in PROMISING:
-            listed = {f"{call}: {clause}" for row in rows(crate) for call in quoted(row.cells[0]) for clause in quoted(row.cells[1])}
+            listed = {f"{call}: {clause}" for row in rows(crate) for call in names_in(row.cells[0]) for clause in names_in(row.cells[1])}
             promised = {f"{call}: {clause}" for call, it in contracts(crate).items() if call not in laws() for clause in it.clauses}
             with self.subTest(crate=crate):
                 self.assertTrue(promised)
@@ -167,21 +167,21 @@ class WrongBodies(unittest.TestCase):
         rules = set(re.findall(r"^rule \(?(\w+)", grammar, re.M)) - {"pub"}
         around = {name for name in ("core_at_end", "rule_after_core", "rule_after_single") if re.search(rf"\b{name} :", grammar)}
         table = rows("The grammar")
-        self.assertEqual({name for row in table for name in quoted(row.cells[0])}, rules | around)
+        self.assertEqual({name for row in table for name in names_in(row.cells[0])}, rules | around)
         for row in table:
             with self.subTest(line=row.line):
-                self.assertTrue(quoted(row.cells[1]) and quoted(row.cells[2]))
+                self.assertTrue(names_in(row.cells[1]) and names_in(row.cells[2]))
 
     def test_definitions_are_there(self):
         for row in rows("Definitions"):
             with self.subTest(line=row.line):
-                file, _, name = quoted(row.cells[0])[0].partition(".")
+                file, _, name = names_in(row.cells[0])[0].partition(".")
                 texts = [it.read_text() for it in ROOT.glob(f"crates/*/specs/{file}.antt")]
                 self.assertTrue(any(re.search(rf"\b{re.escape(name)} (\(.*\) )?:", it) for it in texts), f"no {name} in a {file}.antt")
 
     def test_callers_are_there(self):
         for row in rows("Callers"):
-            self.assertTrue((ROOT / "crates/latex2mathml_uses/src" / quoted(row.cells[0])[0]).is_file())
+            self.assertTrue((ROOT / "crates/latex2mathml_uses/src" / names_in(row.cells[0])[0]).is_file())
 
     @staticmethod
     def all_rows():
@@ -189,17 +189,17 @@ class WrongBodies(unittest.TestCase):
 
     @staticmethod
     def bodies(row):
-        return [name for cell in row.cells[1:] for name in quoted(cell) if "/" in name]
+        return [name for cell in row.cells[1:] for name in names_in(cell) if "/" in name]
 
 
 @functools.cache
 def laws():
     """The functions that the section on laws names."""
     section = TABLE.read_text().partition("\n## Laws\n")[2].partition("\n## ")[0]
-    return set(quoted(section)) - {"laws"}
+    return set(names_in(section)) - {"laws"}
 
 
-def unapplied(path):
+def faults_of(path):
     """Why an edit cannot be applied: an `old:` text that does not occur exactly once."""
     texts, file, faults = {}, None, []
     old = None

@@ -53,7 +53,7 @@ class Folder:
         """Whether the file is unchanged."""
         return (self.path / name).read_bytes() == FILES[name][0]
 
-    def told(self, lines):
+    def faults_in(self, lines):
         """The names and the faults of a walk's lines."""
         prefix = bytes(self.path)
         for line in lines.splitlines():
@@ -72,7 +72,7 @@ class Folder:
             done = [self.stands(name) for name in CONVERTED]
             case.assertEqual(done, sorted(done, reverse=True), "a file behind one that was not converted")
             return
-        told = list(self.told(lines))
+        told = list(self.faults_in(lines))
         if not is_refused:
             case.assertTrue(self.differs_at(told, None), told)
             return

@@ -5,7 +5,7 @@
 const FORMULA = 'latex2mathml';
 
 // Where the dollar signs that close a formula stand, or -1. A backslash takes the next character with it.
-function closing(text, start, fence) {
+function findEnd(text, start, fence) {
     for (let i = start; i < text.length; i++) {
         if (text[i] === '\\') i++;
         else if (text.startsWith(fence, i)) return i;
@@ -34,7 +34,7 @@ function inlineRule(state, silent) {
     if (text[state.pos] !== '$') return false;
     const fence = text[state.pos + 1] === '$' ? '$$' : '$';
     const start = state.pos + fence.length;
-    const end = closing(text, start, fence);
+    const end = findEnd(text, start, fence);
     const latex = text.slice(start, end);
     const isFound = end > start && !CODE.test(latex) && (fence === '$$' || isInline(latex, text.charAt(end + 1)));
     if (!silent && isFound) addFormula(state, fence, latex).meta = { start };
@@ -48,7 +48,7 @@ function closingLine(state, startLine, endLine) {
     for (let line = startLine; line < endLine && !state.isEmpty(line); line++) {
         if (state.sCount[line] < state.blkIndent) break;
         const text = state.src.slice(state.bMarks[line] + state.tShift[line], state.eMarks[line]).trimEnd();
-        const end = closing(text, line === startLine ? 2 : 0, '$$');
+        const end = findEnd(text, line === startLine ? 2 : 0, '$$');
         if (end >= 0) return end + 2 === text.length ? line : -1;
     }
     return -1;

@@ -9,7 +9,7 @@ from wheel.bdist_wheel import bdist_wheel
 LIBRARY = pathlib.Path("src/latex2mathml_proved/liblatex2mathml.so")
 
 
-def glibc_wanted():
+def wanted_glibc():
     """The version of the GNU C library that the shared library asks for, as (2, 14)."""
     symbols = subprocess.run(["objdump", "-T", LIBRARY], check=True, capture_output=True, text=True).stdout
     return max(tuple(map(int, version)) for version in re.findall(r"GLIBC_(\d+)\.(\d+)", symbols))
@@ -28,7 +28,7 @@ class PlatformWheel(bdist_wheel):
     def get_tag(self):
         if not LIBRARY.exists():
             raise SystemExit("the shared library is missing: tools/make-wheel of the repository makes the wheel")
-        major, minor = glibc_wanted()
+        major, minor = wanted_glibc()
         return "py3", "none", f"manylinux_{major}_{minor}_x86_64"
 
 

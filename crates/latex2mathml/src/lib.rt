@@ -55,5 +55,5 @@ pub fn replace(alloc: Global, input: &str) -> Result<String, LatexError>
         MatchResult result (λ answer. string_bytes answer ≡ input.now) (λ error. refusal_of error ≡ None) }
 {
     laws::renderings();
-    document::convert::converted(alloc, input)
+    document::convert::convert(alloc, input)
 }

@@ -50,7 +50,7 @@ static struct text convert(enum kind kind, struct text text, uint32_t *code) {
 }
 
 /* The answer as the value that is returned, or as an error that is thrown. */
-static napi_value told(napi_env env, uint32_t code, struct text answer) {
+static napi_value result_of(napi_env env, uint32_t code, struct text answer) {
     napi_value value, name, error;
     if (napi_create_string_utf8(env, answer.bytes, answer.length, &value) != napi_ok)
         return NULL;
@@ -62,7 +62,7 @@ static napi_value told(napi_env env, uint32_t code, struct text answer) {
     return NULL;
 }
 
-static napi_value converted(napi_env env, enum kind kind, napi_value word) {
+static napi_value convert_value(napi_env env, enum kind kind, napi_value word) {
     uint32_t code;
     napi_value value = NULL;
     struct text text = text_of(env, word);
@@ -70,7 +70,7 @@ static napi_value converted(napi_env env, enum kind kind, napi_value word) {
     if (text.bytes)
         answer = convert(kind, text, &code);
     if (answer.bytes)
-        value = told(env, code, answer);
+        value = result_of(env, code, answer);
     else
         napi_throw_error(env, "LATEX2MATHML_OUT_OF_MEMORY", "Memory could not be found.");
     free(text.bytes);
@@ -93,7 +93,7 @@ static napi_value formula(napi_env env, napi_callback_info info) {
         napi_throw_type_error(env, NULL, "formula(latex, block) takes a string and a boolean");
         return NULL;
     }
-    return converted(env, block ? BLOCK : INLINE, words[0]);
+    return convert_value(env, block ? BLOCK : INLINE, words[0]);
 }
 
 static napi_value document(napi_env env, napi_callback_info info) {
@@ -104,7 +104,7 @@ static napi_value document(napi_env env, napi_callback_info info) {
         napi_throw_type_error(env, NULL, "document(text) takes a string");
         return NULL;
     }
-    return converted(env, DOCUMENT, word);
+    return convert_value(env, DOCUMENT, word);
 }
 
 static void define(napi_env env, napi_value exports, const char *name, napi_callback callback) {

@@ -127,7 +127,7 @@ fn call(alloc: Global, job: Job, input: &[u8], out: &mut [u8], needed: &mut usiz
 fn text_of(alloc: Global, job: Job, input: &str) -> Result<(Status, String), AllocError>
     ensures { IfOk result (λ told. IsText job input.now told.0 (string_bytes told.1)) }
 {
-    match converted(alloc, job, input) {
+    match convert(alloc, job, input) {
         Ok(markup) => Ok((Status::Done, markup)),
         Err(error) => {
             if error == LatexError::OutOfMemory {
@@ -140,7 +140,7 @@ fn text_of(alloc: Global, job: Job, input: &str) -> Result<(Status, String), All
 }
 
 /// Returns the markup of the text.
-fn converted(alloc: Global, job: Job, text: &str) -> Result<String, LatexError>
+fn convert(alloc: Global, job: Job, text: &str) -> Result<String, LatexError>
     ensures markup { IfOk result (λ markup.
         IsConverted (conversion_of job) text.now (string_bytes markup)) }
     ensures refusal { IfRefused result (IsRefusedAs (conversion_of job) text.now) }

@@ -1,15 +1,15 @@
 //! Each example caller once, with memory to spare.
 use latex2mathml::{DisplayStyle, Stream};
-use latex2mathml_uses::build::{built_twice, rewritten, template};
+use latex2mathml_uses::build::{built_twice, rewrite, template};
 use latex2mathml_uses::cache::Cache;
 use latex2mathml_uses::check;
 use latex2mathml_uses::insert::{article, blank, insert, quotation};
-use latex2mathml_uses::limit::limited;
-use latex2mathml_uses::page::{paragraph, shown};
+use latex2mathml_uses::limit;
+use latex2mathml_uses::page::{paragraph, show};
 use latex2mathml_uses::put::put;
 use latex2mathml_uses::refusal::{Mistake, in_document, in_formula};
 use latex2mathml_uses::symbol::symbol;
-use latex2mathml_uses::wiki::{converted, ends_open, joined};
+use latex2mathml_uses::wiki::{convert, ends_open, join};
 use std::test::Fail;
 
 #[test]
@@ -24,12 +24,12 @@ fn a_paragraph(rt: HostRuntime) -> Result<(), Fail> {
 
 #[test]
 fn what_is_shown(rt: HostRuntime) -> Result<(), Fail> {
-    let page = shown(rt.alloc(), "x")?;
+    let page = show(rt.alloc(), "x")?;
     assert!(rt;
         page.as_str()
             == "<math xmlns=\"http://www.w3.org/1998/Math/MathML\" display=\"inline\"><mi>x</mi></math>"
     );
-    let reason = shown(rt.alloc(), "{x")?;
+    let reason = show(rt.alloc(), "{x")?;
     assert!(rt; reason.starts_with("<math><mtext>[PARSE ERROR: Undefined(\"The token"));
     Ok(())
 }
@@ -53,13 +53,13 @@ fn the_symbol_of_a_command(rt: HostRuntime) -> Result<(), Fail> {
 #[test]
 fn what_a_cache_holds(rt: HostRuntime) -> Result<(), Fail> {
     let mut cache = Cache::new(rt.alloc());
-    assert!(rt; cache.held("x", DisplayStyle::Block).is_none());
+    assert!(rt; cache.get("x", DisplayStyle::Block).is_none());
     let markup = cache.markup(rt.alloc(), "x", DisplayStyle::Block)?;
-    assert!(rt; cache.held("x", DisplayStyle::Block) == Some(&markup));
-    assert!(rt; cache.held("x", DisplayStyle::Inline).is_none());
+    assert!(rt; cache.get("x", DisplayStyle::Block) == Some(&markup));
+    assert!(rt; cache.get("x", DisplayStyle::Inline).is_none());
     assert!(rt; cache.markup(rt.alloc(), "x", DisplayStyle::Block)? == markup);
     assert!(rt; cache.markup(rt.alloc(), "{x", DisplayStyle::Block).is_err());
-    assert!(rt; cache.held("{x", DisplayStyle::Block).is_none());
+    assert!(rt; cache.get("{x", DisplayStyle::Block).is_none());
     Ok(())
 }
 
@@ -92,10 +92,10 @@ fn a_document_between_tags(rt: HostRuntime) -> Result<(), Fail> {
 
 #[test]
 fn sections_that_are_joined(rt: HostRuntime) -> Result<(), Fail> {
-    let first = converted(rt.alloc(), "One is $x$, ")?;
-    let second = converted(rt.alloc(), "and \\$2.")?;
+    let first = convert(rt.alloc(), "One is $x$, ")?;
+    let second = convert(rt.alloc(), "and \\$2.")?;
     assert!(rt; !ends_open(first.source.as_str()));
-    let page = joined(rt.alloc(), &first, &second)?;
+    let page = join(rt.alloc(), &first, &second)?;
     assert!(rt; page.source.as_str() == "One is $x$, and \\$2.");
     assert!(rt;
         page.shown.as_str()
@@ -114,9 +114,9 @@ fn a_build_that_runs_twice(rt: HostRuntime) -> Result<(), Fail> {
         page.as_str()
             == "<math xmlns=\"http://www.w3.org/1998/Math/MathML\" display=\"inline\"><mi>x</mi></math>"
     );
-    let first = rewritten(rt.alloc(), &mut Stream::new(b"$x$".as_slice()))?;
+    let first = rewrite(rt.alloc(), &mut Stream::new(b"$x$".as_slice()))?;
     assert!(rt; first == Some(page));
-    let second = rewritten(rt.alloc(), &mut Stream::new(b"<math></math>".as_slice()))?;
+    let second = rewrite(rt.alloc(), &mut Stream::new(b"<math></math>".as_slice()))?;
     assert!(rt; second == None);
     Ok(())
 }
@@ -151,7 +151,7 @@ fn what_is_to_be_mended(rt: HostRuntime) -> Result<(), Fail> {
 
 #[test]
 fn what_is_within_a_limit(rt: HostRuntime) -> Result<(), Fail> {
-    assert!(rt; limited(rt.alloc(), "x+1", DisplayStyle::Inline, 3)?.is_some());
-    assert!(rt; limited(rt.alloc(), "x+1", DisplayStyle::Inline, 2)?.is_none());
+    assert!(rt; limit::convert(rt.alloc(), "x+1", DisplayStyle::Inline, 3)?.is_some());
+    assert!(rt; limit::convert(rt.alloc(), "x+1", DisplayStyle::Inline, 2)?.is_none());
     Ok(())
 }

@@ -70,7 +70,7 @@ fn document(rt: &HostRuntime, input: &str) -> io::Result<()> {
 }
 
 /// The answer for a document that is read.
-fn reading(rt: &HostRuntime, input: &str) -> io::Result<()> {
+fn read(rt: &HostRuntime, input: &str) -> io::Result<()> {
     let mut source = Stream::new(input.as_bytes());
     mark(rt.alloc(), BEGINNING)?;
     let reading = read_document(rt.alloc(), &mut source);
@@ -110,7 +110,7 @@ fn call(rt: &HostRuntime) -> io::Result<bool> {
         "latex_to_mathml_counted" => counted_formula(rt, text)?,
         "steps" => steps(rt, text)?,
         "replace" => document(rt, text)?,
-        "read_document" => reading(rt, text)?,
+        "read_document" => read(rt, text)?,
         "convert_html" => files(rt, text)?,
         "clone" => return copies::copy(rt, text),
         _ => return Ok(false),

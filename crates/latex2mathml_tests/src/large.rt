@@ -8,7 +8,7 @@ use std::io::{Read, Write};
 use std::test::Fail;
 
 /// This many copies of the character.
-fn repeated(alloc: Global, c: char, count: usize) -> Result<String, AllocError> {
+fn repeat(alloc: Global, c: char, count: usize) -> Result<String, AllocError> {
     let mut text = String::new(alloc);
     for _ in 0..count {
         text.push(c)?;
@@ -35,7 +35,7 @@ const SIZES: [usize; 4] = [1, 4096, 4097, 8 << 20];
 
 /// Whether a fault prints whose refusal has a text of this length.
 fn fault_is_told(alloc: Global, size: usize) -> Result<bool, AllocError> {
-    let fault = FileFault::Refused(LatexError::UnknownEnvironment(repeated(alloc, 'z', size)?));
+    let fault = FileFault::Refused(LatexError::UnknownEnvironment(repeat(alloc, 'z', size)?));
     let said = fault.to_string(alloc)?;
     Ok(is_repeated(
         said.as_str(),
@@ -88,7 +88,7 @@ fn bytes_are_moved(alloc: Global, size: usize) -> Result<bool, AllocError> {
 }
 
 fn text_is_written(alloc: Global, size: usize) -> Result<bool, AllocError> {
-    let text = repeated(alloc, 'x', size)?;
+    let text = repeat(alloc, 'x', size)?;
     let mut sink = stream(Pipe { taken: 0 });
     let ended = write_document(&mut sink, text.as_str());
     Ok(ended == Ok(()) && sink.inner.taken == size as u64)

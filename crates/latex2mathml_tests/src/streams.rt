@@ -213,7 +213,7 @@ struct Flawed {
 
 impl Flawed {
     /// How many of these bytes this call moves.
-    fn moved(&mut self, due: usize) -> io::Result<usize>
+    fn take_step(&mut self, due: usize) -> io::Result<usize>
         ensures { IfOk result (λ n. n ≤ due) }
     {
         self.calls = self.calls.saturating_add(1);
@@ -226,13 +226,13 @@ impl Flawed {
 
 impl Read for Flawed {
     fn read(&mut self, room: &mut [u8]) -> io::Result<usize> {
-        self.moved(room.len())
+        self.take_step(room.len())
     }
 }
 
 impl Write for Flawed {
     fn write(&mut self, bytes: &[u8]) -> io::Result<usize> {
-        self.moved(bytes.len())
+        self.take_step(bytes.len())
     }
 
     fn flush(&mut self) -> io::Result<()> {

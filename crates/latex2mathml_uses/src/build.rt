@@ -13,7 +13,7 @@ use std::alloc::Global;
 /// Reads a page, and returns what a run of the build writes in its place: the answer of the page if the page contains a dollar
 /// sign, and otherwise nothing, because the page is its own answer. What it writes is also its own answer, so the next run
 /// writes nothing. An error is the one that reading the page reports.
-pub fn rewritten<S: Source>(alloc: Global, source: &mut S) -> Result<Option<String>, FileFault>
+pub fn rewrite<S: Source>(alloc: Global, source: &mut S) -> Result<Option<String>, FileFault>
     requires { CanGoOn (S.state source.old) }
     ensures written { IfOk result (λ written. (page : List ℕ)
         × Gives (S.state source.old) (S.state source.new) page

@@ -27,7 +27,7 @@ impl Cache {
     }
 
     /// Returns the markup of the formula, if the cache has it. It is the markup that a call of the library returns.
-    pub fn held(&self, formula: &str, display: DisplayStyle) -> Option<&String>
+    pub fn get(&self, formula: &str, display: DisplayStyle) -> Option<&String>
         requires { IsSound self.now }
         ensures held { option_map (λ markup. string_bytes markup.now) result
             ≡ held_text self.now display formula.now }
@@ -57,15 +57,15 @@ impl Cache {
         ensures refusal { IfRefused result (IsFormulaRefusal formula.now) }
     {
         match display {
-            DisplayStyle::Block => kept(alloc, &mut self.blocks, formula, display),
-            DisplayStyle::Inline => kept(alloc, &mut self.inlines, formula, display),
+            DisplayStyle::Block => look_up(alloc, &mut self.blocks, formula, display),
+            DisplayStyle::Inline => look_up(alloc, &mut self.inlines, formula, display),
         }
     }
 }
 
 /// Returns the markup of the formula: from the map if it is there, and otherwise from a call, whose result is put into the
 /// map.
-fn kept(
+fn look_up(
     alloc: Global,
     map: &mut HashMap<String, String>,
     formula: &str,

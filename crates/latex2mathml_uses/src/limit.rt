@@ -8,7 +8,7 @@ use std::alloc::Global;
 
 /// Returns the markup of a formula of at most `most` tokens, or `None` if the formula has more. An error is the refusal of the
 /// formula, or out of memory.
-pub fn limited(
+pub fn convert(
     alloc: Global,
     formula: &str,
     display: DisplayStyle,

@@ -20,7 +20,7 @@ pub fn paragraph(alloc: Global, formula: &str) -> Result<String, LatexError>
 
 /// Returns what a page shows for a user-supplied formula: its markup for a line of text or, if it is refused, the escaped
 /// reason. The only error is out of memory.
-pub fn shown(alloc: Global, formula: &str) -> Result<String, LatexError>
+pub fn show(alloc: Global, formula: &str) -> Result<String, LatexError>
     ensures { IfOk result (λ shown. IsShown formula.now (string_bytes shown)) }
 {
     match latex_to_mathml(alloc, formula, DisplayStyle::Inline) {

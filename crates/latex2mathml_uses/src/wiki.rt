@@ -18,7 +18,7 @@ pub struct Section {
 }
 
 /// Converts a source to a section. An error is the refusal of the source, or out of memory.
-pub fn converted(alloc: Global, source: &str) -> Result<Section, LatexError>
+pub fn convert(alloc: Global, source: &str) -> Result<Section, LatexError>
     ensures source { IfOk result (λ section. string_bytes section.source ≡ source.now) }
     ensures shown { IfOk result ShowsAnswer }
     ensures refusal { IfRefused result (IsRefusal source.now) }
@@ -30,7 +30,7 @@ pub fn converted(alloc: Global, source: &str) -> Result<Section, LatexError>
 
 /// Joins two sections without converting either again: the text shown is the answer for the joined sources. The first source
 /// must not end in an odd number of backslashes ([`ends_open`]). The only error is out of memory.
-pub fn joined(alloc: Global, first: &Section, second: &Section) -> Result<Section, AllocError>
+pub fn join(alloc: Global, first: &Section, second: &Section) -> Result<Section, AllocError>
     requires first { ShowsAnswer first.now }
     requires second { ShowsAnswer second.now }
     requires whole { ¬ EndsInOddBackslashes (string_bytes first.now.source) }

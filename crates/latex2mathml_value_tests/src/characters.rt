@@ -51,7 +51,7 @@ fn quoted_content(c: char, room: &mut [u8; 4]) -> &str {
 }
 
 /// The character in quotation marks.
-fn quoted(c: char, room: &mut [u8; 4]) -> &str {
+fn quote(c: char, room: &mut [u8; 4]) -> &str {
     match c {
         '"' => "\\\"",
         '\\' => "\\\\",
@@ -166,7 +166,7 @@ fn refusal_tells_text(alloc: Global, c: char) -> Result<bool, AllocError> {
     Ok(is_around(
         said.as_str(),
         before,
-        quoted(c, &mut room),
+        quote(c, &mut room),
         "\")\" is found.\"",
     ))
 }

@@ -1,7 +1,7 @@
 //! Large values: deeply nested nodes, nodes with many members, and each call that allocates, at small and at large sizes. Each call
 //! succeeds if there is memory.
 
-use crate::samples::{Frame, Pair, Triple, Words, applied, leaf};
+use crate::samples::{Frame, Pair, Triple, Words, apply, leaf};
 use latex2mathml_nodes::ast::Node;
 use latex2mathml_tokens::LatexError;
 use latex2mathml_tokens::attribute::{Accent, ColumnAlign, LineThickness};
@@ -10,7 +10,7 @@ use std::alloc::{AllocError, Global};
 use std::test::Fail;
 
 /// This many copies of the character.
-fn repeated(alloc: Global, c: char, count: usize) -> Result<String, AllocError> {
+fn repeat(alloc: Global, c: char, count: usize) -> Result<String, AllocError> {
     let mut text = String::new(alloc);
     for _ in 0..count {
         text.push(c)?;
@@ -32,7 +32,7 @@ fn in_triples(alloc: Global, triple: Triple, x: Node) -> Result<Node, AllocError
 }
 
 /// A node inside each kind that carries scripts or limits, in each of its places.
-fn scripted(alloc: Global, x: Node) -> Result<Node, AllocError> {
+fn script(alloc: Global, x: Node) -> Result<Node, AllocError> {
     let mut x = x;
     for pair in [Pair::Subscript, Pair::Superscript, Pair::Under] {
         x = in_pairs(alloc, pair, x)?;
@@ -44,8 +44,8 @@ fn scripted(alloc: Global, x: Node) -> Result<Node, AllocError> {
 }
 
 /// A node inside each other kind that holds one node.
-fn framed(alloc: Global, x: Node) -> Result<Node, AllocError> {
-    let mut x = applied(alloc, "sin", x)?;
+fn frame(alloc: Global, x: Node) -> Result<Node, AllocError> {
+    let mut x = apply(alloc, "sin", x)?;
     for frame in [
         Frame::Over('^', Accent::True),
         Frame::Under('_', Accent::False),
@@ -60,7 +60,7 @@ fn framed(alloc: Global, x: Node) -> Result<Node, AllocError> {
 }
 
 /// A node inside each other kind that holds two nodes, in each of its places.
-fn paired(alloc: Global, x: Node) -> Result<Node, AllocError> {
+fn pair(alloc: Global, x: Node) -> Result<Node, AllocError> {
     let mut x = x;
     for pair in [
         Pair::Overset,
@@ -101,7 +101,7 @@ fn between(
 }
 
 /// A node inside rows and matrices: alone, first, last and between nodes, which may hold nodes themselves.
-fn listed(alloc: Global, x: Node) -> Result<Node, AllocError> {
+fn list(alloc: Global, x: Node) -> Result<Node, AllocError> {
     let mut x = x;
     for (before, after) in [
         (None, None),
@@ -124,7 +124,7 @@ const LEVELS: usize = 100_000;
 fn deep_scripts_are_dropped(rt: HostRuntime) -> Result<(), Fail> {
     let mut x = leaf('x');
     for _ in 0..LEVELS {
-        x = scripted(rt.alloc(), x)?;
+        x = script(rt.alloc(), x)?;
     }
     assert!(rt; matches!(&x, Node::UnderOver { .. }));
     Ok(())
@@ -134,7 +134,7 @@ fn deep_scripts_are_dropped(rt: HostRuntime) -> Result<(), Fail> {
 fn deep_frames_are_dropped(rt: HostRuntime) -> Result<(), Fail> {
     let mut x = leaf('x');
     for _ in 0..LEVELS {
-        x = paired(rt.alloc(), framed(rt.alloc(), x)?)?;
+        x = pair(rt.alloc(), frame(rt.alloc(), x)?)?;
     }
     assert!(rt; matches!(&x, Node::Frac(..)));
     Ok(())
@@ -144,7 +144,7 @@ fn deep_frames_are_dropped(rt: HostRuntime) -> Result<(), Fail> {
 fn deep_lists_are_dropped(rt: HostRuntime) -> Result<(), Fail> {
     let mut x = leaf('x');
     for _ in 0..LEVELS {
-        x = listed(rt.alloc(), x)?;
+        x = list(rt.alloc(), x)?;
     }
     assert!(rt; matches!(&x, Node::Matrix(..)));
     Ok(())
@@ -204,14 +204,14 @@ const SIZES: [usize; 4] = [1, 4096, 4097, 8 << 20];
 
 /// `\z` is no command of the table.
 fn command_is_itself(alloc: Global, size: usize) -> Result<bool, AllocError> {
-    let name = repeated(alloc, 'z', size)?;
+    let name = repeat(alloc, 'z', size)?;
     let token = Token::from_command(alloc, name.as_str())?;
     let copy = token.clone(alloc)?;
     Ok(copy == token && token == Token::Command(name))
 }
 
 fn number_is_copied(alloc: Global, size: usize) -> Result<bool, AllocError> {
-    let number = Token::Number(repeated(alloc, '7', size)?);
+    let number = Token::Number(repeat(alloc, '7', size)?);
     Ok(number.clone(alloc)? == number)
 }
 
@@ -232,7 +232,7 @@ fn node_is_whole(
     before: &str,
     after: &str,
 ) -> Result<bool, AllocError> {
-    let text = repeated(alloc, 'z', size)?;
+    let text = repeat(alloc, 'z', size)?;
     let node = kind.of(alloc, text.as_str())?;
     let copy = node.clone(alloc)?;
     let printed = copy.to_string(alloc)?;
@@ -264,7 +264,7 @@ fn nodes(rt: HostRuntime) -> Result<(), Fail> {
 fn refusal(alloc: Global, size: usize) -> Result<LatexError, AllocError> {
     Ok(LatexError::UnexpectedToken {
         expected: Token::EOF,
-        got: Token::Command(repeated(alloc, 'z', size)?),
+        got: Token::Command(repeat(alloc, 'z', size)?),
     })
 }
 

@@ -1,6 +1,6 @@
 //! Each law of nodes, called. A law returns nothing, and its statement is proved, so the call only has to return.
 
-use crate::samples::{Words, applied};
+use crate::samples::{Words, apply};
 use latex2mathml_nodes::ast::Node;
 use latex2mathml_nodes::laws;
 use std::test::Fail;
@@ -10,6 +10,6 @@ fn of_markup(rt: HostRuntime) -> Result<(), Fail> {
     let number = Words::Number.of(rt.alloc(), "</mn><math>&")?;
     laws::balanced(&number);
     laws::one_element(&number);
-    laws::balanced(&applied(rt.alloc(), "]]></mi><!--", Node::Operator('<'))?);
+    laws::balanced(&apply(rt.alloc(), "]]></mi><!--", Node::Operator('<'))?);
     Ok(())
 }

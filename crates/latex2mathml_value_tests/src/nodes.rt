@@ -1,6 +1,6 @@
 //! Nodes made by hand, of each kind: their markup.
 
-use crate::samples::{Frame, Pair, Sample, Triple, Words, applied, leaf, leaves as leaves_of};
+use crate::samples::{Frame, Pair, Sample, Triple, Words, apply, leaf, leaves as leaves_of};
 use latex2mathml_nodes::ast::Node;
 use latex2mathml_tokens::DisplayStyle;
 use latex2mathml_tokens::attribute::{Accent, ColumnAlign, LineThickness, Variant};
@@ -303,7 +303,7 @@ fn scripts(alloc: Global) -> Result<Node, AllocError> {
 }
 
 fn function_in_a_fraction(alloc: Global) -> Result<Node, AllocError> {
-    let sine = applied(alloc, "sin", leaf('x'))?;
+    let sine = apply(alloc, "sin", leaf('x'))?;
     let two = Words::Number.of(alloc, "2")?;
     Pair::Fraction(LineThickness::Medium).of(alloc, sine, two)
 }

@@ -122,7 +122,7 @@ impl Triple {
 }
 
 /// A function that is applied, as no formula has one.
-pub fn applied(alloc: Global, name: &str, argument: Node) -> Result<Node, AllocError> {
+pub fn apply(alloc: Global, name: &str, argument: Node) -> Result<Node, AllocError> {
     let name = String::from_str(alloc, name)?;
     let argument = Box::new(alloc, argument)?;
     Ok(Node::Function(name, Some(argument)))
@@ -177,7 +177,7 @@ impl Sample {
             Sample::Ampersand => Ok(Node::Ampersand),
             Sample::NewLine => Ok(Node::NewLine),
             Sample::Words(kind, text) => kind.of(alloc, text),
-            Sample::Applied(name, c) => applied(alloc, name, leaf(c)),
+            Sample::Applied(name, c) => apply(alloc, name, leaf(c)),
             Sample::Frame(kind, c) => kind.around(alloc, leaf(c)),
             Sample::Pair(kind, a, b) => kind.of(alloc, leaf(a), leaf(b)),
             Sample::Triple(kind, a, b, c) => kind.of(alloc, leaf(a), leaf(b), leaf(c)),

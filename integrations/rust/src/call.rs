@@ -83,7 +83,7 @@ mod tests {
     use std::cell::RefCell;
 
     /// A call that comes to a text, and tells the rooms that it was given.
-    fn told(text: &str, code: u32) -> (Result<String, LatexError>, Vec<usize>) {
+    fn answer_of(text: &str, code: u32) -> (Result<String, LatexError>, Vec<usize>) {
         let rooms = RefCell::new(Vec::new());
         let answer = convert(1, |room, length, needed| {
             rooms.borrow_mut().push(length);
@@ -103,7 +103,7 @@ mod tests {
     #[test]
     fn a_room_that_is_too_small() {
         let text = "é".repeat(1000);
-        let (answer, rooms) = told(&text, DONE);
+        let (answer, rooms) = answer_of(&text, DONE);
         assert_eq!(answer, Ok(text));
         assert_eq!(rooms.len(), 2);
         assert!(rooms[0] < 2000 && rooms[1] >= 2000, "{:?}", rooms);
@@ -111,10 +111,10 @@ mod tests {
 
     #[test]
     fn each_code() {
-        assert_eq!(told("why", REFUSED).0, Err(LatexError::Refused("why".to_owned())));
-        assert_eq!(told("why", NOT_UTF8).0, Err(LatexError::Refused("why".to_owned())));
-        assert_eq!(told("", DONE).0, Ok(String::new()));
-        assert_eq!(told("", 4).0, Err(LatexError::OutOfMemory));
+        assert_eq!(answer_of("why", REFUSED).0, Err(LatexError::Refused("why".to_owned())));
+        assert_eq!(answer_of("why", NOT_UTF8).0, Err(LatexError::Refused("why".to_owned())));
+        assert_eq!(answer_of("", DONE).0, Ok(String::new()));
+        assert_eq!(answer_of("", 4).0, Err(LatexError::OutOfMemory));
     }
 
     #[test]

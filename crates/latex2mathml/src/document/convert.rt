@@ -21,7 +21,7 @@ impl From<NoCut> for LatexError {
 }
 
 /// The answer of the document.
-pub(crate) fn converted(alloc: Global, document: &str) -> Result<String, LatexError>
+pub(crate) fn convert(alloc: Global, document: &str) -> Result<String, LatexError>
     ensures answer { IfOk result (λ answer. IsAnswer document.now (string_bytes answer)) }
     ensures refusal { IfRefused result (IsRefusal document.now) }
 {

@@ -65,7 +65,7 @@ class Visitors:
         source = node.astext()
         block = isinstance(node, nodes.math_block)
         is_whole = node.get("no-wrap", node.get("nowrap", False))
-        latex = aligned(source) if block and not is_whole else source
+        latex = align(source) if block and not is_whole else source
         rendering = self._renderer.render(latex, block, source)
         if rendering.fault:
             self._report(node, rendering.fault)
@@ -98,7 +98,7 @@ def place_of(node: nodes.Element) -> str:
     return f"{file}:{above.line + lines_before}"
 
 
-def aligned(latex: str) -> str:
+def align(latex: str) -> str:
     """Returns the text of a directive as one formula: rows, and equations with a blank line between, are lines of `align`."""
     equations = [equation.strip() for equation in latex.split("\n\n") if equation.strip()]
     if len(equations) == 1 and not has_cells(equations[0]):

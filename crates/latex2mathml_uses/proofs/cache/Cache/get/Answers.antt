@@ -1,6 +1,6 @@
 use Rattle.latex2mathml_uses.specs.Cached.{IsOnlyRendering}
 use Rattle.latex2mathml_uses.proofs.CachedRenderings.{lent}
-use Rattle.latex2mathml_uses.proofs.cache.Cache.held.Goals as goal
+use Rattle.latex2mathml_uses.proofs.cache.Cache.get.Goals as goal
 
 pub returns-in-Block-clause-rendering : goal.returns-in-Block-clause-rendering
 returns-in-Block-clause-rendering c = lent (λ m. IsOnlyRendering c.args.formula.now c.args.display m) c.get.result _ c.get.ensures.value (rw c.in-Block.is (c.requires.blocks c.args.formula.now))

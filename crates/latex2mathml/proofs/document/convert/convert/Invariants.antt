@@ -2,7 +2,7 @@
 use Rattle.std.proofs.Common.{List, string_bytes}
 use Rattle.latex2mathml.specs.Pieces.{IsFront}
 use Rattle.latex2mathml.specs.Documents.{Piece, PiecesAnswer}
-use Rattle.latex2mathml.proofs.document.convert.converted.Given as goal
+use Rattle.latex2mathml.proofs.document.convert.convert.Given as goal
 
 abbrev pub invariant-loop-piece : goal.invariant-loop-piece
 invariant-loop-piece l =

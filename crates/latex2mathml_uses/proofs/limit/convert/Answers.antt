@@ -1,6 +1,6 @@
 use Rattle.std.proofs.Common.{ap, arith}
 use Rattle.std.specs.Prelude.{is_ok}
-use Rattle.latex2mathml_uses.proofs.limit.limited.Goals as goal
+use Rattle.latex2mathml_uses.proofs.limit.convert.Goals as goal
 
 -- the reading ended, so all tokens of the text were taken
 pub returns-then-steps-most-clause-limit : goal.returns-then-steps-most-clause-limit

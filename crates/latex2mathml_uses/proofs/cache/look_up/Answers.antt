@@ -2,7 +2,7 @@ use Rattle.std.proofs.Common.{◌≡◌, Some, rules, string_bytes, subst, sym}
 use Rattle.std.proofs.lemmas.Map.Text.{hash_map_updates_text}
 use Rattle.latex2mathml_uses.specs.Cached.{IsOnlyRendering}
 use Rattle.latex2mathml_uses.proofs.CachedRenderings.{lent, one_more, only_rendering}
-use Rattle.latex2mathml_uses.proofs.cache.kept.Goals as goal
+use Rattle.latex2mathml_uses.proofs.cache.look_up.Goals as goal
 
 pub returns-in-Some-clause-rendering : goal.returns-in-Some-clause-rendering
 returns-in-Some-clause-rendering c =
