@@ -70,11 +70,11 @@ class Command:
     text: str
 
 
-def run_with(words, *, fault=None, marked=False, step=None, errors=None, command=None, stdin=b"", timeout=60, **more):
+def run_with(words, *, fault=None, marked=False, step=None, errors=None, command=None, counts=None, stdin=b"", timeout=60, **more):
     """Runs a command with calls that fail, and returns its `CompletedProcess` and the calls that failed, by their kinds.
 
     Reading and writing moves at most `step` bytes a call. Standard error takes `errors` bytes, one a call, and fails then. Where
-    `marked`, calls count between the marks of `faults.c` alone.
+    `marked`, calls count between the marks of `faults.c` alone. `counts` is the file that `counts.c` writes, where it is to count.
     """
     with support.scratch() as folder:
         report = folder / "report"
@@ -87,6 +87,9 @@ def run_with(words, *, fault=None, marked=False, step=None, errors=None, command
             told["FAULT_STEP"] = str(step)
         if errors is not None:
             told["FAULT_ERRORS"] = str(errors)
+        if counts:
+            counts.unlink(missing_ok=True)
+            told |= {"LD_PRELOAD": f"{library('faults')} {library('counts')}", "COUNTS": str(counts)}
         if command:
             told |= {"FAULT_PATH": command.path, "FAULT_TIME": str(command.time), "FAULT_RUN": command.text}
         done = support.run(words, stdin=stdin, timeout=timeout, env=os.environ | told, **more)
@@ -100,5 +103,10 @@ def counts_of(words, *, stdin=b"", timeout=60, **more):
         counts = folder / "counts"
         told = {"LD_PRELOAD": str(library("counts")), "COUNTS": str(counts)}
         done = support.run(words, stdin=stdin, timeout=timeout, env=os.environ | told, **more)
-        lines = counts.read_text().splitlines() if counts.exists() else []
-    return done, {name: int(number) for name, number in map(str.split, lines)}
+        return done, counts_in(counts)
+
+
+def counts_in(path):
+    """What `counts.c` wrote to the file: nothing where the program did not end by itself."""
+    lines = path.read_text().splitlines() if path.exists() else []
+    return {name: int(number) for name, number in map(str.split, lines)}

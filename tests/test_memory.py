@@ -1,5 +1,5 @@
 """Allocations that fail, in calls of the library and in the whole program: each one in turn, and then each one with all that follow
-it, until a run makes fewer allocations.
+it, until a run makes fewer allocations. At the end of each run all memory is freed.
 """
 import itertools
 import unittest
@@ -87,14 +87,17 @@ class Refused(support.Case):
     def in_turn(self, words, way, judge, *, marked=False, stdin=b"", before=lambda: None):
         """Runs the command with each request refused, in this way, until a run makes fewer.
 
-        The judge is told what came of a run, and whether a request was refused in it. `before` is called before each.
+        The judge is told what came of a run, and whether a request was refused in it. `before` is called before each. No run leaves
+        a block of memory that it has not freed.
         """
+        counts = self.enterContext(support.scratch()) / "counts"
         for number in itertools.count(1):
             before()
             fault = way(number)
-            done, failed = faulty.run_with(words, fault=fault, marked=marked, stdin=stdin)
+            done, failed = faulty.run_with(words, fault=fault, marked=marked, stdin=stdin, counts=counts)
             with self.subTest(refused=str(fault) if failed else "none"):
                 judge(done, bool(failed))
+                self.assertEqual(faulty.counts_in(counts)["held"], 0, "blocks of memory that were not freed")
             if not failed:
                 self.assertGreater(number, 1, "no request was refused")
                 return

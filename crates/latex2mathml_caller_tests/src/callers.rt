@@ -2,14 +2,13 @@
 use latex2mathml::{DisplayStyle, Stream};
 use latex2mathml_uses::build::{built_twice, rewrite, template};
 use latex2mathml_uses::cache::Cache;
-use latex2mathml_uses::check;
 use latex2mathml_uses::insert::{article, blank, insert, quotation};
-use latex2mathml_uses::limit;
 use latex2mathml_uses::page::{paragraph, show};
 use latex2mathml_uses::put::put;
 use latex2mathml_uses::refusal::{Mistake, in_document, in_formula};
 use latex2mathml_uses::symbol::symbol;
 use latex2mathml_uses::wiki::{convert, ends_open, join};
+use latex2mathml_uses::{check, limit};
 use std::test::Fail;
 
 #[test]
