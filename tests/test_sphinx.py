@@ -33,7 +33,7 @@ class Project(Case):
     def page(self, name="index"):
         return (self.out / f"{name}.html").read_text(encoding="utf-8")
 
-    def build(self, conf, text, *words, **more):
+    def page_of(self, conf, text, *words, **more):
         """The page of a text, and the warnings of the build."""
         self.write(conf, index=f"Title\n=====\n\n{text}\n")
         done = self.build(*words, **more)
@@ -49,7 +49,7 @@ def formulas(page):
 @requires_python("sphinx")
 class Markup(Project):
     def test_inline_and_displayed(self):
-        page, warnings = self.build(CONF, "A :math:`x<y` here.\n\n.. math:: x<y")
+        page, warnings = self.page_of(CONF, "A :math:`x<y` here.\n\n.. math:: x<y")
         self.assertEqual(warnings, "")
         math = '<math xmlns="http://www.w3.org/1998/Math/MathML" display="{}"><mi>x</mi><mo>&lt;</mo><mi>y</mi></math>'
         self.assertIn(f'<p>A <span class="math notranslate nohighlight">{math.format("inline")}</span> here.</p>', page)
@@ -70,23 +70,23 @@ class Markup(Project):
             (r"a \\\\ b", 3, 3),
         ]:
             with self.subTest(latex):
-                page, warnings = self.build(CONF, f".. math::\n\n   {latex}")
+                page, warnings = self.page_of(CONF, f".. math::\n\n   {latex}")
                 self.assertEqual(warnings, "")
                 self.assertEqual((page.count("<mtr>"), page.count("<mtd>")), (rows, cells))
 
     def test_no_wrapping(self):
-        page, warnings = self.build(CONF, ".. math::\n   :nowrap:\n\n   \\begin{align} a \\\\ b \\end{align}")
+        page, warnings = self.page_of(CONF, ".. math::\n   :nowrap:\n\n   \\begin{align} a \\\\ b \\end{align}")
         self.assertEqual((page.count("<mtable"), page.count("<mtr>"), warnings), (1, 2, ""))
 
     def test_names(self):
         text = r".. math:: x \in \R^n, \tfrac12 \le 1"
-        page, warnings = self.build(CONF + 'latex2mathml_names = {r"\\R": r"\\mathbb{R}"}\n', text)
+        page, warnings = self.page_of(CONF + 'latex2mathml_names = {r"\\R": r"\\mathbb{R}"}\n', text)
         self.assertIn('<msup><mi mathvariant="double-struck">R</mi><mi>n</mi></msup>', page)
         self.assertIn("<mfrac><mn>1</mn><mn>2</mn></mfrac><mo>≤</mo>", page)
         self.assertEqual(warnings, "")
         for option, marked in [("True", ["R"]), ("False", ["R", "tfrac", "le"]), (r'{"\\le": "<"}', ["R"])]:
             with self.subTest(option):
-                page, _ = self.build(CONF + f"latex2mathml_names = {option}\n", text)
+                page, _ = self.page_of(CONF + f"latex2mathml_names = {option}\n", text)
                 self.assertEqual(re.findall(r'Command\(\\"(\w+)', page), marked)
 
     def test_a_name_that_is_none(self):
@@ -172,12 +172,12 @@ class Pages(Project):
         self.assertNotIn("mathjax", self.page("with").lower())
 
     def test_switched_off(self):
-        page, _ = self.build(CONF + "latex2mathml_page = False\n", ":math:`x`")
+        page, _ = self.page_of(CONF + "latex2mathml_page = False\n", ":math:`x`")
         self.assertEqual(self.links(page), [])
         self.assertFalse((self.out / "_static/latex2mathml.js").exists())
 
     def test_other_renderers_are_left_alone(self):
-        page, _ = self.build('extensions = ["latex2mathml_proved.sphinx"]\nhtml_math_renderer = "mathjax"\n', ":math:`x`")
+        page, _ = self.page_of('extensions = ["latex2mathml_proved.sphinx"]\nhtml_math_renderer = "mathjax"\n', ":math:`x`")
         self.assertEqual(self.links(page), [])
         self.assertIn(r"\(x\)", page)
 
@@ -200,7 +200,7 @@ class Pages(Project):
         """The README's lines of conf.py are enough."""
         text = (ROOT / "integrations/python/README.md").read_text(encoding="utf-8")
         [conf] = re.findall(r"In `conf.py`:\n\n```python\n(.*?)```", text, re.DOTALL)
-        page, warnings = self.build(conf, r":math:`\R`")
+        page, warnings = self.page_of(conf, r":math:`\R`")
         self.assertIn('<mi mathvariant="double-struck">R</mi>', page)
         self.assertEqual((len(self.links(page)), warnings), (2, ""))
 
@@ -219,7 +219,7 @@ class Faults(Project):
 
     def test_refused(self):
         """The page shows the formula as it was written, and the build goes on. The warning names the line."""
-        page, said = self.build(CONF, "One\ntwo :math:`{x<y` three.\n\n* An item\n  with :math:`{a`\n\n.. math::\n\n   {b &= c\n\n:math:`d`")
+        page, said = self.page_of(CONF, "One\ntwo :math:`{x<y` three.\n\n* An item\n  with :math:`{a`\n\n.. math::\n\n   {b &= c\n\n:math:`d`")
         reason = OPEN.replace('"', "&quot;")
         code = [f'<code class="latex2mathml-refused" title="{reason}">{{{it}</code>' for it in ("x&lt;y", "a", "b &amp;= c")]
         self.assertEqual(formulas(page)[:3], code)
@@ -227,7 +227,7 @@ class Faults(Project):
         self.assertEqual(self.warnings(said), [(5, f"{{x<y: {OPEN}"), (8, f"{{a: {OPEN}"), (10, f"{{b &= c: {OPEN}")])
 
     def test_marked(self):
-        page, said = self.build(CONF, ":math:`a \\foo b`")
+        page, said = self.page_of(CONF, ":math:`a \\foo b`")
         self.assertIn('<mtext>[PARSE ERROR: Undefined("Command(\\"foo\\")")]</mtext>', page)
         self.assertEqual(self.warnings(said), [(4, 'a \\foo b: marked as an error: Undefined("Command(\\"foo\\")")')])
 
@@ -235,7 +235,7 @@ class Faults(Project):
         """Where it stands in a title, a table, a note or an included file; docutils counts a title's line
         from its end. A title has one warning, though the navigation has it too."""
         (self.source / "part.txt").write_text("Included\n:math:`{e`\n")
-        _, said = self.build(CONF, "A :math:`{a`\n-----------\n\n========== =\n:math:`{b` c\n========== =\n\n[1]_\n\n"
+        _, said = self.page_of(CONF, "A :math:`{a`\n-----------\n\n========== =\n:math:`{b` c\n========== =\n\n[1]_\n\n"
                              ".. [1] A\n   :math:`{d`\n\n.. include:: part.txt")
         places = re.findall(r"(\w+\.\w+):(\d+): WARNING: {(\w):", said)
         self.assertEqual(places, [("index.rst", "5", "a"), ("index.rst", "8", "b"), ("index.rst", "14", "d"), ("part.txt", "2", "e")])
@@ -249,7 +249,7 @@ class Faults(Project):
                 self.assertIn(f"index.rst:4: {latex}: {fault}", done.stderr.decode())
 
     def test_warnings_that_are_suppressed(self):
-        _, said = self.build(CONF + 'suppress_warnings = ["latex2mathml"]\n', ":math:`{x`")
+        _, said = self.page_of(CONF + 'suppress_warnings = ["latex2mathml"]\n', ":math:`{x`")
         self.assertEqual(said, "")
 
 
