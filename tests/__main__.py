@@ -14,6 +14,7 @@ import sys
 from tests.cases import WrongCase
 from tests.modules import Runs, every_name, module_of, name_of
 from tests.results import Counts
+from tests.sources import Sources
 from tests.steps import Copy, Library, Proofs, WrongBodies
 from tests.support import BUILD_NOTHING, ROOT, RUN, scratch
 from tools.progress import Screen, Stopwatch, clock
@@ -40,12 +41,19 @@ def try_modules(names, screen, renews=True):
     return modules, runs.failures
 
 
-def try_everything(screen):
+def try_everything(screen, tries_modules=True):
+    sources = Sources()
+    sources.do(screen)
+    if sources.counts.failed:
+        screen.say("    nothing else is tried, since `rt ci` would refuse these sources, or cases would not run")
+        return [sources], []
+    modules, failures = [], []
     with prove(screen) as steps:
-        # from here on, the tests use only what was proved and built
-        os.environ[BUILD_NOTHING] = "1"
-        modules, failures = try_modules(every_name(), screen)
-    return [*steps, *modules], failures
+        if tries_modules:
+            # from here on, the tests use only what was proved and built
+            os.environ[BUILD_NOTHING] = "1"
+            modules, failures = try_modules(every_name(), screen)
+    return [sources, *steps, *modules], failures
 
 
 def main(words):
@@ -54,14 +62,11 @@ def main(words):
         signal.signal(number, lambda number, frame: sys.exit(128 + number))
     with scratch() as folder:
         os.environ[RUN] = str(folder)
-        if words == ["proofs"]:
-            with prove(screen) as steps:
-                failures = []
-        elif words:
+        if words in ([], ["proofs"]):
+            steps, failures = try_everything(screen, tries_modules=not words)
+        else:
             # a build that they need shows its own progress
             steps, failures = try_modules([name_of(word) for word in words], screen, renews=False)
-        else:
-            steps, failures = try_everything(screen)
     total = Counts()
     for step in steps:
         total.add(step.counts)

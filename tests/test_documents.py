@@ -78,6 +78,17 @@ class Quotes(Case):
         self.assertFalse(missing, f"docs/CALLING.md does not quote: {', '.join(missing)}")
 
 
+class Modules(Case):
+    """The table of the library's modules names each file of definitions and each file of lemmas, and no other."""
+
+    def test_the_files_of_the_table_are_those_of_the_crates(self):
+        rows = [line.split("|") for line in (ROOT / "docs/ARCHITECTURE.md").read_text().split("\n") if line.startswith("| ")]
+        for folder, column in (("specs", 3), ("proofs", 4)):
+            named = {name for row in rows if len(row) == 6 for name in re.findall(r"`([A-Z]\w+)`", row[column])}
+            files = {it.stem for crate in (*quotes.LIBRARY, "latex2mathml_parts") for it in (ROOT / "crates" / crate / folder).glob("*.antt")}
+            self.assertEqual(named, files - {"Lib"}, folder)
+
+
 class Sentences(Case):
     longMessage = False
 

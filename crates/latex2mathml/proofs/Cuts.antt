@@ -1,8 +1,7 @@
 -- Each document has at most one cut, and a piece at its front is the first of it.
 use Rattle.std.proofs.Common.{◌≡◌, ◌≢◌, ℕ, List, [], ◌∷◌, ◌++◌, ◌⊎◌, ◌+◌, drop, eqb, length, true, true-eqb, refl, sym, ap, ◌∙◌, append_assoc, append-nil, ⊎_elim, subst}
-use Rattle.std.specs.Borrow.{Bor}
+use Rattle.std.specs.{Borrow.Bor, Str.Pattern.FindsTextPrefix}
 use Rattle.std.specs.Prelude.{Option, Some, None, MatchOption, IfNone}
-use Rattle.std.specs.Str.Pattern.{FindsTextPrefix}
 use Rattle.latex2mathml.specs.Pieces.{BeginsWithPiece, EndsBefore, IsFront, IsLongest}
 use Rattle.latex2mathml.specs.Documents.{Piece, prose, inline, display, piece_text, spelling, IsPlain, IsPiece, MayFollow, ArePieces, IsCut, HasCut}
 use Rattle.latex2mathml.proofs.PlainTexts.{plain_begins, plain_ends_once, body_plain, body_ends, ends_before_head}

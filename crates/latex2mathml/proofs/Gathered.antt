@@ -1,9 +1,7 @@
 -- One entry more of a directory: its name, or that it was not read.
 use Rattle.std.proofs.Common.{◌≡◌, ℕ, ◌+◌, List, [], ◌∷◌, ◌++◌, Result, Ok, Err, String, refl, sym, ap, ◌∙◌, map, string_bytes}
 use Rattle.std.proofs.lemmas.List.{map-append}
-use Rattle.std.specs.declared.alloc.Global.{Global}
-use Rattle.std.specs.Fs.{dir_entry_name}
-use Rattle.std.specs.declared.fs.dir.DirEntry.{DirEntry}
+use Rattle.std.specs.{declared.alloc.Global.Global, Fs.dir_entry_name, declared.fs.dir.DirEntry.DirEntry}
 use Rattle.latex2mathml.specs.Entries.{names_of, unread_of}
 
 module _ {R A F D E : Type 0} where

@@ -3,13 +3,11 @@ use Rattle.std.proofs.Common.{◌≡◌, ◌≢◌, ℕ, List, [], ◌∷◌, �
 use Rattle.std.specs.Prelude.{IfOk, IfSome, MatchResult, String}
 use Rattle.latex2mathml.specs.DocumentLaws.{RepeatsAnswers}
 use Rattle.latex2mathml.specs.Documents.{Piece, prose, inline, display, IsPiece, ArePieces, IsCut, PieceAnswer, PiecesAnswer, IsAnswer, FirstRefused, IsRefusal}
-use Rattle.latex2mathml_formulas.specs.Dollars.{IsDollarFree, free_both}
-use Rattle.latex2mathml_formulas.specs.RenderingLaws.{RenderingsHold}
+use Rattle.latex2mathml_formulas.specs.{Dollars.IsDollarFree, Dollars.free_both, RenderingLaws.RenderingsHold}
 use Rattle.latex2mathml_tokens.specs.Refusal.{Refusal, IfRefused, refusal_of}
 use Rattle.latex2mathml_tokens.specs.declared.DisplayStyle.TheVariants.{Block, Inline}
 use Rattle.latex2mathml_tokens.specs.declared.error.LatexError.{LatexError}
-use Rattle.latex2mathml.proofs.Cuts.{one_cut_lem}
-use Rattle.latex2mathml.proofs.ProseTexts.{free_plain, free_prose, free_stays}
+use Rattle.latex2mathml.proofs.{Cuts.one_cut_lem, ProseTexts.free_plain, ProseTexts.free_prose, ProseTexts.free_stays}
 
 -- An answer of pieces holds no dollar sign.
 free_piece : RenderingsHold → (piece : Piece) (answer : List ℕ) → IsPiece piece → PieceAnswer piece answer → IsDollarFree answer

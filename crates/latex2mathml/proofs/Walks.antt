@@ -3,14 +3,10 @@ use Rattle.std.proofs.Common.{◌≡◌, ◌≢◌, ℕ, ◌+◌, ◌-◌, ◌<�
 use Rattle.std.proofs.lemmas.List.{take_all, take_more}
 use Rattle.std.specs.declared.alloc.Global.{Global}
 use Rattle.latex2mathml.specs.Files.{Answer, Answered, Ascend, IsListed, IsReadingFault, IsWritingFault, Holds, Listed, Lists, ListsEach, NoMore, Next, Stands, IsWalked, entry_path}
-use Rattle.latex2mathml.specs.Inputs.{IsReadingOf}
-use Rattle.latex2mathml.specs.Streams.{IsStopped, StreamState}
-use Rattle.latex2mathml.specs.declared.error.FileFault.{FileFault}
+use Rattle.latex2mathml.specs.{Inputs.IsReadingOf, Streams.IsStopped, Streams.StreamState, declared.error.FileFault.FileFault}
 use Rattle.latex2mathml.specs.declared.error.FileFault.TheVariants.{List as Unlisted, Entry, TooDeep, Read, NotText, Refused, Create, Write}
-use Rattle.latex2mathml.specs.declared.files.Unconverted.{Unconverted}
-use Rattle.latex2mathml.specs.declared.files.site.Listing.{Listing}
-use Rattle.latex2mathml.specs.declared.files.site.PathKind.TheVariants.{Directory}
-use Rattle.latex2mathml.specs.declared.input.Reading.{Reading}
+use Rattle.latex2mathml.specs.{declared.files.Unconverted.Unconverted, declared.files.site.Listing.Listing}
+use Rattle.latex2mathml.specs.{declared.files.site.PathKind.TheVariants.Directory, declared.input.Reading.Reading}
 
 pub reading_fault : (bytes : List ℕ) (state : StreamState) (result : Result Reading FileFault) → IsReadingOf bytes state result → IfErr result IsReadingFault
 reading_fault bytes state (Ok reading) is = tt

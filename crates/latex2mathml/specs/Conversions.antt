@@ -1,11 +1,9 @@
 -- What a text is converted as, what becomes of it, and how it is refused.
 use Rattle.std.specs.Prelude.{ℕ, List}
 use Rattle.latex2mathml.specs.Documents.{IsAnswer, IsRefusal}
-use Rattle.latex2mathml_formulas.specs.Dollars.{IsDollarFree}
-use Rattle.latex2mathml_formulas.specs.Rendering.{IsFormulaRefusal, IsRendering}
+use Rattle.latex2mathml_formulas.specs.{Dollars.IsDollarFree, Rendering.IsFormulaRefusal, Rendering.IsRendering}
 use Rattle.latex2mathml_trees.specs.MathSchema.{IsMathElement}
-use Rattle.latex2mathml_tokens.specs.Refusal.{Refusal}
-use Rattle.latex2mathml_tokens.specs.declared.DisplayStyle.{DisplayStyle}
+use Rattle.latex2mathml_tokens.specs.{Refusal.Refusal, declared.DisplayStyle.DisplayStyle}
 
 -- one formula, set so, or a document
 pub data Conversion : Type 0 where

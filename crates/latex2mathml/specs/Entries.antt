@@ -1,7 +1,6 @@
 -- The entries that the system gives of a directory: their names, and how many could not be read.
 use Rattle.std.specs.Prelude.{ℕ, ◌+◌, List, [], ◌∷◌, Result, Ok, Err}
-use Rattle.std.specs.Fs.{dir_entry_name}
-use Rattle.std.specs.declared.fs.dir.DirEntry.{DirEntry}
+use Rattle.std.specs.{Fs.dir_entry_name, declared.fs.dir.DirEntry.DirEntry}
 
 module _ {R A F D E : Type 0} where
   abbrev pub names_of : List (Result (DirEntry R A F D) E) → List (List ℕ)

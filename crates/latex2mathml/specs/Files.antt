@@ -1,15 +1,9 @@
 -- What a document is called, what a walk asks of a site, and which list it answers.
 use Rattle.std.specs.Prelude.{◌≡◌, ◌≢◌, ◌⊎◌, ◌==◌, ◌-◌, ⊤, ℕ, List, [], ◌∷◌, ◌++◌, All, IsPermutation, Option, None, Some, Result, Ok, Err, length, slice_index, String, codes, string_bytes, if◌then◌else◌}
-use Rattle.std.specs.Cmp.Lexicographic.{slice_cmp}
-use Rattle.std.specs.List.Sorted.{IsSortedByKey}
-use Rattle.std.specs.Ordering.{nat_cmp}
-use Rattle.std.specs.Str.{byte}
-use Rattle.std.specs.declared.alloc.Global.{Global}
-use Rattle.latex2mathml.specs.declared.error.FileFault.{FileFault}
+use Rattle.std.specs.{Cmp.Lexicographic.slice_cmp, List.Sorted.IsSortedByKey, Ordering.nat_cmp, Str.byte, declared.alloc.Global.Global}
+use Rattle.latex2mathml.specs.{declared.error.FileFault.FileFault, declared.files.Unconverted.Unconverted}
 use Rattle.latex2mathml.specs.declared.error.FileFault.TheVariants.{List as Unlisted, Entry, TooDeep, Read, NotText, Refused, Create, Write}
-use Rattle.latex2mathml.specs.declared.files.Unconverted.{Unconverted}
-use Rattle.latex2mathml.specs.declared.files.site.Listing.{Listing}
-use Rattle.latex2mathml.specs.declared.files.site.PathKind.{PathKind}
+use Rattle.latex2mathml.specs.{declared.files.site.Listing.Listing, declared.files.site.PathKind.PathKind}
 use Rattle.latex2mathml.specs.declared.files.site.PathKind.TheVariants.{Directory, File, Other}
 
 abbrev pub slash : ℕ

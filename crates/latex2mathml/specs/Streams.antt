@@ -1,8 +1,7 @@
 -- What is known of a source or a sink, how a call of either may end, and how a writing may stop.
 use Rattle.std.specs.Prelude.{ℕ, ◌<◌, ◌==◌, ◌&&◌, nat_lt, List, Bool, false, Option, None, Some, length, take, IsFalse, IsTrue}
 use Rattle.std.specs.Io.KnownBytes.{Appends, Consumes}
-use Rattle.latex2mathml.specs.declared.error.FileFault.{FileFault}
-use Rattle.latex2mathml.specs.declared.error.FileFault.TheVariants.{Write}
+use Rattle.latex2mathml.specs.{declared.error.FileFault.FileFault, declared.error.FileFault.TheVariants.Write}
 use Rattle.latex2mathml.specs.declared.error.WriteCause.{WriteCause}
 use Rattle.latex2mathml.specs.declared.error.WriteCause.TheVariants.{Failed, TookNothing}
 

@@ -1,14 +1,10 @@
 -- What writing a line results in.
 use Rattle.std.proofs.Common.{◌≡◌, ◌==◌, ◌↔◌, ℕ, suc, ◌+◌, ◌<◌, ◌≤◌, Bool, true, false, IsTrue, List, [], ◌∷◌, ◌++◌, Option, None, Some, Result, Ok, Err, IfErr, OnOk, inl, inr, length, true-eqb, map, take, drop, refl, sym, ap, ◌∙◌, subst, append-nil, append_assoc, arith, take-append-drop, slice_index_or}
-use Rattle.std.proofs.KnownBytes.{Appends-trans}
-use Rattle.std.proofs.Math.Seq.{drop-cons}
-use Rattle.std.proofs.lemmas.List.{map-append, take_more}
-use Rattle.std.specs.Io.KnownBytes.{Appends, Keeps}
-use Rattle.std.specs.Result.{is_ok}
+use Rattle.std.proofs.{KnownBytes.Appends-trans, Math.Seq.drop-cons, lemmas.List.map-append, lemmas.List.take_more}
+use Rattle.std.specs.{Io.KnownBytes.Appends, Io.KnownBytes.Keeps, Result.is_ok}
 use Rattle.latex2mathml.specs.Streams.{CanGoOn, IsCause, IsStopped, StreamState, Takes}
-use Rattle.latex2mathml.specs.declared.error.FileFault.{FileFault}
+use Rattle.latex2mathml.specs.{declared.error.FileFault.FileFault, declared.error.WriteCause.WriteCause}
 use Rattle.latex2mathml.specs.declared.error.FileFault.TheVariants.{List as Unlisted, Entry, TooDeep, Read, NotText, Refused, Create, Write}
-use Rattle.latex2mathml.specs.declared.error.WriteCause.{WriteCause}
 use Rattle.latex2mathml.specs.declared.error.WriteCause.TheVariants.{Failed, TookNothing}
 use Rattle.latex2mathml.specs.declared.files.Unconverted.{Unconverted}
 use Rattle.latex2mathml_app.specs.Serving.{JoinsSomeOf, LinesPrinted, ExitsWithLines, IsSilent, done, not_done, StoppedAt, LineWritten, LinePrinted, Whole, Found, LeftOut, Stopped, unconverted_line}

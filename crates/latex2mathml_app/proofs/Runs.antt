@@ -1,11 +1,8 @@
 -- Where the bytes read were not converted, the output was not called.
 use Rattle.std.proofs.Common.{◌≡◌, ℕ, List, Result, Ok, Err, sym, subst}
 use Rattle.std.proofs.KnownBytes.{Keeps-refl}
-use Rattle.std.specs.Io.KnownBytes.{Keeps}
-use Rattle.std.specs.Prelude.{IsErrAnd}
-use Rattle.latex2mathml.specs.Conversions.{Conversion}
-use Rattle.latex2mathml.specs.Inputs.{IsMissed}
-use Rattle.latex2mathml.specs.Streams.{CanGoOn, StreamState}
+use Rattle.std.specs.{Io.KnownBytes.Keeps, Prelude.IsErrAnd}
+use Rattle.latex2mathml.specs.{Conversions.Conversion, Inputs.IsMissed, Streams.CanGoOn, Streams.StreamState}
 use Rattle.latex2mathml.specs.declared.error.FileFault.{FileFault}
 use Rattle.latex2mathml.specs.declared.error.FileFault.TheVariants.{List as Unlisted, Entry, TooDeep, Read, NotText, Refused, Create, Write}
 use Rattle.latex2mathml_app.specs.Run.{IsRunOn}

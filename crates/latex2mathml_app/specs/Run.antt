@@ -1,12 +1,10 @@
 -- What a run of the program makes of the bytes that it read, and what it may come to.
 use Rattle.std.specs.Prelude.{◌≡◌, ℕ, List, ◌++◌, Result, Ok, Err, String, codes, string_bytes}
-use Rattle.std.specs.Io.KnownBytes.{Keeps}
-use Rattle.std.specs.declared.alloc.Global.{Global}
+use Rattle.std.specs.{Io.KnownBytes.Keeps, declared.alloc.Global.Global}
 use Rattle.latex2mathml.specs.Conversions.{Conversion, IsConverted, formula, document}
 use Rattle.latex2mathml.specs.Formulas as display
-use Rattle.latex2mathml.specs.Inputs.{IsMissed, IsWholeText}
+use Rattle.latex2mathml.specs.{Inputs.IsMissed, Inputs.IsWholeText, declared.error.FileFault.FileFault}
 use Rattle.latex2mathml.specs.Streams.{CanGoOn, Gives, IsStopped, StreamState, Takes}
-use Rattle.latex2mathml.specs.declared.error.FileFault.{FileFault}
 use Rattle.latex2mathml.specs.declared.error.FileFault.TheVariants.{Write}
 use Rattle.latex2mathml_app.specs.declared.job.Job.{Job}
 use Rattle.latex2mathml_app.specs.declared.job.Job.TheVariants.{Inline, Block, Document}

@@ -1,16 +1,11 @@
 -- What the words of the command line ask for, and the lines and the status that answer them.
 use Rattle.std.specs.Prelude.{◌≡◌, ◌⊎◌, ℕ, List, [], ◌∷◌, ◌++◌, Option, Result, Ok, Err, codes, map, string_bytes}
 use Rattle.std.specs.Io.KnownBytes.{Keeps}
-use Rattle.latex2mathml.specs.Faults.{fault_text}
-use Rattle.latex2mathml.specs.Files.{Answer, IsWalked, levels_read}
+use Rattle.latex2mathml.specs.{Faults.fault_text, Files.Answer, Files.IsWalked, Files.levels_read, declared.error.FileFault.FileFault}
 use Rattle.latex2mathml.specs.Streams.{CanGoOn, IsStopped, StreamState, Takes}
-use Rattle.latex2mathml.specs.declared.error.FileFault.{FileFault}
 use Rattle.latex2mathml.specs.declared.error.FileFault.TheVariants.{Refused, Write}
-use Rattle.latex2mathml.specs.declared.error.WriteCause.{WriteCause}
-use Rattle.latex2mathml.specs.declared.files.Unconverted.{Unconverted}
-use Rattle.latex2mathml.specs.Formulas.{OutOfMemory}
-use Rattle.latex2mathml_app.specs.Run.{IsRun}
-use Rattle.latex2mathml_app.specs.declared.job.Job.{Job}
+use Rattle.latex2mathml.specs.{declared.error.WriteCause.WriteCause, declared.files.Unconverted.Unconverted, Formulas.OutOfMemory}
+use Rattle.latex2mathml_app.specs.{Run.IsRun, declared.job.Job.Job}
 use Rattle.latex2mathml_app.specs.declared.job.Job.TheVariants.{Inline, Block, Document}
 
 -- the word that names a job

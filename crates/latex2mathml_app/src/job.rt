@@ -1,8 +1,7 @@
 //! A run of the program, from its input to its output.
 ghost use Rattle.std.specs.Prelude.{◌≡◌, ◌++◌, IfOk, IsTrue, codes, string_bytes};
 ghost use Rattle.std.specs.Io.KnownBytes.{IsAtEnd};
-ghost use Rattle.latex2mathml.specs.Conversions.{formula, document};
-ghost use Rattle.latex2mathml.specs.Formulas.{IfRefused, IsFormulaRefusal};
+ghost use Rattle.latex2mathml.specs.{Conversions.formula, Conversions.document, Formulas.IfRefused, Formulas.IsFormulaRefusal};
 ghost use Rattle.latex2mathml.specs.Streams.{CanGoOn};
 ghost use Rattle.latex2mathml_app.specs.Run.{IsMade, IsRun, IsProduct, conversion_of};
 

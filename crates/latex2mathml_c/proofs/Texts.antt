@@ -5,8 +5,7 @@ use Rattle.latex2mathml.specs.Formulas.{Refusal, error_text, refusal_text, Rende
 use Rattle.latex2mathml.specs.Conversions.{Conversion, IsConverted, IsRefusedAs, formula, document}
 use Rattle.latex2mathml.specs.DocumentLaws.{AnswersHold}
 use Rattle.latex2mathml_c.specs.Call.{IsLength, IsCallOutcome, IsPutOrTooSmall, IsText, Room, code_of, conversion_of}
-use Rattle.latex2mathml_c.specs.declared.Job.{Job}
-use Rattle.latex2mathml_c.specs.declared.Job.TheVariants.{Formula, Document}
+use Rattle.latex2mathml_c.specs.{declared.Job.Job, declared.Job.TheVariants.Formula, declared.Job.TheVariants.Document}
 use Rattle.latex2mathml_c.specs.declared.Status.{Status}
 use Rattle.latex2mathml_c.specs.declared.Status.TheVariants.{Done, Refused, NotUtf8, TooSmall, OutOfMemory}
 

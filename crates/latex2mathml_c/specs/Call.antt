@@ -2,8 +2,7 @@
 use Rattle.std.specs.Prelude.{◌≡◌, ◌≢◌, ◌<◌, ◌≤◌, ◌⊎◌, ℕ, List, ◌++◌, Bool, true, false, IsUtf8, codes, drop, length}
 use Rattle.latex2mathml.specs.Formulas.{Refusal, refusal_text, DisplayStyle, Block, Inline}
 use Rattle.latex2mathml.specs.Conversions.{Conversion, IsConverted, IsRefusedAs, formula, document}
-use Rattle.latex2mathml_c.specs.declared.Job.{Job}
-use Rattle.latex2mathml_c.specs.declared.Job.TheVariants.{Formula, Document}
+use Rattle.latex2mathml_c.specs.{declared.Job.Job, declared.Job.TheVariants.Formula, declared.Job.TheVariants.Document}
 use Rattle.latex2mathml_c.specs.declared.Status.{Status}
 use Rattle.latex2mathml_c.specs.declared.Status.TheVariants.{Done, Refused, NotUtf8, TooSmall, OutOfMemory}
 

@@ -5,12 +5,10 @@
 #![tactic(auto)]
 
 ghost use Rattle.std.specs.Prelude.{◌≡◌, ◌≢◌, IfOk, string_bytes};
-ghost use Rattle.latex2mathml_c.specs.declared.Job.TheVariants.{Document, Formula};
-ghost use Rattle.latex2mathml_c.specs.declared.Status.{Status};
+ghost use Rattle.latex2mathml_c.specs.{declared.Job.TheVariants.Document, declared.Job.TheVariants.Formula, declared.Status.Status};
 ghost use Rattle.latex2mathml_c.specs.declared.Status.TheVariants.{OutOfMemory};
 ghost use Rattle.latex2mathml_c.specs.Call.{IsLength, IsCallOutcome, IsPutOrTooSmall, IsText, code_of, conversion_of, display_of};
-ghost use Rattle.latex2mathml.specs.Conversions.{IsConverted, IsRefusedAs};
-ghost use Rattle.latex2mathml.specs.Formulas.{IfRefused};
+ghost use Rattle.latex2mathml.specs.{Conversions.IsConverted, Conversions.IsRefusedAs, Formulas.IfRefused};
 
 use latex2mathml::{DisplayStyle, LatexError, latex_to_mathml, laws, replace};
 use std::alloc::{AllocError, Global};

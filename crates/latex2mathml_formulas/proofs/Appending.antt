@@ -1,24 +1,13 @@
 -- The nodes of a formula, read and printed one after another.
-use Rattle.std.proofs.Common.{◌≡◌, ◌≢◌, ℕ, ◌<◌, Bool, true, false, Option, List, [], ◌∷◌, ◌++◌, length, Some, None, refl, sym, ap, subst, ◌∙◌, append_assoc, append-nil, arith}
+use Rattle.std.proofs.Common.{◌≡◌, ◌≢◌, ℕ, ◌<◌, Option, List, [], ◌∷◌, ◌++◌, length, Some, None, refl, sym, ap, subst, ◌∙◌, append_assoc, append-nil, arith}
 use Rattle.latex2mathml_formulas.specs.Counts.{AreNodes, IsRefusedWithin, no_node, one_more}
-use Rattle.latex2mathml_formulas.specs.Frames.{inside}
+use Rattle.latex2mathml_formulas.specs.{Frames.inside, Levels.Made, Levels.RuleLeads, Marks.MarkStands, declared.parse.frames.Frame.Frame}
 use Rattle.latex2mathml_formulas.specs.Grammar.{core, first, gives, rule, node, Outcome, Read, Refused, Reads, ReadsAll, formula_ends, member_read, later_refused, member_refused, ReadsFormula, Refuses}
-use Rattle.latex2mathml_trees.specs.Print.{print, prints}
+use Rattle.latex2mathml_trees.specs.{Print.print, Print.prints, Tree.Tree, Tree.trees_of}
 use Rattle.std.specs.Prelude.{IfSome}
-use Rattle.latex2mathml_formulas.specs.Steps.{Holds, IsAppended, end_of}
-use Rattle.latex2mathml_tokens.specs.Refusal.{Refusal, refusal_of}
-use Rattle.latex2mathml_tokens.specs.declared.error.LatexError.{LatexError}
-use Rattle.latex2mathml_formulas.specs.declared.parse.Parser.{Parser}
-use Rattle.latex2mathml_formulas.specs.declared.parse.State.TheVariants as state
-use Rattle.latex2mathml_tokens.specs.Tok.{Tok}
-use Rattle.latex2mathml_trees.specs.Tree.{Tree, trees_of}
-use Rattle.latex2mathml_formulas.specs.Levels.{Made, RuleLeads}
-use Rattle.latex2mathml_formulas.specs.Marks.{MarkStands}
-use Rattle.latex2mathml_formulas.specs.declared.parse.frames.Frame.{Frame}
+use Rattle.latex2mathml_tokens.specs.{Refusal.Refusal, Refusal.refusal_of, declared.error.LatexError.LatexError, Tok.Tok}
 use Rattle.latex2mathml_formulas.specs.declared.reader.mark.Mark.{Mark}
-use Rattle.latex2mathml_formulas.proofs.Levels.{gives_read, lone_node}
-use Rattle.latex2mathml_formulas.proofs.Stacks.{token_begun}
-use Rattle.latex2mathml_formulas.proofs.Total.{some_taken}
+use Rattle.latex2mathml_formulas.proofs.{Levels.gives_read, Levels.lone_node, Stacks.token_begun, Total.some_taken}
 
 -- the outcome of a formula of which these trees were read first
 abbrev pub behind : List Tree → Outcome (List Tree) → Outcome (List Tree)
@@ -85,42 +74,21 @@ one_refused : (place : List Tok) (r : Refusal) → place ≢ [] → Reads node p
 one_refused [] r some d = absurd (some refl)
 one_refused (t ∷ ts) r some d = member_refused (no_end t) d
 
--- the next node refuses
-node_refused : (input place : List Tok) (old new : List ℕ) (r : Refusal) → (place ≢ []) × Reads node place (Refused r) → Appends input place old new → Refuses input r
-unfolding Refuses
-node_refused input place old new r d so_far = so_far.leads _ (one_refused place r d.0 d.1)
+-- where some value has this, it has that as well
+pub some_so : {A : Type 0} (P Q : A → Type 0) (o : Option A) → ((x : A) → P x → Q x) → IfSome o P → IfSome o Q
+some_so P Q None so h = tt
+some_so P Q (Some x) so h = so x h
 
--- .. as the parser holds it
+-- the next node refuses, as the parser holds it
 pub formula_refused : (input place : List Tok) (old new : List ℕ) (error held : LatexError) → error ≡ held → place ≢ [] → IfSome (refusal_of held) (λ r. Reads node place (Refused r)) → Appends input place old new → IfSome (refusal_of error) (Refuses input)
+unfolding Refuses
 formula_refused input place old new error held same some d so_far =
-    subst (λ e. IfSome (refusal_of e) (Refuses input)) (sym same) (told (refusal_of held) d)
-  where
-    told : (o : Option Refusal) → IfSome o (λ r. Reads node place (Refused r)) → IfSome o (Refuses input)
-    told None d = tt
-    told (Some r) d = node_refused input place old new r (some, d) so_far
+    subst (λ e. IfSome (refusal_of e) (Refuses input)) (sym same) (some_so (λ r. Reads node place (Refused r)) (Refuses input) (refusal_of held) (λ r d. so_far.leads _ (one_refused place r some d)) d)
 
 -- .. and some of its tokens were taken
 pub within_node : (input place left : List Tok) (old new : List ℕ) (error held : LatexError) → error ≡ held → IfSome (refusal_of held) (λ r. Reads node place (Refused r)) → Appends input place old new → length left < length place → IfSome (refusal_of error) (IsRefusedWithin input left)
 within_node input place left old new error held same d so_far less =
-    subst (λ e. IfSome (refusal_of e) (IsRefusedWithin input left)) (sym same) (told (refusal_of held) d)
-  where
-    told : (o : Option Refusal) → IfSome o (λ r. Reads node place (Refused r)) → IfSome o (IsRefusedWithin input left)
-    told None d = tt
-    told (Some r) d = (place, so_far.are, d, less)
-
--- Whether the node is read.
-
-pub node_read : (p : Parser) (input : List Tok) (read : Bool) → read ≡ true → Holds input p (end_of read) → Holds input p state.End
-node_read p input read is k = subst (λ b. Holds input p (end_of b)) is k
-
-pub none_read : (p : Parser) (input : List Tok) (read : Bool) → read ≡ false → Holds input p (end_of read) → Holds input p state.Refused
-none_read p input read is k = subst (λ b. Holds input p (end_of b)) is k
-
-pub appended : (input : List Tok) (p : Parser) (old new : List ℕ) (read : Bool) → read ≡ true → IsAppended input p old new read → IsAppended input p old new true
-appended input p old new read is k = subst (IsAppended input p old new) is k
-
-pub not_appended : (input : List Tok) (p : Parser) (old new : List ℕ) (read : Bool) → read ≡ false → IsAppended input p old new read → Holds input p state.Refused
-not_appended input p old new read is k = subst (IsAppended input p old new) is k
+    subst (λ e. IfSome (refusal_of e) (IsRefusedWithin input left)) (sym same) (some_so (λ r. Reads node place (Refused r)) (IsRefusedWithin input left) (refusal_of held) (λ r d. (place, so_far.are, d, less)) d)
 
 -- where a token stands, some token does
 pub some_stands : (t : Tok) (place to : List Tok) → place ≡ t ∷ to → place ≢ []

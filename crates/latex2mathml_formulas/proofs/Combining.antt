@@ -1,149 +1,86 @@
 -- Trees that are made of the last trees, and where they lead.
-use Rattle.std.proofs.Common.{◌≡◌, ℕ, ◌+◌, ◌-◌, ◌≤◌, List, [], ◌∷◌, ◌++◌, length, drop, take, reverse, refl, sym, ap, subst, ◌∙◌, arith, add-one}
-use Rattle.std.proofs.lemmas.List.{reverse-append}
-use Rattle.std.proofs.Math.Seq.{drop-nil}
-use Rattle.latex2mathml_formulas.specs.Frames.{after_members, end_of, tree_count, innermost, inside, script, within}
-use Rattle.latex2mathml_formulas.specs.Grammar.{Sort, core, node, gives, of_one, Outcome, Read, rule_gives}
-use Rattle.latex2mathml_formulas.specs.Levels.{awaits_members, end_token, level_of_rule, Leads, Made, RuleLeads, Accepts}
-use Rattle.latex2mathml_trees.specs.Style.{styled}
+use Rattle.std.proofs.Common.{◌≡◌, ◌⊎◌, inl, inr, ℕ, suc, ◌+◌, ◌-◌, ◌≤◌, List, [], ◌∷◌, ◌++◌, length, drop, take, reverse, refl, sym, ap, ◌∙◌, arith, add-one, append_assoc, append-nil}
+use Rattle.std.proofs.{lemmas.List.reverse-append, Math.Seq.drop-nil}
+use Rattle.latex2mathml_formulas.specs.Frames.{after_members, end_of, innermost, inside, one_of_pair, standing_of, tree_count, two_of_pair, unfit, within}
+use Rattle.latex2mathml_formulas.specs.Grammar.{core, of_one, Read, group_ends, rule_gives}
+use Rattle.latex2mathml_formulas.specs.Levels.{Accepts, end_token, Leads, Made, remaining, RuleLeads}
 use Rattle.latex2mathml_trees.specs.Tree.{Tree}
-use Rattle.latex2mathml_parts.specs.Parts.{arity, put, top}
-use Rattle.latex2mathml_parts.specs.declared.kind.Kind.{Kind}
+use Rattle.latex2mathml_parts.specs.{Parts.arity, Parts.put, Parts.top, declared.kind.Kind.Kind}
 use Rattle.latex2mathml_parts.specs.declared.kind.Kind.TheVariants as kind
 use Rattle.latex2mathml_tokens.specs.Tok.{Tok}
-use Rattle.latex2mathml_tokens.specs.declared.attribute.Variant.{Variant}
 use Rattle.latex2mathml_formulas.specs.declared.parse.frames.Due.TheVariants as due
-use Rattle.latex2mathml_formulas.specs.declared.parse.frames.Frame.{Frame}
+use Rattle.latex2mathml_formulas.specs.{declared.parse.frames.Frame.Frame, declared.parse.frames.Group.Group}
 use Rattle.latex2mathml_formulas.specs.declared.parse.frames.Frame.TheVariants as frame
-use Rattle.latex2mathml_formulas.specs.declared.parse.frames.Group.{Group}
 use Rattle.latex2mathml_formulas.specs.declared.parse.frames.Group.TheVariants as group
-use Rattle.latex2mathml_formulas.specs.declared.parse.frames.GroupEnd.{GroupEnd}
-use Rattle.latex2mathml_formulas.specs.declared.reader.mark.Sign.{Sign}
-use Rattle.latex2mathml_formulas.proofs.Levels.{group_ended, group_grown, node_due, part_leads}
-use Rattle.latex2mathml_formulas.proofs.Stacks.{innermost_is, inside_push}
+use Rattle.latex2mathml_formulas.specs.{declared.parse.frames.GroupEnd.GroupEnd, declared.parse.frames.Pair.Pair}
+use Rattle.latex2mathml_formulas.specs.declared.parse.frames.Pair.TheVariants as pair
+use Rattle.latex2mathml_formulas.specs.declared.reader.mark.Sign.TheVariants.{Sub}
+use Rattle.latex2mathml_formulas.proofs.{Levels.group_grown, Stacks.innermost_push, Stacks.inside_push}
 
--- Lists of trees.
+-- Operands. A part needs no more of the trees before it than these operands.
 
-below_put : (k : Kind) (ts : List Tree) → drop 1 (put k ts) ≡ drop (arity k) ts
-below_put kind.Sqrt ts = refl
-below_put k ts = refl
+pub last_operand : (k : Kind) (ts : List Tree) → top (put k ts) ≡ top (put k (top ts ∷ drop 1 ts))
+last_operand kind.Sqrt ts = refl
+last_operand k ts = refl
 
-leaf_top : (k : Kind) (ts us : List Tree) → arity k ≡ 0 → top (put k ts) ≡ top (put k us)
-leaf_top kind.Ampersand ts us e = refl
-leaf_top kind.NewLine ts us e = refl
-leaf_top (kind.Number digits) ts us e = refl
-leaf_top (kind.Letter c variant) ts us e = refl
-leaf_top (kind.Operator c) ts us e = refl
-leaf_top (kind.Paren paren) ts us e = refl
-leaf_top (kind.Space width) ts us e = refl
-leaf_top (kind.Function name) ts us e = refl
-leaf_top (kind.Limit name) ts us e = refl
-leaf_top (kind.SizedParen size paren) ts us e = refl
-leaf_top k ts us e = absurd (omega arith)
-
-pub some_trees : (ts : List Tree) → 1 ≤ length ts → ts ≡ top ts ∷ drop 1 ts
-some_trees [] h = absurd (omega arith)
-some_trees (t ∷ ts) h = refl
-
-drop_suc : (n : ℕ) (ts : List Tree) → drop (n + 1) ts ≡ drop n (drop 1 ts)
-drop_suc n [] = rw add-one (sym (drop-nil n))
-drop_suc n (t ∷ ts) = rw add-one refl
+pub first_operand : (k : Kind) (x : Tree) (ts : List Tree) → top (put k (x ∷ ts)) ≡ top (put k (x ∷ top ts ∷ drop 1 ts))
+first_operand kind.Sqrt x ts = refl
+first_operand k x ts = refl
 
 pub drop_from_one : (n : ℕ) (ts : List Tree) → 1 ≤ n → drop n ts ≡ drop (n - 1) (drop 1 ts)
-drop_from_one n ts h =
-    let same : n ≡ (n - 1) + 1 = omega arith in
-    ap (λ m. drop m ts) same ∙ drop_suc (n - 1) ts
+drop_from_one n [] h = drop-nil n ∙ sym (drop-nil (n - 1))
+drop_from_one n (t ∷ ts) h =
+    let same : n ≡ suc (n - 1) = omega arith in
+    ap (λ m. drop m (t ∷ ts)) same
 
--- A tree is put in the place of those that it is made of.
+-- the last operand of a part is read, be it a core or a single
+pub last_read : (input : List Tok) (fs : List Frame) (f : Frame) (k : Kind) (ts : List Tree) (place : List Tok) → (f ≡ frame.Operand k) ⊎ (f ≡ frame.Last k) → unfit f ≡ 0 → Accepts (within input fs f (drop 1 ts)) (Read (top ts) place) → Made core (inside input fs (drop (arity k) ts)) (Read (top (put k ts)) place)
+last_read input fs f k ts place h fits m = rw (last_operand k ts, drop_from_one (arity k) ts (some h)) (given h)
+  where
+    some : (f ≡ frame.Operand k) ⊎ (f ≡ frame.Last k) → 1 ≤ arity k
+    some (inl e) = let none = rw e at fits in omega arith
+    some (inr e) = let none = rw e at fits in omega arith
 
-pub made_put : (s : Sort) (input : List Tok) (fs : List Frame) (us vs : List Tree) (x : Tree) (place : List Tok) → us ≡ x ∷ vs → Made s (inside input fs vs) (Read x place) → Made s (inside input fs (drop 1 us)) (Read (top us) place)
-made_put s input fs us vs x place e k = subst (λ ws. Made s (inside input fs (drop 1 ws)) (Read (top ws) place)) (sym e) k
-
-pub core_put : (input : List Tok) (fs : List Frame) (us vs : List Tree) (x : Tree) (place : List Tok) → us ≡ x ∷ vs → Made core (inside input fs vs) (Read x place) → Made core (inside input fs (drop 1 us)) (Read (top us) place)
-core_put input fs us vs x place e k = made_put core input fs us vs x place e k
-
--- a part is put after its operands
-pub combined : (input : List Tok) (fs : List Frame) (k : Kind) (ts us : List Tree) (place : List Tok) → us ≡ put k ts → Made core (inside input fs (drop (arity k) ts)) (Read (top (put k ts)) place) → Made core (inside input fs (drop 1 us)) (Read (top us) place)
-combined input fs k ts us place e m =
-    subst (λ ws. Made core (inside input fs (drop 1 ws)) (Read (top ws) place)) (sym e)
-    (subst (λ ws. Made core (inside input fs ws) (Read (top (put k ts)) place)) (sym (below_put k ts)) m)
-
--- .. which has none
-pub leaf_put : (input : List Tok) (fs : List Frame) (k : Kind) (ts us : List Tree) (place : List Tok) → arity k ≡ 0 → us ≡ put k ts → Made core (inside input fs ts) (Read (top (put k [])) place) → Made core (inside input fs (drop 1 us)) (Read (top us) place)
-leaf_put input fs k ts us place none e m =
-    combined input fs k ts us place e
-    (subst (λ n. Made core (inside input fs (drop n ts)) (Read (top (put k ts)) place)) (sym none)
-    (subst (λ x. Made core (inside input fs ts) (Read x place)) (leaf_top k [] ts none) m))
-
--- The part that a frame waits for.
-
--- what the part leads to where the frame is this one
-pub as_frame : (input : List Tok) (fs : List Frame) (f g : Frame) (ts : List Tree) (o : Outcome Tree) → f ≡ g → Accepts (within input fs f ts) o → Accepts (within input fs g ts) o
-as_frame input fs f g ts o e k = subst (λ h. Accepts (within input fs h ts) o) e k
-
--- the last operand of a part is read
-last_read : (input : List Tok) (fs : List Frame) (k : Kind) (ts : List Tree) (place : List Tok) → 1 ≤ arity k → 1 ≤ length ts → Made core (inside input fs (drop (arity k - 1) (drop 1 ts))) (Read (top (put k (top ts ∷ drop 1 ts))) place) → Made core (inside input fs (drop (arity k) ts)) (Read (top (put k ts)) place)
-last_read input fs k ts place some h m =
-    subst (λ us. Made core (inside input fs us) (Read (top (put k ts)) place)) (sym (drop_from_one (arity k) ts some))
-    (subst (λ us. Made core (inside input fs (drop (arity k - 1) (drop 1 ts))) (Read (top (put k us)) place)) (sym (some_trees ts h)) m)
-
-pub operand_read : (input : List Tok) (fs : List Frame) (f : Frame) (k : Kind) (ts : List Tree) (place : List Tok) → f ≡ frame.Operand k → 1 ≤ arity k → 1 ≤ length ts → Accepts (within input fs f (drop 1 ts)) (Read (top ts) place) → Made core (inside input fs (drop (arity k) ts)) (Read (top (put k ts)) place)
-operand_read input fs f k ts place e some h m = last_read input fs k ts place some h (as_frame input fs f (frame.Operand k) (drop 1 ts) _ e m _ rule_gives)
-
-pub last_single_read : (input : List Tok) (fs : List Frame) (f : Frame) (k : Kind) (ts : List Tree) (place : List Tok) → f ≡ frame.Last k → 1 ≤ arity k → 1 ≤ length ts → Accepts (within input fs f (drop 1 ts)) (Read (top ts) place) → Made core (inside input fs (drop (arity k) ts)) (Read (top (put k ts)) place)
-last_single_read input fs f k ts place e some h m = last_read input fs k ts place some h (as_frame input fs f (frame.Last k) (drop 1 ts) _ e m _ rule_gives)
+    given : (f ≡ frame.Operand k) ⊎ (f ≡ frame.Last k) → Made core (inside input fs (drop (arity k - 1) (drop 1 ts))) (Read (top (put k (top ts ∷ drop 1 ts))) place)
+    given (inl e) = (rw e at m) _ rule_gives
+    given (inr e) = (rw e at m) _ rule_gives
 
 -- the first of two operands is read, and the second is due
-pub first_read : (input : List Tok) (fs : List Frame) (f : Frame) (k : Kind) (ts : List Tree) (place : List Tok) → f ≡ frame.First k → arity k ≡ 2 → 1 ≤ length ts → Accepts (within input fs f (drop 1 ts)) (Read (top ts) place) → Leads (within input fs (frame.Operand k) ts) place
-first_read input fs f k ts place e two h m =
-    let one : 1 ≡ arity k - 1 = omega arith in
-    let below : drop 1 ts ≡ drop (arity k - 1) ts = ap (λ n. drop n ts) one in
-    let l = inside input fs (drop 1 ts) in
-    let a : RuleLeads (of_one (λ y. top (put k (y ∷ top ts ∷ drop 1 ts)))) (Made core l) place = as_frame input fs f (frame.First k) (drop 1 ts) _ e m in
-    let b : RuleLeads (of_one (λ y. top (put k (y ∷ ts)))) (Made core l) place = subst (λ us. RuleLeads (of_one (λ y. top (put k (y ∷ us)))) (Made core l) place) (sym (some_trees ts h)) a in
-    part_leads core (λ y. gives (top (put k (y ∷ ts)))) (Made core (inside input fs (drop (arity k - 1) ts))) place
-    (subst (λ us. RuleLeads (of_one (λ y. top (put k (y ∷ ts)))) (Made core (inside input fs us)) place) below b)
+pub first_read : (input : List Tok) (fs : List Frame) (k : Kind) (ts : List Tree) {place : List Tok} → (2 - arity k) + (arity k - 2) ≡ 0 → RuleLeads (of_one (λ y. top (put k (y ∷ top ts ∷ drop 1 ts)))) (Made core (inside input fs (drop 1 ts))) place → RuleLeads (of_one (λ y. top (put k (y ∷ ts)))) (Made core (inside input fs (drop (arity k - 1) ts))) place
+first_read input fs k ts fits m =
+    let two : arity k ≡ 2 = omega arith in
+    rw two (simp (← first_operand) at m)
 
--- what a style is given to is read
-pub styled_read : (input : List Tok) (fs : List Frame) (f : Frame) (v : Variant) (ts us : List Tree) (place : List Tok) → f ≡ frame.Style v → us ≡ styled v (top ts) ∷ drop 1 ts → Accepts (within input fs f (drop 1 ts)) (Read (top ts) place) → Made core (inside input fs (drop 1 us)) (Read (top us) place)
-styled_read input fs f v ts us place e made m = core_put input fs us (drop 1 ts) (styled v (top ts)) place made (as_frame input fs f (frame.Style v) (drop 1 ts) _ e m _ rule_gives)
+-- One single, or two.
 
--- a script is read
-pub script_read : (input : List Tok) (fs : List Frame) (f : Frame) (sign : Sign) (ts us : List Tree) (place : List Tok) → f ≡ frame.Script sign → us ≡ script sign (top (drop 1 ts)) (top ts) ∷ drop 2 ts → Accepts (within input fs f (drop 1 ts)) (Read (top ts) place) → Accepts (inside input fs (drop 1 us)) (Read (top us) place)
-script_read input fs f sign ts us place e made m =
-    let l = inside input fs (drop 1 (drop 1 ts)) in
-    let read : Made node l (Read (script sign (top (drop 1 ts)) (top ts)) place) = as_frame input fs f (frame.Script sign) (drop 1 ts) _ e m _ rule_gives in
-    subst (λ vs. Accepts (inside input fs (drop 1 vs)) (Read (top vs) place)) (sym (made ∙ ap (λ vs. script sign (top (drop 1 ts)) (top ts) ∷ vs) (drop_from_one 2 ts (omega arith)))) (node_due l _ read)
+pub arity_of_one : (p : Pair) → arity (one_of_pair p) ≡ 1
+arity_of_one (pair.BigOp c Sub) = refl
+arity_of_one (pair.Integral c Sub) = refl
+arity_of_one p = refl
+
+pub arity_of_two : (p : Pair) → arity (two_of_pair p) ≡ 2
+arity_of_two (pair.BigOp c Sub) = refl
+arity_of_two (pair.Integral c Sub) = refl
+arity_of_two p = refl
 
 -- Members.
 
-one_more : (n : ℕ) (ts : List Tree) → 1 ≤ length ts → reverse (take (n + 1) ts) ≡ reverse (take n (drop 1 ts)) ++ top ts ∷ []
-one_more n [] h = absurd (omega arith)
-one_more n (t ∷ ts) h = rw add-one (reverse-append (t ∷ []) (take n ts))
+below_member : (g : Group) (n : ℕ) (t : Tree) (ts : List Tree) → drop (tree_count (frame.Members g (n + 1))) (t ∷ ts) ≡ drop (tree_count (frame.Members g n)) ts
+below_member group.Environment n t ts = rw (add-one (n + 1))
+below_member g n t ts = rw (add-one n)
 
-held_more : (g : Group) (n : ℕ) → tree_count (frame.Members g (n + 1)) ≡ tree_count (frame.Members g n) + 1
-held_more group.Brace n = refl
-held_more g n = refl
+one_more : (g : Group) (n : ℕ) (t : Tree) (ts xs : List Tree) → after_members g (drop n ts) (reverse (take n ts) ++ t ∷ xs) ≡ after_members g (drop (n + 1) (t ∷ ts)) (reverse (take (n + 1) (t ∷ ts)) ++ xs)
+one_more g n t ts xs = rw (add-one, reverse-append (t ∷ []) (take n ts), append_assoc)
 
 -- one more member is read
-pub member_read : (input : List Tok) (fs : List Frame) (f : Frame) (g : Group) (n : ℕ) (ts : List Tree) (place : List Tok) → f ≡ frame.Members g n → 1 ≤ length ts → Accepts (within input fs f (drop 1 ts)) (Read (top ts) place) → Leads (within input fs (frame.Members g (n + 1)) ts) place
-member_read input fs f g n ts place e h m =
-    let held_is : drop (tree_count (frame.Members g n)) (drop 1 ts) ≡ drop (tree_count (frame.Members g (n + 1))) ts = sym (ap (λ k. drop k ts) (held_more g n) ∙ drop_suc (tree_count (frame.Members g n)) ts) in
-    let a = as_frame input fs f (frame.Members g n) (drop 1 ts) _ e m in
-    let b = group_grown (end_of g) (reverse (take n (drop 1 ts))) (reverse (take (n + 1) ts)) (after_members g (drop n (drop 1 ts))) core (inside input fs (drop (tree_count (frame.Members g n)) (drop 1 ts))) (top ts) place (one_more n ts h) a in
-    grown held_is b
-  where
-    grown : drop (tree_count (frame.Members g n)) (drop 1 ts) ≡ drop (tree_count (frame.Members g (n + 1))) ts → Leads (level_of_rule (awaits_members (end_of g) (reverse (take (n + 1) ts)) (after_members g (drop n (drop 1 ts)))) core (inside input fs (drop (tree_count (frame.Members g n)) (drop 1 ts)))) place → Leads (within input fs (frame.Members g (n + 1)) ts) place
-    grown e k = subst (λ us. Leads (level_of_rule (awaits_members (end_of g) (reverse (take (n + 1) ts)) (after_members g us)) core (inside input fs (drop (tree_count (frame.Members g (n + 1))) ts))) place) (sym (drop_suc n ts))
-        (subst (λ us. Leads (level_of_rule (awaits_members (end_of g) (reverse (take (n + 1) ts)) (after_members g (drop n (drop 1 ts)))) core (inside input fs us)) place) e k)
-
-same_end : (end other : GroupEnd) → due.Member end ≡ due.Member other → end ≡ other
-same_end end other e = cc
+pub member_read : (input : List Tok) (fs : List Frame) (g : Group) (n : ℕ) (ts : List Tree) (place : List Tok) → 1 ≤ length ts → Accepts (within input fs (frame.Members g n) (drop 1 ts)) (Read (top ts) place) → RuleLeads (remaining (standing_of (frame.Members g (n + 1)) ts)) (Made core (inside input fs (drop (tree_count (frame.Members g (n + 1))) ts))) place
+member_read input fs g n [] place h m = absurd (omega arith)
+member_read input fs g n (t ∷ ts) place h m = rw (below_member g n t ts) (group_grown (one_more g n t ts) m)
 
 -- the end of the innermost group is taken
 pub group_closed : (input : List Tok) (fs gs : List Frame) (g : Group) (n : ℕ) (end : GroupEnd) (ts : List Tree) (place : List Tok) → gs ≡ fs ++ frame.Members g n ∷ [] → innermost gs ≡ due.Member end → Leads (inside input gs ts) (end_token end ∷ place) → RuleLeads (after_members g (drop n ts) (reverse (take n ts))) (Made core (inside input fs (drop (tree_count (frame.Members g n)) ts))) place
 group_closed input fs gs g n end ts place e d k =
-    let ends : end ≡ end_of g = same_end end (end_of g) (sym d ∙ innermost_is fs gs (frame.Members g n) e) in
-    let a = subst (λ x. Leads (inside input gs ts) (end_token x ∷ place)) ends k in
-    let b = subst (λ l. Leads l (end_token (end_of g) ∷ place)) (inside_push input fs gs (frame.Members g n) ts e) a in
-    group_ended (end_of g) (reverse (take n ts)) (after_members g (drop n ts)) core (inside input fs (drop (tree_count (frame.Members g n)) ts)) place b
+    let due : due.Member end ≡ due.Member (end_of g) = sym d ∙ ap innermost e ∙ innermost_push fs (frame.Members g n) in
+    let same : end ≡ end_of g = cc in
+    let within_group = rw (inside_push input fs gs (frame.Members g n) ts e) at k in
+    rw append-nil at (within_group (Read [] place) (group_ends (ap (λ x. end_token x ∷ place) same)))

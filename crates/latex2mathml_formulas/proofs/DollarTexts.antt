@@ -1,5 +1,5 @@
 -- Texts that hold no dollar sign, escaped and in numbers.
-use Rattle.std.proofs.Common.{◌≡◌, ℕ, zero, suc, ℤ, pos, negsuc, ◌+◌, ◌/◌, ◌%◌, ◌<◌, Bool, true, false, not, List, [], ◌∷◌, ⊎_elim, refl, arith, codes, cond, nat_eq}
+use Rattle.std.proofs.Common.{◌≡◌, ℕ, zero, suc, ℤ, pos, negsuc, ◌+◌, ◌/◌, ◌%◌, ◌<◌, Bool, true, false, List, [], ◌∷◌, ⊎_elim, refl, arith, codes, cond, nat_eq}
 use Rattle.std.specs.Char.{encode_utf8}
 use Rattle.std.specs.Fmt.{decimal, digits, digits_onto, digit_glyph}
 use Rattle.std.proofs.lemmas.Bool.Decides.{eqb_tells, nat_tests}
@@ -12,11 +12,8 @@ free_if true a b x y = x
 free_if false a b x y = y
 
 -- Contents escape it.
-free_last : (b : ℕ) → IsDollarFree (cond (nat_eq b 36) (codes "&#x24;") (b ∷ []))
-free_last b = ⊎_elim (λ h. rw h.0 refl) (λ h. rw h.0 (free_one b (other b h.1))) (eqb_tells b 36)
-
 free_content_byte : (b : ℕ) → IsDollarFree (content_byte b)
-free_content_byte b = free_if (nat_eq b 38) (codes "&amp;") _ refl (free_if (nat_eq b 60) (codes "&lt;") _ refl (free_if (nat_eq b 62) (codes "&gt;") _ refl (free_last b)))
+free_content_byte b = free_if (nat_eq b 38) (codes "&amp;") _ refl (free_if (nat_eq b 60) (codes "&lt;") _ refl (free_if (nat_eq b 62) (codes "&gt;") _ refl (⊎_elim (λ h. rw h.0 refl) (λ h. rw h.0 (free_one b (other b h.1))) (eqb_tells b 36))))
 
 pub free_content : (bs : List ℕ) → IsDollarFree (content bs)
 free_content [] = refl
@@ -27,11 +24,8 @@ free_content_char c = free_content (encode_utf8 c)
 
 -- Values keep it.
 free_value_byte : (b : ℕ) → is_other b ≡ true → IsDollarFree (value_byte b)
-free_value_byte b h = free_if (nat_eq b 34) (codes "&quot;") _ refl (by (nat_eq b 36) h)
-  where
-    by : (p : Bool) → not p ≡ true → IsDollarFree (cond p (codes "$") (content_byte b))
-    by true e = absurd (cc e)
-    by false e = free_content_byte b
+free_value_byte b h =
+    free_if (nat_eq b 34) (codes "&quot;") _ refl (⊎_elim (λ k. absurd (cc (h, k.0))) (λ k. rw k.0 (rw k.0 at (free_content_byte b))) (eqb_tells b 36))
 
 pub free_value : (bs : List ℕ) → IsDollarFree bs → IsDollarFree (value bs)
 free_value [] h = refl

@@ -2,22 +2,17 @@
 use Rattle.std.proofs.Common.{ℕ, Bool, true, false, List, ◌++◌, Option, Some, None, refl, codes, nat_eq}
 use Rattle.std.specs.Fmt.{decimal}
 use Rattle.latex2mathml_tokens.specs.Attributes.{accent_text, align_text, bool_text, display_text, thickness_text, variant_text}
-use Rattle.latex2mathml_formulas.specs.Dollars.{IsDollarFree, free_both}
+use Rattle.latex2mathml_formulas.specs.{Dollars.IsDollarFree, Dollars.free_both, Rendering.math_print}
 use Rattle.latex2mathml_tokens.specs.Escape.{content, content_char, quoted, value}
 use Rattle.latex2mathml_trees.specs.Print.{print, prints, members_print, letter_print, operator_print, slashed_print, member_print, style_open}
-use Rattle.latex2mathml_formulas.specs.Rendering.{math_print}
 use Rattle.latex2mathml_trees.specs.Tree.{Tree, Trees, number, letter, operator, function, applied, space, subscript, superscript, sub_sup, over_op, under_op, overset, underset, under, under_over, root, sqrt, frac, row, fenced, stretched, other_operator, sized_paren, words, matrix, ampersand, new_line, slashed, style, undefined, no_trees, more_trees, trees_of}
 use Rattle.latex2mathml_trees.specs.Width.{width_text}
 use Rattle.latex2mathml_tokens.specs.declared.DisplayStyle.{DisplayStyle}
 use Rattle.latex2mathml_tokens.specs.declared.DisplayStyle.TheVariants.{Block, Inline}
-use Rattle.latex2mathml_tokens.specs.declared.attribute.Variant.{Variant}
-use Rattle.latex2mathml_tokens.specs.declared.attribute.Variant.TheVariants.{Italic}
-use Rattle.latex2mathml_tokens.specs.declared.attribute.Accent.{Accent}
-use Rattle.latex2mathml_tokens.specs.declared.attribute.Accent.TheVariants.{True}
-use Rattle.latex2mathml_tokens.specs.declared.attribute.LineThickness.{LineThickness}
-use Rattle.latex2mathml_tokens.specs.declared.attribute.LineThickness.TheVariants.{Length}
-use Rattle.latex2mathml_tokens.specs.declared.attribute.ColumnAlign.{ColumnAlign}
-use Rattle.latex2mathml_tokens.specs.declared.attribute.ColumnAlign.TheVariants.{Center}
+use Rattle.latex2mathml_tokens.specs.{declared.attribute.Variant.Variant, declared.attribute.Variant.TheVariants.Italic}
+use Rattle.latex2mathml_tokens.specs.{declared.attribute.Accent.Accent, declared.attribute.Accent.TheVariants.True}
+use Rattle.latex2mathml_tokens.specs.{declared.attribute.LineThickness.LineThickness, declared.attribute.LineThickness.TheVariants.Length}
+use Rattle.latex2mathml_tokens.specs.{declared.attribute.ColumnAlign.ColumnAlign, declared.attribute.ColumnAlign.TheVariants.Center}
 use Rattle.latex2mathml_formulas.proofs.DollarTexts.{free_if, free_content, free_content_char, free_value, free_decimal, free_width}
 
 -- no size in the tree holds a dollar sign

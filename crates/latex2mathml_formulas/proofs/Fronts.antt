@@ -1,12 +1,8 @@
 -- The first character of a text, and what stands in it before its end, byte by byte.
 use Rattle.std.proofs.Common.{◌≡◌, ℕ, ◌+◌, ◌-◌, ◌<◌, ◌≤◌, List, [], ◌∷◌, ◌++◌, take, drop, eqb, length, false, inl, inr, true, true-eqb, None, Some, refl, sym, ap, subst, ◌∙◌, arith}
-use Rattle.std.proofs.Math.Seq.{take-append_seam}
-use Rattle.std.proofs.lemmas.List.{length-append}
+use Rattle.std.proofs.{Math.Seq.take-append_seam, lemmas.List.length-append, lemmas.Bool.cases_lt, lemmas.Bool.Decides.nat_tests}
 use Rattle.std.proofs.lemmas.Str.{chars_past_char, encode_ascii, encodes-append, encodes-chars, IsCharBoundary-after_ascii, IsCharBoundary-at_seam}
-use Rattle.std.proofs.lemmas.Bool.{cases_lt}
-use Rattle.std.proofs.lemmas.Bool.Decides.{nat_tests}
-use Rattle.std.specs.Char.{encode_utf8, is_ascii}
-use Rattle.std.specs.Prelude.{slice_get}
+use Rattle.std.specs.{Char.encode_utf8, Char.is_ascii, Prelude.slice_get}
 use Rattle.std.specs.Str.{chars, encode_utf8_all, IsUtf8, IsCharBoundary}
 use Rattle.latex2mathml_formulas.specs.Characters.{Stops, head}
 

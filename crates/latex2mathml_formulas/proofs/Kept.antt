@@ -1,105 +1,152 @@
--- One induction over what is read: where each rule keeps a property of trees, of refusals and of tokens, all that is read
--- of tokens that have it has it.
-use Rattle.std.proofs.Common.{ℕ, List, [], ◌∷◌, Option, subst}
-use Rattle.latex2mathml_formulas.specs.Grammar.{Sort, Rule, gives, refuses, reads_part, reads_members, reads_sign, takes_token, sees_token, takes_letters, rule, rule_after_core, rule_after_single, Outcome, Read, Refused, first_or_end, AreLetters, Reads, core_at_end, core_begun, single_read, node_read, ReadsRule, rule_gives, rule_refuses, part_read, part_refused, members_read, members_refused, sign_stands, sign_missing, token_taken, token_at_end, token_seen, letters_taken, ReadsAll, formula_ends, group_ends, never_closed, member_read, later_refused, member_refused}
-use Rattle.latex2mathml_trees.specs.Tree.{Tree, undefined}
-use Rattle.latex2mathml_tokens.specs.Refusal.{Refusal, UnexpectedToken}
-use Rattle.latex2mathml_tokens.specs.Tok.{Tok, EOF}
-use Rattle.latex2mathml_tokens.specs.TokenText.{token_text}
+-- What is read of tokens whose sizes hold no dollar sign is a tree of such sizes in which no function has an argument, or a
+-- refusal that is not for dollar signs. Only `keeps` names tokens: it has a line for each rule that is not kept by what its
+-- parts are.
+use Rattle.std.proofs.Common.{◌≢◌, ℕ, Bool, true, false, List, [], ◌∷◌, Option, Some, None, codes, cond, sym, subst}
+use Rattle.std.specs.Str.{bytes_eq, chars, encode_utf8_all}
+use Rattle.latex2mathml_trees.specs.{Arguments.HasNoArgument, Arguments.HaveNoArgument, Style.styled, Style.all_styled}
+use Rattle.latex2mathml_trees.specs.Productions.{environment_tree, fence_of, fenced_matrix, matrix_of, matrix_members, stretched_operator, group_tree}
+use Rattle.latex2mathml_trees.specs.Tree.{Tree, Trees, letter, operator, other_operator, row, no_trees, more_trees, trees_of}
+use Rattle.latex2mathml_formulas.specs.{Dollars.IsDollarFree, Rendering.IsFormulaRefusal, Rendering.IsRendering}
+use Rattle.latex2mathml_formulas.specs.Grammar.{environment, sized, stretched_or_refused, with_fence, Sort, Rule, gives, refuses, reads_part, reads_members, reads_sign, takes_token, sees_token, takes_letters, rule, Outcome, Read, Refused, first_or_end, AreLetters, Reads, core_at_end, core_begun, single_read, node_read, ReadsRule, rule_gives, rule_refuses, part_read, part_refused, members_read, members_refused, sign_stands, sign_missing, token_taken, token_at_end, token_seen, letters_taken, ReadsAll, formula_ends, group_ends, never_closed, member_read, later_refused, member_refused, Refuses, ReadsFormula}
+use Rattle.latex2mathml_formulas.specs.{RenderingLaws.IsNeverForDollars, RenderingLaws.RendersDollarFree, Spelling.HasTokens}
+use Rattle.latex2mathml_tokens.specs.{Refusal.InvalidNumberOfDollarSigns, declared.attribute.Variant.Variant}
+use Rattle.latex2mathml_tokens.specs.Tok.{Tok, EOF, Begin, Paren, LBrace, Left, Right, Middle, Sqrt, Style, Big, Binom}
+use Rattle.latex2mathml_tokens.specs.declared.attribute.ColumnAlign.TheVariants as align
+use Rattle.latex2mathml_formulas.proofs.DollarTokens.{IsFree, AreFree, free_tokens}
+use Rattle.latex2mathml_formulas.proofs.DollarTrees.{IsFreeTree, AreFreeTrees, free_math}
 
-pub record Property : Type 1 where
-  pub of_tree : Tree → Type 0
-  pub of_trees : List Tree → Type 0
-  pub of_refusal : Refusal → Type 0
-  pub of_token : Tok → Type 0
+abbrev IsKept : Tree → Type 0
+IsKept x = HasNoArgument x × IsFreeTree x
 
--- of parts and tokens that have the property the rule makes none but trees and refusals that have it
-abbrev pub KeepsRule : Property → Rule → Type 0
-KeepsRule P (gives x) = P.of_tree x
-KeepsRule P (refuses r) = P.of_refusal r
-KeepsRule P (reads_part s then) = (x : Tree) → P.of_tree x → KeepsRule P (then x)
-KeepsRule P (reads_members end then) = (xs : List Tree) → P.of_trees xs → KeepsRule P (then xs)
-KeepsRule P (reads_sign t a b) = KeepsRule P a × KeepsRule P b
-KeepsRule P (takes_token then) = (t : Tok) → P.of_token t → KeepsRule P (then t)
-KeepsRule P (sees_token then) = (t : Tok) → P.of_token t → KeepsRule P (then t)
-KeepsRule P (takes_letters then) = (cs : List ℕ) → KeepsRule P (then cs)
+abbrev AreKept : Trees → Type 0
+AreKept xs = HaveNoArgument xs × AreFreeTrees xs
 
--- the grammar keeps the property
-pub record IsKept (P : Property) : Type 0 where
-  pub rules : (t : Tok) → P.of_token t → KeepsRule P (rule t)
-  -- what may follow a core, and a single
-  pub primes : (x : Tree) → P.of_tree x → KeepsRule P (rule_after_core x)
-  pub scripts : (x : Tree) → P.of_tree x → KeepsRule P (rule_after_single x)
-  -- the end of the tokens, as a token, as a core, and where a group is open
-  pub at_end : P.of_token EOF
-  pub core_there : P.of_tree (undefined (token_text EOF))
-  pub open_there : (end : Tok) → P.of_refusal (UnexpectedToken end EOF)
-  -- several trees
-  pub none : P.of_trees []
-  pub more : (x : Tree) (xs : List Tree) → P.of_tree x → P.of_trees xs → P.of_trees (x ∷ xs)
+-- of such parts and tokens the rule makes none but such trees and refusals
+abbrev Keeps : Rule → Type 0
+Keeps (gives x) = IsKept x
+Keeps (refuses r) = r ≢ InvalidNumberOfDollarSigns
+Keeps (reads_part s then) = (x : Tree) → IsKept x → Keeps (then x)
+Keeps (reads_members end then) = (xs : List Tree) → AreKept (trees_of xs) → Keeps (then xs)
+Keeps (reads_sign t a b) = Keeps a × Keeps b
+Keeps (takes_token then) = (t : Tok) → Keeps (then t)
+Keeps (sees_token then) = (t : Tok) → Keeps (then t)
+Keeps (takes_letters then) = (cs : List ℕ) → Keeps (then cs)
 
-abbrev pub AllTokens : Property → List Tok → Type 0
-AllTokens P [] = Unit {0}
-AllTokens P (t ∷ l) = P.of_token t × AllTokens P l
+keeps_group : (xs : List Tree) → AreKept (trees_of xs) → IsKept (group_tree xs)
+keeps_group [] h = (tt, tt)
+keeps_group (x ∷ []) h = (h.0.0, h.1.0)
+keeps_group (x ∷ y ∷ ys) h = h
 
-abbrev HasTree : Property → Outcome Tree → Type 0
-HasTree P (Read x m) = P.of_tree x × AllTokens P m
-HasTree P (Refused r) = P.of_refusal r
+mutual
+  keeps_style : (v : Variant) (x : Tree) → IsKept x → IsKept (styled v x)
+  keeps_style v (letter c own) h = h
+  keeps_style v (row members) h = keeps_styles v members h
+  keeps_style v x h = h
 
-abbrev pub HasTrees : Property → Outcome (List Tree) → Type 0
-HasTrees P (Read xs m) = P.of_trees xs × AllTokens P m
-HasTrees P (Refused r) = P.of_refusal r
+  keeps_styles : (v : Variant) (xs : Trees) → AreKept xs → AreKept (all_styled v xs)
+  keeps_styles v no_trees h = h
+  keeps_styles v (more_trees x rest) h = assumption (keeps_style v x (h.0.0, h.1.0), keeps_styles v rest (h.0.1, h.1.1))
 
-module _ (P : Property) (kept : IsKept P) where
-  next : (l : List Tok) → AllTokens P l → P.of_token (first_or_end l)
-  next [] h = kept.at_end
-  next (t ∷ l) h = h.0
+keeps_size : (size : List ℕ) (t : Tok) → IsDollarFree size → Keeps (sized size t)
+keeps_size size (Paren text) h = (tt, h)
+keeps_size size t h = λ e. cc
 
-  -- what stands after letters
-  behind : (cs : List ℕ) (l m : List Tok) → AreLetters cs l m → AllTokens P l → AllTokens P m
-  behind [] l m d h = subst (AllTokens P) d.0 h
-  behind (c ∷ cs) l m d h =
-      let front : AllTokens P (d.0 ∷ d.1.0) = subst (AllTokens P) d.1.1 h in
-      behind cs d.1.0 m d.1.3 front.1
+keeps_fence : (place t : Tok) (fence : Option (List ℕ)) (then : List ℕ → Rule) → ((text : List ℕ) → Keeps (then text)) → Keeps (with_fence place t fence then)
+keeps_fence place t (Some text) then h = h text
+keeps_fence place t None then h = λ e. cc
 
-  mutual
-    read : {s : Sort} {l : List Tok} {o : Outcome Tree} → Reads s l o → AllTokens P l → HasTree P o
-    read core_at_end h = (kept.core_there, tt)
-    read (core_begun {t = t} d) h = read_rule d (kept.rules t h.0) h.1
-    read (single_read d) h = read_rule d kept.primes h
-    read (node_read d) h = read_rule d kept.scripts h
+keeps_stretch : (t : Tok) (x : Tree) → Keeps (stretched_or_refused t (stretched_operator x))
+keeps_stretch t (operator c) = (tt, tt)
+keeps_stretch t (other_operator text) = (tt, tt)
+keeps_stretch t x = λ e. cc
 
-    read_rule : {r : Rule} {l : List Tok} {o : Outcome Tree} → ReadsRule r l o → KeepsRule P r → AllTokens P l → HasTree P o
-    read_rule rule_gives k h = (k, h)
-    read_rule rule_refuses k h = k
-    read_rule (part_read {m = m} {x = x} d ds) k h =
-        let part : HasTree P (Read x m) = read d h in
-        read_rule ds (k x part.0) part.1
-    read_rule (part_refused d) k h = read d h
-    read_rule (members_read {m = m} {xs = xs} d ds) k h =
-        let members : HasTrees P (Read xs m) = read_all d h in
-        read_rule ds (k xs members.0) members.1
-    read_rule (members_refused d) k h = read_all d h
-    read_rule (sign_stands {t = t} {m = m} p d) k h =
-        let front : AllTokens P (t ∷ m) = subst (AllTokens P) p h in
-        read_rule d k.0 front.1
-    read_rule (sign_missing p d) k h = read_rule d k.1 h
-    read_rule (token_taken {t = t} d) k h = read_rule d (k t h.0) h.1
-    read_rule (token_at_end d) k h = read_rule d (k EOF kept.at_end) h
-    read_rule (token_seen {l = l} d) k h = read_rule d (k (first_or_end l) (next l h)) h
-    read_rule (letters_taken cs {l = l} {m = m} p d) k h = read_rule d (k cs) (behind cs l m p h)
+keeps_spread : (x : Tree) → IsKept x → AreKept (matrix_members x)
+keeps_spread (row members) h = h
+keeps_spread x h = ((h.0, tt), (h.1, tt))
 
-    pub read_all : {end : Option Tok} {l : List Tok} {o : Outcome (List Tree)} → ReadsAll end l o → AllTokens P l → HasTrees P o
-    read_all formula_ends h = (kept.none, tt)
-    read_all (never_closed {end = end}) h = kept.open_there end
-    read_all (group_ends {end = end} {m = m} p) h =
-        let front : AllTokens P (end ∷ m) = subst (AllTokens P) p h in
-        (kept.none, front.1)
-    read_all (member_read {m = m} {rest = rest} {x = x} {xs = xs} other d ds) h =
-        let one : HasTree P (Read x m) = read d h in
-        let later : HasTrees P (Read xs rest) = read_all ds one.1 in
-        (kept.more x xs one.0 later.0, later.1)
-    read_all (later_refused {m = m} {x = x} other d ds) h =
-        let one : HasTree P (Read x m) = read d h in
-        read_all ds one.1
-    read_all (member_refused other d) h = read d h
+keeps_choice : (name : List ℕ) (b : Bool) (x : Tree) (others : Option Tree) → IsKept x → Keeps (environment name others) → Keeps (environment name (cond b (Some x) others))
+keeps_choice name true x others h i = h
+keeps_choice name false x others h i = i
+
+keeps_environment : (name : List ℕ) (x : Tree) → IsKept x → Keeps (environment name (environment_tree name x))
+keeps_environment name x h =
+    let members = keeps_spread x h in
+    keeps_choice name (bytes_eq name (codes "matrix")) (matrix_of align.Center x) _ members
+    (keeps_choice name (bytes_eq name (codes "align")) (matrix_of align.Left x) _ members
+    (keeps_choice name (bytes_eq name (codes "pmatrix")) (fenced_matrix (codes "(") (codes ")") x) _ members
+    (keeps_choice name (bytes_eq name (codes "bmatrix")) (fenced_matrix (codes "[") (codes "]") x) _ members
+    (keeps_choice name (bytes_eq name (codes "vmatrix")) (fenced_matrix (codes "|") (codes "|") x) None members (λ e. cc)))))
+
+-- the rule of each token
+keeps : (t : Tok) → IsFree t → Keeps (rule t)
+keeps LBrace h = keeps_group
+keeps Sqrt h = (λ xs p x q. (let degree = keeps_group xs p in ((degree.0, q.0), (degree.1, q.1))), λ x p. p)
+keeps (Binom (Some display)) h = assumption
+keeps (Style variant) h = keeps_style variant
+keeps (Big size) h = λ t. keeps_size size t h
+keeps Left h = λ t. keeps_fence Left t (fence_of t) _ (λ opening xs p u. keeps_fence Right u (fence_of u) _ (λ close. keeps_group xs p))
+keeps Middle h = λ t x p. keeps_stretch t x
+keeps Begin h = λ before cs behind xs p again ds last. keeps_environment (encode_utf8_all cs) (group_tree xs) (keeps_group xs p)
+keeps t h = assumption
+
+-- what is read is kept, and the tokens after it are free
+abbrev Has : {A : Type 0} → (A → Type 0) → Outcome A → Type 0
+Has kept (Read x m) = kept x × AreFree m
+Has kept (Refused r) = r ≢ InvalidNumberOfDollarSigns
+
+abbrev HasTree : Outcome Tree → Type 0
+HasTree o = Has IsKept o
+
+abbrev HasTrees : Outcome (List Tree) → Type 0
+HasTrees o = Has (λ xs. AreKept (trees_of xs)) o
+
+-- what stands after letters
+behind : (cs : List ℕ) (l m : List Tok) → AreLetters cs l m → AreFree l → AreFree m
+behind [] l m d h = subst AreFree d.0 h
+behind (c ∷ cs) l m d h = behind cs d.1.0 m d.1.3 (subst AreFree d.1.1 h).1
+
+mutual
+  read : {s : Sort} {l : List Tok} {o : Outcome Tree} → Reads s l o → AreFree l → HasTree o
+  read core_at_end h = ((tt, tt), tt)
+  read (core_begun {t = t} d) h = read_rule d (keeps t h.0) h.1
+  read (single_read d) h = read_rule d (λ x k. assumption) h
+  read (node_read d) h = read_rule d (λ x k. assumption) h
+
+  read_rule : {r : Rule} {l : List Tok} {o : Outcome Tree} → ReadsRule r l o → Keeps r → AreFree l → HasTree o
+  read_rule rule_gives k h = (k, h)
+  read_rule rule_refuses k h = k
+  read_rule (part_read {x = x} d ds) k h = let part = read d h in read_rule ds (k x part.0) part.1
+  read_rule (part_refused d) k h = read d h
+  read_rule (members_read {xs = xs} d ds) k h = let members = read_all d h in read_rule ds (k xs members.0) members.1
+  read_rule (members_refused d) k h = read_all d h
+  read_rule (sign_stands p d) k h = read_rule d k.0 (subst AreFree p h).1
+  read_rule (sign_missing p d) k h = read_rule d k.1 h
+  read_rule (token_taken {t = t} d) k h = read_rule d (k t) h.1
+  read_rule (token_at_end d) k h = read_rule d (k EOF) h
+  read_rule (token_seen {l = l} d) k h = read_rule d (k (first_or_end l)) h
+  read_rule (letters_taken cs {l = l} {m = m} p d) k h = read_rule d (k cs) (behind cs l m p h)
+
+  read_all : {end : Option Tok} {l : List Tok} {o : Outcome (List Tree)} → ReadsAll end l o → AreFree l → HasTrees o
+  read_all formula_ends h = ((tt, tt), tt)
+  read_all never_closed h = λ e. cc
+  read_all (group_ends p) h = ((tt, tt), (subst AreFree p h).1)
+  read_all (member_read other d ds) h =
+      let one = read d h in
+      assumption (one, read_all ds one.1)
+  read_all (later_refused other d ds) h = read_all ds (read d h).1
+  read_all (member_refused other d) h = read d h
+
+pub reading_is_kept : (text : List ℕ) (ts : List Tok) (xs : List Tree) → HasTokens None text ts → ReadsFormula ts xs → AreKept (trees_of xs)
+unfolding ReadsFormula
+reading_is_kept text ts xs h d = (read_all d (free_tokens None text ts h)).0
+
+-- no rendering of a formula holds a dollar sign
+pub dollar_free : (text : List ℕ) → RendersDollarFree text
+unfolding IsRendering
+dollar_free text display markup (ts, h, d) =
+    subst IsDollarFree (sym d.2) (free_math display d.0 (reading_is_kept (chars text) ts d.0 h d.1).1)
+
+-- no formula is refused for dollar signs
+pub never_dollars : (text : List ℕ) → IsNeverForDollars text
+unfolding IsFormulaRefusal Refuses
+never_dollars text refusal (ts, h, d) = read_all d (free_tokens None (chars text) ts h)

@@ -1,11 +1,8 @@
 pub mod Accounts
 pub mod Appending
 pub mod Beginning
-pub mod Begins
 pub mod Combining
 pub mod Counting
-pub mod Delivering
-pub mod DollarReads
 pub mod DollarTexts
 pub mod DollarTokens
 pub mod DollarTrees
@@ -17,15 +14,10 @@ pub mod MathElements
 pub mod Names
 pub mod Numbers
 pub mod OneList
-pub mod OneReading
-pub mod OtherRefusals
 pub mod Passing
 pub mod Progress
-pub mod ReadArguments
 pub mod Renderings
-pub mod Runs
 pub mod Sights
-pub mod Signs
 pub mod Sliced
 pub mod SlicesRead
 pub mod Spellings

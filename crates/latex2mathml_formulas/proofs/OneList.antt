@@ -1,23 +1,17 @@
 -- A text has exactly one list of slices, and so exactly one token list.
-use Rattle.std.proofs.Common.{◌≡◌, ℕ, zero, suc, ◌<◌, Bool, true, false, ◌&&◌, List, [], ◌∷◌, ◌++◌, map, drop, codes, length, refl, sym, ap, subst, ◌∙◌, Option, Some, None, ◌⊎◌, inl, inr, append_assoc, arith}
-use Rattle.std.proofs.lemmas.Bool.{cases_Bool}
-use Rattle.std.proofs.lemmas.Bool.Decides.{nat_tests}
-use Rattle.std.specs.Char.{is_ascii_digit, is_ascii_alphabetic}
-use Rattle.std.specs.Str.{byte, encode_utf8_all}
-use Rattle.latex2mathml_formulas.specs.Characters.{◌∈◌, is_empty, is_space}
+use Rattle.std.proofs.Common.{◌≡◌, ℕ, zero, suc, ◌<◌, Bool, true, false, ◌&&◌, List, [], ◌∷◌, ◌++◌, map, codes, length, refl, sym, ap, subst, ◌∙◌, Option, Some, None, ◌⊎◌, inl, inr, append_assoc, arith}
+use Rattle.std.proofs.{Math.Seq.drop-append_seam, lemmas.Bool.cases_Bool, lemmas.Bool.Decides.nat_tests}
+use Rattle.std.specs.{Char.is_ascii_digit, Char.is_ascii_alphabetic, Str.byte, Str.encode_utf8_all, List.AllPass}
+use Rattle.latex2mathml_formulas.specs.Characters.{◌∈◌, Stops, head, is_empty, is_space}
 use Rattle.std.proofs.lemmas.List.Elements.{All-nil, All-cons}
-use Rattle.std.specs.List.{AllPass}
-use Rattle.latex2mathml_formulas.proofs.Passing.{Each, each}
-use Rattle.latex2mathml_tokens.specs.Commands.{command_token}
+use Rattle.latex2mathml_formulas.proofs.{Passing.Each, Passing.each, FirstSlices.parted, FirstSlices.slice_of}
+use Rattle.latex2mathml_tokens.specs.{Among.is_among, Commands.command_token}
 use Rattle.latex2mathml_formulas.specs.Cutting.{slice, run_of, behind_run, first_slice, slices_within, slices_of}
-use Rattle.latex2mathml_formulas.specs.Lexing.{BeginsWith, IsLongestRun}
-use Rattle.latex2mathml_formulas.specs.Spelling.{Slice, IsStep, HasSlices, HasTokens, takes_digit, is_period, is_equals_sign, begins_longer, character_token, character, colon, colon_equals, number, digit, symbol_command, letter_command, lone_backslash}
-use Rattle.latex2mathml_formulas.specs.TokenLists.{HasOneTokenList}
+use Rattle.latex2mathml_formulas.specs.{Lexing.BeginsWith, Lexing.IsLongestRun, TokenLists.HasOneTokenList}
+use Rattle.latex2mathml_formulas.specs.Spelling.{Slice, IsStep, HasSlices, HasTokens, takes_digit, is_period, is_equals_sign, character_token, character, colon, colon_equals, number, digit, symbol_command, letter_command, lone_backslash}
 use Rattle.latex2mathml_tokens.specs.Tok.{Tok, Number, Command, Paren, Operator}
-use Rattle.latex2mathml_formulas.proofs.FirstSlices.{run_whole, behind_whole, slice_of, Dark, dark_stops, dark_some, spells_dark}
-use Rattle.latex2mathml_formulas.proofs.Numbers.{number_whole, number_parts}
-use Rattle.latex2mathml_formulas.proofs.Spellings.{only_space}
-use Rattle.latex2mathml_formulas.proofs.Tokenizing.{step_shortens}
+use Rattle.latex2mathml_formulas.proofs.{Numbers.number_whole, Numbers.number_parts, Spellings.only_space}
+use Rattle.latex2mathml_formulas.proofs.Tokenizing.{Dark, dark_front, spells_dark, step_shortens}
 
 -- a text splits after its longest run
 split : (p : ℕ → Bool) (text : List ℕ) → (front : List ℕ) × (back : List ℕ) × IsLongestRun p text front back
@@ -32,17 +26,9 @@ split p (c ∷ cs) = elim (cases_Bool (p c)) [
 abbrev pub Begun : Bool → List ℕ → Type 0
 Begun alone text = (t : Tok) × (rest : List ℕ) × BeginsWith alone text t rest
 
-is_dot : (c : ℕ) → is_period c ≡ true → c ≡ byte "."
-is_dot c h = grind (arith, nat_tests)
-
-is_equals : (c : ℕ) → is_equals_sign c ≡ true → c ≡ byte "="
-is_equals c h = grind (arith, nat_tests)
-
-is_backslash : (c : ℕ) → (c ∈ "\\") ≡ true → c ≡ byte "\\"
-is_backslash c h = grind (arith, nat_tests)
-
-is_colon : (c : ℕ) → (c ∈ ":") ≡ true → c ≡ byte ":"
-is_colon c h = grind (arith, nat_tests)
+-- the only character among one
+only : (b c : ℕ) → is_among c (b ∷ []) ≡ true → c ≡ b
+only b c h = grind (arith, nat_tests)
 
 number_begun : (text front back : List ℕ) → IsLongestRun is_ascii_digit text front back → (d : ℕ) (ds : List ℕ) → text ≡ d ∷ ds → is_ascii_digit d ≡ true → Begun false text
 number_begun text front [] run d ds e h =
@@ -50,7 +36,7 @@ number_begun text front [] run d ds e h =
 number_begun text front (c ∷ cs) run d ds e h = elim (cases_Bool (is_period c)) [
   | inl k ↦ (let more : (part : List ℕ) × (rest : List ℕ) × IsLongestRun is_ascii_digit cs part rest = split is_ascii_digit cs in
       let w : List ℕ = front ++ byte "." ∷ more.0 in
-      let back : c ∷ cs ≡ byte "." ∷ cs = ap (λ x. x ∷ cs) (is_dot c k) in
+      let back : c ∷ cs ≡ byte "." ∷ cs = ap (λ x. x ∷ cs) (only (byte ".") c k) in
       let whole : text ≡ w ++ more.1 = run.0 ∙ ap (λ b. front ++ b) (back ∙ ap (λ a. byte "." ∷ a) more.2.0) ∙ sym (append_assoc front (byte "." ∷ more.0) more.1) in
       (Number (encode_utf8_all w), more.1, (w, whole, number refl (number_parts text front (c ∷ cs) cs more.0 more.1 run (rw e h) back more.2) refl)))
   | inr k ↦ (Number (encode_utf8_all front), c ∷ cs, (front, run.0, number refl (number_whole text front (c ∷ cs) run (rw e h) k) refl))
@@ -67,7 +53,7 @@ command_begun alone (c ∷ cs) = elim (cases_Bool (is_ascii_alphabetic c)) [
 colon_begun : (alone : Bool) (cs : List ℕ) → Begun alone (byte ":" ∷ cs)
 colon_begun alone [] = (Operator (byte ":"), [], (codes ":", refl, colon tt refl refl))
 colon_begun alone (c ∷ cs) = elim (cases_Bool (is_equals_sign c)) [
-  | inl h ↦ (Paren (codes ":="), cs, (codes ":=", ap (λ x. byte ":" ∷ x ∷ cs) (is_equals c h), colon_equals refl refl))
+  | inl h ↦ (Paren (codes ":="), cs, (codes ":=", ap (λ x. byte ":" ∷ x ∷ cs) (only (byte "=") c h), colon_equals refl refl))
   | inr h ↦ (Operator (byte ":"), c ∷ cs, (codes ":", refl, colon h refl refl))
 ]
 
@@ -77,18 +63,15 @@ digit_begun false c cs h =
     let run : (front : List ℕ) × (back : List ℕ) × IsLongestRun is_ascii_digit (c ∷ cs) front back = split is_ascii_digit (c ∷ cs) in
     number_begun (c ∷ cs) run.0 run.1 run.2 c cs refl h
 
-longer_not : (c : ℕ) → is_ascii_digit c ≡ false → (c ∈ "\\") ≡ false → (c ∈ ":") ≡ false → begins_longer c ≡ false
-longer_not c d f g = rw (d, f, g) refl
-
 -- what does not begin with white space begins with a slice
 pub begun : (alone : Bool) (c : ℕ) (cs : List ℕ) → is_space c ≡ false → Begun alone (c ∷ cs)
 begun alone c cs dark = elim (cases_Bool (is_ascii_digit c)) [
   | inl d ↦ digit_begun alone c cs d
   | inr d ↦ elim (cases_Bool (c ∈ "\\")) [
-    | inl f ↦ subst (λ x. Begun alone (x ∷ cs)) (sym (is_backslash c f)) (command_begun alone cs)
+    | inl f ↦ subst (λ x. Begun alone (x ∷ cs)) (sym (only (byte "\\") c f)) (command_begun alone cs)
     | inr f ↦ elim (cases_Bool (c ∈ ":")) [
-      | inl g ↦ subst (λ x. Begun alone (x ∷ cs)) (sym (is_colon c g)) (colon_begun alone cs)
-      | inr g ↦ (character_token c, cs, (c ∷ [], refl, character c (longer_not c d f g) dark refl refl))
+      | inl g ↦ subst (λ x. Begun alone (x ∷ cs)) (sym (only (byte ":") c g)) (colon_begun alone cs)
+      | inr g ↦ (character_token c, cs, (c ∷ [], refl, character c (rw (d, f, g) refl) dark refl refl))
     ]
   ]
 ]
@@ -97,29 +80,18 @@ begun alone c cs dark = elim (cases_Bool (is_ascii_digit c)) [
 abbrev Stepped : Bool → List ℕ → Type 0
 Stepped takes text = AllPass is_space text ⊎ ((s : Slice) × (rest : List ℕ) × IsStep takes text s rest)
 
-first_step : (takes : Bool) (text space start : List ℕ) → IsLongestRun is_space text space start → Stepped takes text
-first_step takes text space [] run = inl (only_space text space [] run refl)
-first_step takes text space (c ∷ cs) run =
+first_step : (takes : Bool) (text : List ℕ) → ((space : List ℕ) × (start : List ℕ) × IsLongestRun is_space text space start) → Stepped takes text
+first_step takes text (space, [], run) = inl (only_space text space [] run refl)
+first_step takes text (space, c ∷ cs, run) =
     let b : Begun (takes && is_empty space) (c ∷ cs) = begun (takes && is_empty space) c cs run.2 in
     inr (slice b.2.0 b.0, b.1, (space, run.0 ∙ ap (λ s. space ++ s) b.2.1, run.1, b.2.2))
 
-step_of : (takes : Bool) (text : List ℕ) → Stepped takes text
-step_of takes text =
-    let run : (space : List ℕ) × (start : List ℕ) × IsLongestRun is_space text space start = split is_space text in
-    first_step takes text run.0 run.1 run.2
-
-none_below : (n : ℕ) → n < zero → ⊥
-none_below n h = omega arith
-
-one_less : (k m n : ℕ) → k < m → m < suc n → k < n
-one_less k m n h l = omega arith
-
 -- a text that is shorter than the bound has slices
 within : (n : ℕ) (takes : Bool) (text : List ℕ) → length text < n → (ss : List Slice) × HasSlices takes text ss
-within zero takes text h = absurd (none_below _ h)
-within (suc n) takes text h = elim (step_of takes text) [
+within zero takes text h = absurd (omega arith)
+within (suc n) takes text h = elim (first_step takes text (split is_space text)) [
   | inl space ↦ ([], space)
-  | inr s ↦ (let more : (ss : List Slice) × HasSlices (takes_digit (Some s.0.token)) s.1 ss = within n (takes_digit (Some s.0.token)) s.1 (one_less _ _ _ (step_shortens takes text s.1 s.0 s.2) h) in
+  | inr s ↦ (let more : (ss : List Slice) × HasSlices (takes_digit (Some s.0.token)) s.1 ss = within n (takes_digit (Some s.0.token)) s.1 (omega (arith, step_shortens takes text s.1 s.0 s.2)) in
       (s.0 ∷ more.0, (s.1, s.2, more.1)))
 ]
 
@@ -127,34 +99,32 @@ all_behind : (text : List ℕ) → Each is_space text → behind_run is_space te
 all_behind [] h = refl
 all_behind (c ∷ cs) h = rw h.0 (all_behind cs h.1)
 
-drop_front : (w rest : List ℕ) → drop (length w) (w ++ rest) ≡ rest
-drop_front [] rest = refl
-drop_front (c ∷ w) rest = drop_front w rest
+dark_starts : (xs : List ℕ) → Dark xs → Stops is_space (head xs) × (is_empty xs ≡ false)
+dark_starts [] d = absurd d
+dark_starts (x ∷ xs) d = (d, refl)
 
 -- the slices that a text has are those that are computed
 computed : (n : ℕ) (takes : Bool) (text : List ℕ) (ss : List Slice) → HasSlices takes text ss → length text < n → slices_within n takes text ≡ ss
 unfolding slices_within
-computed zero takes text ss h l = absurd (none_below _ l)
+computed zero takes text ss h l = absurd (omega arith)
 computed (suc n) takes text [] h l = rw (all_behind text (each is_space text h)) refl
 computed (suc n) takes text (s ∷ ss) h l =
     let space : List ℕ = h.1.0 in
-    let dark : Dark (s.text ++ h.0) = spells_dark (takes && is_empty space) s.text h.0 s.token h.1.3 in
-    let front : run_of is_space text ≡ space = ap (run_of is_space) h.1.1 ∙ run_whole is_space space (s.text ++ h.0) (each is_space space h.1.2) (dark_stops _ dark) in
-    let behind : behind_run is_space text ≡ s.text ++ h.0 = ap (behind_run is_space) h.1.1 ∙ behind_whole is_space space (s.text ++ h.0) (each is_space space h.1.2) (dark_stops _ dark) in
+    let dark : Stops is_space (head (s.text ++ h.0)) × (is_empty (s.text ++ h.0) ≡ false) = dark_starts _ (dark_front s.text h.0 (spells_dark _ s.text _ s.token h.1.3)) in
+    let whole = parted is_space space (s.text ++ h.0) (each is_space space h.1.2) dark.0 in
+    let front : run_of is_space text ≡ space = ap (run_of is_space) h.1.1 ∙ whole.0 in
+    let behind : behind_run is_space text ≡ s.text ++ h.0 = ap (behind_run is_space) h.1.1 ∙ whole.1 in
     let first : first_slice (takes && is_empty space) (s.text ++ h.0) ≡ s = slice_of (takes && is_empty space) s.text h.0 s.token h.1.3 in
-    let more : slices_within n (takes_digit (Some s.token)) h.0 ≡ ss = computed n (takes_digit (Some s.token)) h.0 ss h.2 (one_less _ _ _ (step_shortens takes text h.0 s h.1) l) in
-    rw (behind, front, dark_some _ dark, first, drop_front s.text h.0, more) refl
-
-below_next : (n : ℕ) → n < suc n
-below_next n = omega arith
+    let more : slices_within n (takes_digit (Some s.token)) h.0 ≡ ss = computed n (takes_digit (Some s.token)) h.0 ss h.2 (omega (arith, step_shortens takes text h.0 s h.1)) in
+    rw (behind, front, dark.1, first, drop-append_seam s.text h.0, more) refl
 
 pub one_cut : (takes : Bool) (text : List ℕ) (ss : List Slice) → HasSlices takes text ss → slices_of takes text ≡ ss
 unfolding slices_of
-one_cut takes text ss h = computed (suc (length text)) takes text ss h (below_next _)
+one_cut takes text ss h = computed (suc (length text)) takes text ss h (omega arith)
 
 pub cut : (takes : Bool) (text : List ℕ) → HasSlices takes text (slices_of takes text)
 cut takes text =
-    let some : (ss : List Slice) × HasSlices takes text ss = within (suc (length text)) takes text (below_next _) in
+    let some : (ss : List Slice) × HasSlices takes text ss = within (suc (length text)) takes text (omega arith) in
     subst (HasSlices takes text) (sym (one_cut takes text some.0 some.1)) some.1
 
 -- what a step takes from the slices that are left
@@ -169,16 +139,12 @@ some_list p text = (map (λ s. s.token) (slices_of (takes_digit p) text), (slice
 
 pub at_most_one : (p : Option Tok) (text : List ℕ) (ts us : List Tok) → HasTokens p text ts → HasTokens p text us → ts ≡ us
 at_most_one p text ts us a b =
-    let same : a.0 ≡ b.0 = sym (one_cut (takes_digit p) text a.0 a.1) ∙ one_cut (takes_digit p) text b.0 b.1 in
-    a.2 ∙ ap (map (λ s. s.token)) same ∙ sym b.2
-
-one_slicing : (text : List ℕ) (slices others : List Slice) → HasSlices false text slices → HasSlices false text others → slices ≡ others
-one_slicing text slices others h k = sym (one_cut false text slices h) ∙ one_cut false text others k
+    cc (one_cut (takes_digit p) text a.0 a.1, one_cut (takes_digit p) text b.0 b.1)
 
 -- the law
 pub has_one_list : (text : List ℕ) → HasOneTokenList text
 has_one_list text = record {
-  one_cut = one_slicing text;
+  one_cut = λ slices others h k. sym (one_cut false text slices h) ∙ one_cut false text others k;
   some = some_list None text;
   one = at_most_one None text;
 }

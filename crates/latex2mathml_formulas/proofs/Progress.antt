@@ -1,10 +1,8 @@
 -- Counts that go on from step to step.
 use Rattle.std.proofs.Common.{◌≡◌, ℕ, ◌+◌, ◌≤◌, List, [], ◌∷◌, length, ap, ◌∙◌, arith}
 use Rattle.std.proofs.lemmas.List.Sums.{sum_by-cons}
-use Rattle.latex2mathml_formulas.specs.Marks.{rest_of}
-use Rattle.latex2mathml_formulas.specs.Openers.{openers, opens}
+use Rattle.latex2mathml_formulas.specs.{Marks.rest_of, Openers.openers, Openers.opens, Unread.GoesOn, Unread.OpensFor, Unread.Unread}
 use Rattle.latex2mathml_tokens.specs.Tok.{Tok, Number, Letter, Operator, Paren}
-use Rattle.latex2mathml_formulas.specs.Unread.{GoesOn, OpensFor, Unread}
 
 -- a token opens one frame at most
 pub opens-≤ : (t : Tok) → opens t ≤ 1
@@ -13,15 +11,6 @@ opens-≤ (Letter c variant) = omega arith
 opens-≤ (Operator c) = omega arith
 opens-≤ (Paren text) = omega arith
 opens-≤ t = omega arith
-
-pub GoesOn-refl : (a : Unread) → GoesOn a a
-GoesOn-refl a = record {
-  tokens = omega arith;
-  more = omega arith;
-  rest = λ slices stands. stands;
-  at_least = omega arith;
-  at_most = omega arith;
-}
 
 pub GoesOn-trans : (a b c : Unread) → GoesOn a b → GoesOn b c → GoesOn a c
 GoesOn-trans a b c h i = record {
@@ -32,21 +21,10 @@ GoesOn-trans a b c h i = record {
   at_most = omega arith;
 }
 
-pub OpensFor-refl : (a : Unread) (n : ℕ) → OpensFor a a n n
-OpensFor-refl a n = record { taken = omega arith; openers = omega arith }
-
 pub OpensFor-trans : (a b c : Unread) (l m n : ℕ) → OpensFor a b l m → OpensFor b c m n → OpensFor a c l n
 OpensFor-trans a b c l m n h i = record { taken = omega arith; openers = omega arith }
 
--- a token is taken, which may open a frame
-pub OpensFor-taken : (t : Tok) (a b c : Unread) (m n : ℕ) → a.list ≡ t ∷ b.list → GoesOn a b → OpensFor b c (m + opens t) n → OpensFor a c m n
-OpensFor-taken t a b c m n stood counts h =
-    let shorter : length a.list ≡ 1 + length b.list = ap length stood ∙ omega arith in
-    let fewer : openers a.list ≡ opens t + openers b.list = ap openers stood ∙ sum_by-cons opens t b.list in
-    let one = opens-≤ t in
-    record { taken = omega arith; openers = omega arith }
-
--- .. and a frame is opened for the one before it
+-- a token is taken, and a frame is opened for the one before it
 pub OpensFor-one : (t : Tok) (a b : Unread) (m n : ℕ) → a.list ≡ t ∷ b.list → GoesOn a b → n ≤ m + 1 → OpensFor a b (m + 1) (n + opens t)
 OpensFor-one t a b m n stood counts h =
     let shorter : length a.list ≡ 1 + length b.list = ap length stood ∙ omega arith in

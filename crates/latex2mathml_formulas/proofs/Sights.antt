@@ -1,33 +1,29 @@
 -- The first character of a text, after white space, shows whether the first token is a prime, a sign or an opening bracket.
 use Rattle.std.proofs.Common.{◌≡◌, ◌≢◌, ◌⊎◌, inl, inr, ℕ, Bool, true, false, not, ◌&&◌, ◌==◌, List, [], ◌∷◌, ◌++◌, codes, Option, Some, None, unwrap_or, refl, sym, ap, subst, ◌∙◌, cond, nat_eq, arith}
-use Rattle.std.proofs.lemmas.Bool.{and_parts, both_ways}
-use Rattle.std.proofs.lemmas.Bool.Decides.{nat_tests}
-use Rattle.std.specs.Char.{encode_utf8, is_ascii_alphabetic}
-use Rattle.std.specs.Str.{byte, bytes_eq, encode_utf8_all}
+use Rattle.std.proofs.{lemmas.Bool.and_parts, lemmas.Bool.both_ways, lemmas.Bool.Decides.nat_tests}
+use Rattle.std.specs.{Char.encode_utf8, Char.is_ascii_alphabetic, List.list_all, Str.byte, Str.bytes_eq, Str.encode_utf8_all}
 use Rattle.latex2mathml_tokens.specs.Commands.{command_entries, command_token, entry_token}
 use Rattle.latex2mathml_formulas.specs.Characters.{◌∈◌, head}
-use Rattle.latex2mathml_formulas.specs.Cutting.{first_slice, slice, slices_of}
-use Rattle.latex2mathml_formulas.specs.Grammar.{first, prime}
-use Rattle.latex2mathml_formulas.specs.Lexing.{BeginsWith, IsStart}
-use Rattle.latex2mathml_formulas.specs.Marks.{IsSeen, Shows}
+use Rattle.latex2mathml_formulas.specs.{Cutting.first_slice, Cutting.slice, Cutting.slices_of, Dollars.is_other}
+use Rattle.latex2mathml_formulas.specs.{Grammar.first, Grammar.prime, Lexing.BeginsWith, Lexing.IsStart, Marks.IsSeen, Marks.Shows}
 use Rattle.latex2mathml_formulas.specs.Spelling.{Slice, SpellsAt, character_token, character, colon, colon_equals, number, digit, symbol_command, letter_command, lone_backslash, is_operator, is_paren, takes_digit}
 use Rattle.latex2mathml_formulas.specs.Unread.{token_list}
-use Rattle.latex2mathml_tokens.specs.Tok.{Tok, Illegal, EOF, Paren, LBrace, RBrace, Underscore, Circumflex, Ampersand, Operator, Letter, Command}
+use Rattle.latex2mathml_tokens.specs.Tok.{Tok, Illegal, EOF, Paren, LBrace, RBrace, Underscore, Circumflex, Ampersand, Big, Operator, Letter, Command}
 use Rattle.latex2mathml_tokens.specs.declared.attribute.Variant.TheVariants.{Normal, Italic}
-use Rattle.latex2mathml_formulas.proofs.FirstSlices.{slice_of}
-use Rattle.latex2mathml_formulas.proofs.OneList.{Begun, begun, cut_step}
+use Rattle.latex2mathml_formulas.proofs.{FirstSlices.slice_of, OneList.Begun, OneList.begun, OneList.cut_step}
 use Rattle.latex2mathml_formulas.proofs.Starts.{none_left, step_from}
 
--- the token is no end of a formula, no prime, no sign and no opening bracket
-abbrev is_plain : Tok → Bool
+-- the token is no end of a formula, no prime, no sign and no opening bracket, and no size with a dollar sign
+abbrev pub is_plain : Tok → Bool
 is_plain EOF = false
 is_plain Underscore = false
 is_plain Circumflex = false
 is_plain (Operator c) = not (c == byte "'")
 is_plain (Paren text) = not (bytes_eq text (codes "["))
+is_plain (Big size) = list_all is_other size
 is_plain t = true
 
-abbrev IsPlain : Tok → Type 0
+abbrev pub IsPlain : Tok → Type 0
 IsPlain t = is_plain t ≡ true
 
 abbrev entries_are_plain : List (List ℕ × Tok) → Bool
@@ -64,10 +60,10 @@ unfolding command_token
 plain_command name = unwrapped (entry_token command_entries name) name (plain_entry command_entries name plain-command_entries)
 
 -- a slice is one character that stands for itself, or its token is plain
-abbrev IsKnown : List ℕ → Tok → Type 0
+abbrev pub IsKnown : List ℕ → Tok → Type 0
 IsKnown w t = ((c : ℕ) × (w ≡ c ∷ []) × (t ≡ character_token c)) ⊎ IsPlain t
 
-known : (alone : Bool) (w : List ℕ) (next : Option ℕ) (t : Tok) → SpellsAt alone w next t → IsKnown w t
+pub known : (alone : Bool) (w : List ℕ) (next : Option ℕ) (t : Tok) → SpellsAt alone w next t → IsKnown w t
 known alone w next t (character c b s e f) = inl (c, e, f)
 known alone w next t (colon s e f) = inr (subst IsPlain (sym f) refl)
 known alone w next t (colon_equals e f) = inr (subst IsPlain (sym f) refl)
@@ -82,7 +78,7 @@ either : (P : Tok → Type 0) (p : Bool) (s t : Tok) → (p ≡ true → P s) �
 either P true s t x y = x refl
 either P false s t x y = y
 
-of_character : (P : Tok → Type 0) (c : ℕ) → (is_operator c ≡ true → P (Operator c)) → (is_paren c ≡ true → P (Paren (c ∷ []))) → ((c ∈ "_") ≡ true → P Underscore) → ((c ∈ "^") ≡ true → P Circumflex) → P LBrace → P RBrace → P Ampersand → P (Illegal 0) → P (Letter c Italic) → P (Letter c Normal) → P (character_token c)
+pub of_character : (P : Tok → Type 0) (c : ℕ) → (is_operator c ≡ true → P (Operator c)) → (is_paren c ≡ true → P (Paren (c ∷ []))) → ((c ∈ "_") ≡ true → P Underscore) → ((c ∈ "^") ≡ true → P Circumflex) → P LBrace → P RBrace → P Ampersand → P (Illegal 0) → P (Letter c Italic) → P (Letter c Normal) → P (character_token c)
 of_character P c operator paren underscore circumflex lbrace rbrace ampersand illegal italic normal =
     either P (is_operator c) (Operator c) _ operator
     (either P (is_paren c) (Paren (c ∷ [])) _ paren
@@ -131,9 +127,6 @@ found takes alone text c after starts =
     let w : List ℕ = b.2.0 in
     (alone, after, w, b.1, b.0, slices_of (takes_digit (Some b.0)) b.1, cut_step takes text (slice w b.0) b.1 (step_from takes alone text (c ∷ after) b.0 b.1 starts b.2), ap (first_slice alone) b.2.1 ∙ slice_of alone w b.1 b.0 b.2.2, b.2.1, known alone w (head b.1) b.0 b.2.2)
 
-some_same : {x y : Tok} → Some x ≡ Some y → x ≡ y
-some_same e = cc
-
 first_same : (c x : ℕ) (after w rest : List ℕ) → c ∷ after ≡ w ++ rest → w ≡ x ∷ [] → c ≡ x
 first_same c x after w rest e f = cc (e ∙ ap (λ v. v ++ rest) f)
 
@@ -146,7 +139,7 @@ shows : (takes : Bool) (text : List ℕ) (c d : ℕ) → ((alone : Bool) (after 
 shows takes text c d itself alone_so plain (alone, after, w, rest, t, ss, whole, slice_is, split, k) =
     let stands : first (token_list (slices_of takes text)) ≡ Some t = ap (λ xs. first (token_list xs)) whole in (
       λ e. stands ∙ ap Some (ap (λ s. s.token) (sym slice_is) ∙ ap (λ x. (first_slice alone (x ∷ after)).token) e ∙ itself alone after),
-      λ e. told c d after w rest t alone_so plain split k (some_same (sym stands ∙ e)),
+      λ e. told c d after w rest t alone_so plain split k (cc (stands, e)),
     )
 
 some_left : (takes : Bool) (text : List ℕ) (c : ℕ) → Found takes text c → token_list (slices_of takes text) ≢ []

@@ -1,35 +1,29 @@
 -- Frames put on the parser's stack and taken off it, beside the trees that were read.
-use Rattle.std.proofs.Common.{◌≡◌, ◌≢◌, List, [], ◌∷◌, ◌++◌, refl, sym, ap, subst, ◌∙◌, reverse}
+use Rattle.std.proofs.Common.{◌≡◌, List, [], ◌∷◌, ◌++◌, drop, refl, sym, ap, subst, ◌∙◌, reverse}
 use Rattle.std.proofs.lemmas.List.{reverse-append}
-use Rattle.latex2mathml_formulas.specs.Frames.{awaits, enter, first_due, innermost, inside, inside_all, sort_made, standing_of, whole, within}
-use Rattle.latex2mathml_formulas.specs.Grammar.{core, node, Outcome, Read, Reads, Refused, rule}
-use Rattle.latex2mathml_formulas.specs.Levels.{due_of, end_token, Leads, Level, Made, MayBegin, RuleLeads, Accepts}
-use Rattle.latex2mathml_trees.specs.Tree.{Tree, undefined}
-use Rattle.latex2mathml_tokens.specs.Refusal.{Refusal, UnexpectedToken}
-use Rattle.latex2mathml_tokens.specs.Tok.{Tok, EOF}
-use Rattle.latex2mathml_tokens.specs.TokenText.{token_text}
-use Rattle.latex2mathml_formulas.specs.declared.parse.frames.Due.{Due}
+use Rattle.latex2mathml_formulas.specs.Frames.{awaits, enter, first_due, innermost, inside, inside_all, sort_made, standing_of, tree_count, whole, within}
+use Rattle.latex2mathml_formulas.specs.Grammar.{core, node, Outcome, Reads, Refused, refuses, rule, rule_refuses}
+use Rattle.latex2mathml_formulas.specs.Levels.{due_of, end_token, Leads, Level, Made, MayBegin, RuleLeads, Accepts, remaining}
+use Rattle.latex2mathml_trees.specs.Tree.{Tree}
+use Rattle.latex2mathml_tokens.specs.{Refusal.Refusal, Refusal.UnexpectedToken, Tok.Tok, Tok.EOF}
+use Rattle.latex2mathml_formulas.specs.{declared.parse.frames.Due.Due, declared.parse.frames.Frame.Frame}
 use Rattle.latex2mathml_formulas.specs.declared.parse.frames.Due.TheVariants as due
-use Rattle.latex2mathml_formulas.specs.declared.parse.frames.Frame.{Frame}
 use Rattle.latex2mathml_formulas.specs.declared.parse.frames.Frame.TheVariants as frame
 use Rattle.latex2mathml_formulas.specs.declared.parse.frames.GroupEnd.{GroupEnd}
-use Rattle.latex2mathml_formulas.proofs.Levels.{begun, begun_at_end, Denies, entered_denies, made_refused, unclosed}
+use Rattle.latex2mathml_formulas.proofs.Levels.{begun, begun_at_end, entered, entered_refused, made_refused, unclosed}
 
 -- The innermost frame.
 
 pub innermost_push : (fs : List Frame) (f : Frame) → innermost (fs ++ f ∷ []) ≡ awaits f
 innermost_push fs f = ap first_due (reverse-append fs (f ∷ []))
 
-pub innermost_is : (fs gs : List Frame) (f : Frame) → gs ≡ fs ++ f ∷ [] → innermost gs ≡ awaits f
-innermost_is fs gs f e = ap innermost e ∙ innermost_push fs f
-
 -- the level inside one more frame
 pub inside_push : (input : List Tok) (fs gs : List Frame) (f : Frame) (ts : List Tree) → gs ≡ fs ++ f ∷ [] → inside input gs ts ≡ within input fs f ts
 inside_push input fs gs f ts e = ap (λ hs. inside input hs ts) e ∙ ap (λ hs. inside_all (whole input) hs ts) (reverse-append fs (f ∷ []))
 
 -- a frame is put on
-pub put_on : (input : List Tok) (fs gs : List Frame) (f : Frame) (ts : List Tree) (place : List Tok) → gs ≡ fs ++ f ∷ [] → Leads (within input fs f ts) place → Leads (inside input gs ts) place
-put_on input fs gs f ts place e k = subst (λ l. Leads l place) (sym (inside_push input fs gs f ts e)) k
+pub put_on : (input : List Tok) (fs gs : List Frame) (f : Frame) (ts : List Tree) (place : List Tok) → gs ≡ fs ++ f ∷ [] → RuleLeads (remaining (standing_of f ts)) (Made (sort_made f) (inside input fs (drop (tree_count f) ts))) place → Leads (inside input gs ts) place
+put_on input fs gs f ts place e k = subst (λ l. Leads l place) (sym (inside_push input fs gs f ts e)) (entered (standing_of f ts) (sort_made f) _ place k)
 
 -- a frame is taken off
 pub taken_off : (input : List Tok) (fs gs : List Frame) (f : Frame) (ts : List Tree) (o : Outcome Tree) → gs ≡ fs ++ f ∷ [] → Accepts (inside input gs ts) o → Accepts (within input fs f ts) o
@@ -48,44 +42,31 @@ due_inside input (f ∷ fs) ts = due_entered f ts _
 pub due_of_inside : (input : List Tok) (fs : List Frame) (ts : List Tree) → due_of (inside input fs ts) ≡ innermost fs
 due_of_inside input fs ts = due_inside input (reverse fs) ts
 
--- what the code knows of what is due
-pub due_is : (input : List Tok) (fs : List Frame) (ts : List Tree) (d : Due) → innermost fs ≡ d → due_of (inside input fs ts) ≡ d
-due_is input fs ts d e = due_of_inside input fs ts ∙ e
-
-pub due_is_not : (input : List Tok) (fs : List Frame) (ts : List Tree) (d : Due) → innermost fs ≢ d → due_of (inside input fs ts) ≢ d
-due_is_not input fs ts d h e = h (sym (due_of_inside input fs ts) ∙ e)
-
 -- Tokens that are taken.
 
 -- the token is not the end of the group whose member is due, and its rule leads on
 pub token_begun : (input : List Tok) (fs : List Frame) (ts : List Tree) (place to : List Tok) (t : Tok) → MayBegin (innermost fs) place → place ≡ t ∷ to → Leads (inside input fs ts) place → RuleLeads (rule t) (Made core (inside input fs ts)) to
 token_begun input fs ts place to t may e k = begun (inside input fs ts) place to t (subst (λ d. MayBegin d place) (sym (due_of_inside input fs ts)) may) e k
 
--- the token is not the end of the group whose member is due
-pub no_end : (d : Due) (fs : List Frame) (place to : List Tok) (t : Tok) → d ≡ innermost fs → place ≡ t ∷ to → ((rest : List Tok) → MayBegin d (t ∷ rest)) → MayBegin (innermost fs) place
-no_end d fs place to t e same may = subst (λ p. MayBegin (innermost fs) p) (sym same) (subst (λ x. MayBegin x (t ∷ to)) e (may to))
-
--- Refusals.
-
-inside_denies : (input : List Tok) (fs : List Frame) (ts : List Tree) (r : Refusal) → Denies (inside_all (whole input) fs ts) r → Reads node input (Refused r)
-inside_denies input [] ts r k = k
-inside_denies input (f ∷ fs) ts r k = inside_denies input fs _ r (entered_denies (standing_of f ts) (sort_made f) _ r k)
-
--- a core that refuses refuses the node of the formula
-pub core_refused : (input : List Tok) (fs : List Frame) (ts : List Tree) (r : Refusal) → Made core (inside input fs ts) (Refused r) → Reads node input (Refused r)
-core_refused input fs ts r k = inside_denies input (reverse fs) ts r (made_refused core (inside input fs ts) r k)
-
--- a group that is open at the end refuses it
-pub group_open : (input : List Tok) (fs : List Frame) (ts : List Tree) (end : GroupEnd) → innermost fs ≡ due.Member end → Leads (inside input fs ts) [] → Reads node input (Refused (UnexpectedToken (end_token end) EOF))
-group_open input fs ts end d k = inside_denies input (reverse fs) ts _ (unclosed (inside input fs ts) end (due_is input fs ts (due.Member end) d) k)
-
 -- what is no member may begin where no token is left
 may_begin_at_end : (d : Due) → ((end : GroupEnd) → d ≡ due.Member end → ⊥) → MayBegin d []
 may_begin_at_end (due.Member end) h = h end refl
-may_begin_at_end due.Node h = tt
-may_begin_at_end due.Single h = tt
-may_begin_at_end due.Core h = tt
+may_begin_at_end d h = tt
 
 -- no token is left
-pub nothing_begun : (input : List Tok) (fs : List Frame) (ts : List Tree) (d : Due) → d ≡ innermost fs → ((end : GroupEnd) → d ≡ due.Member end → ⊥) → Leads (inside input fs ts) [] → Made core (inside input fs ts) (Read (undefined (token_text EOF)) [])
-nothing_begun input fs ts d e h k = begun_at_end (inside input fs ts) _ (subst (λ x. MayBegin x []) (e ∙ sym (due_of_inside input fs ts)) (may_begin_at_end d h)) refl k
+pub nothing_begun : (input : List Tok) (fs : List Frame) (ts : List Tree) (d : Due) → d ≡ innermost fs → ((end : GroupEnd) → d ≡ due.Member end → ⊥) → Leads (inside input fs ts) [] → RuleLeads (rule EOF) (Made core (inside input fs ts)) []
+nothing_begun input fs ts d e h k = begun_at_end (inside input fs ts) (subst (λ x. MayBegin x []) (e ∙ sym (due_of_inside input fs ts)) (may_begin_at_end d h)) k
+
+-- Refusals.
+
+inside_refused : (input : List Tok) (fs : List Frame) (ts : List Tree) (r : Refusal) → Accepts (inside_all (whole input) fs ts) (Refused r) → Reads node input (Refused r)
+inside_refused input [] ts r k = k
+inside_refused input (f ∷ fs) ts r k = inside_refused input fs _ r (entered_refused (standing_of f ts) (sort_made f) _ r k)
+
+-- a core that refuses refuses the node of the formula
+pub core_refused : (input : List Tok) (fs : List Frame) (ts : List Tree) {r : Refusal} {place : List Tok} → RuleLeads (refuses r) (Made core (inside input fs ts)) place → Reads node input (Refused r)
+core_refused input fs ts {r} k = inside_refused input (reverse fs) ts r (made_refused core (inside input fs ts) r (k _ rule_refuses))
+
+-- a group that is open at the end refuses it
+pub group_open : (input : List Tok) (fs : List Frame) (ts : List Tree) (end : GroupEnd) → innermost fs ≡ due.Member end → Leads (inside input fs ts) [] → Reads node input (Refused (UnexpectedToken (end_token end) EOF))
+group_open input fs ts end d k = inside_refused input (reverse fs) ts _ (unclosed (inside input fs ts) end (due_of_inside input fs ts ∙ d) k)

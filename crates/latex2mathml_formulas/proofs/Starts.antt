@@ -1,30 +1,22 @@
 -- What the reader takes from the slices that are left of a text, and what it leaves where it only looks.
 use Rattle.std.proofs.Common.{◌≡◌, ◌≢◌, ℕ, ◌+◌, ◌*◌, ◌^◌, ◌<◌, ◌≤◌, Bool, true, false, not, ◌&&◌, ◌||◌, List, [], ◌∷◌, ◌++◌, drop, drop-drop, eqb, length, refl, sym, ap, subst, ◌∙◌, Some, inl, inr, arith}
-use Rattle.std.proofs.lemmas.Bool.{cases_Bool}
-use Rattle.std.proofs.lemmas.Bool.Decides.{nat_tests}
-use Rattle.std.proofs.lemmas.List.Elements.{All-cons, All-nil}
+use Rattle.std.proofs.{lemmas.Bool.cases_Bool, lemmas.Bool.Decides.nat_tests, lemmas.List.Elements.All-cons, lemmas.List.Elements.All-nil}
 use Rattle.std.specs.Str.{byte, chars}
 use Rattle.latex2mathml_formulas.specs.Characters.{◌∈◌, head, is_space}
-use Rattle.latex2mathml_formulas.specs.Counts.{backslash_count, backslashes}
-use Rattle.latex2mathml_formulas.specs.Cutting.{slice, slices_of}
-use Rattle.latex2mathml_formulas.specs.Grammar.{first_or_end}
-use Rattle.latex2mathml_formulas.specs.Lexing.{BeginsWith, IsLongestRun, IsStart}
-use Rattle.latex2mathml_formulas.specs.Marks.{rest_of}
+use Rattle.latex2mathml_formulas.specs.{Counts.backslash_count, Counts.backslashes, Cutting.slice, Cutting.slices_of, Grammar.first_or_end}
+use Rattle.latex2mathml_formulas.specs.{Lexing.BeginsWith, Lexing.IsLongestRun, Lexing.IsStart, Marks.rest_of}
 use Rattle.latex2mathml_formulas.specs.Spelling.{Slice, SpellsAt, IsStep, begins_longer, character_token, takes_digit}
 use Rattle.latex2mathml_formulas.specs.Unread.{GoesOn, unread_in, token_list}
 use Rattle.latex2mathml_tokens.specs.Tok.{Tok}
-use Rattle.latex2mathml_formulas.proofs.Fronts.{no_bytes, no_characters}
-use Rattle.latex2mathml_formulas.proofs.Numbers.{true_false}
+use Rattle.latex2mathml_formulas.proofs.{Fronts.no_bytes, Fronts.no_characters, Spellings.one_character, Spellings.only_space}
 use Rattle.latex2mathml_formulas.proofs.OneList.{Begun, begun, cut_end, cut_step}
-use Rattle.latex2mathml_formulas.proofs.Spellings.{one_character, only_space}
-use Rattle.latex2mathml_formulas.proofs.Taking.{backslashes-cons, same_first}
-use Rattle.latex2mathml_formulas.proofs.Tokenizing.{step_shortens}
+use Rattle.latex2mathml_formulas.proofs.{Taking.backslashes-cons, Taking.same_first, Tokenizing.step_shortens}
 
 and_true : (b : Bool) → (b && true) ≡ b
 and_true true = refl
 and_true false = refl
 
-and_false : (b : Bool) → (b && false) ≡ false
+pub and_false : (b : Bool) → (b && false) ≡ false
 and_false true = refl
 and_false false = refl
 
@@ -86,11 +78,11 @@ taken_uncounted takes alone text start c after t rest starts e dark begins no_di
     taken takes alone false text start t 0 rest starts begins (sym no_digit) (omega arith) (omega arith)
 
 no_backslash : (c : ℕ) → begins_longer c ≡ false → c ≢ byte "\\"
-no_backslash c h = λ e. absurd (true_false (sym (ap begins_longer e) ∙ h))
+no_backslash c h = λ e. absurd (cc (ap begins_longer e, h))
 
 both_false : (a b : Bool) → not (a || b) ≡ true → (a ≡ false) × (b ≡ false)
-both_false true b h = absurd (true_false (sym h))
-both_false false true h = absurd (true_false (sym h))
+both_false true b h = absurd (cc h)
+both_false false true h = absurd (cc h)
 both_false false false h = (refl, refl)
 
 -- .. which is one character that stands for itself

@@ -1,24 +1,45 @@
--- A step of the reader takes something from the text.
-use Rattle.std.proofs.Common.{◌≡◌, ℕ, ◌+◌, ◌≤◌, ◌<◌, Bool, List, [], ◌∷◌, ◌++◌, length, Option, sym, ap, subst, ◌∙◌, arith, length-append}
+-- No slice begins with white space or is empty, so a step of the reader takes something from the text.
+use Rattle.std.proofs.Common.{◌≡◌, ℕ, ◌+◌, ◌≤◌, ◌<◌, Bool, true, false, refl, List, [], ◌∷◌, ◌++◌, length, Option, sym, ap, subst, ◌∙◌, arith, length-append}
 use Rattle.std.specs.Char.{is_ascii_digit}
-use Rattle.latex2mathml_formulas.specs.Characters.{Begins}
+use Rattle.std.proofs.lemmas.Bool.Decides.{nat_tests}
+use Rattle.latex2mathml_formulas.specs.Characters.{Begins, is_space}
 use Rattle.latex2mathml_formulas.specs.Spelling.{SpellsAt, Slice, IsStep, character, colon, colon_equals, number, digit, symbol_command, letter_command, lone_backslash}
 use Rattle.latex2mathml_tokens.specs.Tok.{Tok}
 
-begun_some : (w : List ℕ) → Begins is_ascii_digit w → 1 ≤ length w
-begun_some [] h = absurd h
-begun_some (c ∷ w) h = omega arith
+-- the list begins with a character that is no white space
+abbrev pub Dark : List ℕ → Type 0
+Dark [] = ⊥
+Dark (c ∷ cs) = is_space c ≡ false
 
--- a slice that spells a token is not empty
+digit_dark : (c : ℕ) → is_ascii_digit c ≡ true → is_space c ≡ false
+digit_dark c h = grind (arith, nat_tests)
+
+number_dark : (w : List ℕ) → Begins is_ascii_digit w → Dark w
+number_dark [] b = absurd b
+number_dark (d ∷ w) b = digit_dark d b
+
+-- no slice begins with white space
+pub spells_dark : (alone : Bool) (w : List ℕ) (next : Option ℕ) (t : Tok) → SpellsAt alone w next t → Dark w
+spells_dark alone w next t (character c longer dark e f) = subst Dark (sym e) dark
+spells_dark alone w next t (colon stops e f) = subst Dark (sym e) refl
+spells_dark alone w next t (colon_equals e f) = subst Dark (sym e) refl
+spells_dark alone w next t (number a n f) = number_dark w n.begins
+spells_dark alone w next t (digit c a d e f) = subst Dark (sym e) (digit_dark c d)
+spells_dark alone w next t (symbol_command c l e f) = subst Dark (sym e) refl
+spells_dark alone w next t (letter_command c cs e l s f) = subst Dark (sym e) refl
+spells_dark alone w next t (lone_backslash e n f) = subst Dark (sym e) refl
+
+pub dark_front : (w rest : List ℕ) → Dark w → Dark (w ++ rest)
+dark_front [] rest d = absurd d
+dark_front (c ∷ w) rest d = d
+
+-- and none is empty
+dark_length : (w : List ℕ) → Dark w → 1 ≤ length w
+dark_length [] d = absurd d
+dark_length (c ∷ w) d = omega arith
+
 pub not_empty : (alone : Bool) (w : List ℕ) (next : Option ℕ) (t : Tok) → SpellsAt alone w next t → 1 ≤ length w
-not_empty alone w next t (character c longer no_space e f) = subst (λ v. 1 ≤ length v) (sym e) (omega arith)
-not_empty alone w next t (colon stops e f) = subst (λ v. 1 ≤ length v) (sym e) (omega arith)
-not_empty alone w next t (colon_equals e f) = subst (λ v. 1 ≤ length v) (sym e) (omega arith)
-not_empty alone w next t (number a n f) = begun_some w n.begins
-not_empty alone w next t (digit c a d e f) = subst (λ v. 1 ≤ length v) (sym e) (omega arith)
-not_empty alone w next t (symbol_command c l e f) = subst (λ v. 1 ≤ length v) (sym e) (omega arith)
-not_empty alone w next t (letter_command c cs e l s f) = subst (λ v. 1 ≤ length v) (sym e) (omega arith)
-not_empty alone w next t (lone_backslash e n f) = subst (λ v. 1 ≤ length v) (sym e) (omega arith)
+not_empty alone w next t s = dark_length w (spells_dark alone w next t s)
 
 -- so a step leaves less of the text
 pub step_shortens : (takes : Bool) (text rest : List ℕ) (s : Slice) → IsStep takes text s rest → length rest < length text

@@ -1,21 +1,8 @@
 -- Two outcomes of one list of tokens are one.
-use Rattle.std.proofs.Common.{◌≡◌, ◌≢◌, ◌∙◌, ℕ, List, [], ◌∷◌, Option, Some, None, refl, sym, ap, subst}
-use Rattle.latex2mathml_formulas.specs.Grammar.{Sort, Rule, Outcome, Read, Refused, first, first_letter, letter_of, AreLetters, Reads, core_at_end, core_begun, single_read, node_read, ReadsRule, rule_gives, rule_refuses, part_read, part_refused, members_read, members_refused, sign_stands, sign_missing, token_taken, token_at_end, token_seen, letters_taken, ReadsAll, formula_ends, group_ends, never_closed, member_read, later_refused, member_refused}
-use Rattle.latex2mathml_tokens.specs.Refusal.{Refusal}
+use Rattle.std.proofs.Common.{◌≡◌, ℕ, List, [], ◌∷◌, Option, refl, sym, ap, subst}
+use Rattle.latex2mathml_formulas.specs.Grammar.{Sort, Rule, Outcome, Read, first, first_letter, AreLetters, Reads, core_at_end, core_begun, single_read, node_read, ReadsRule, rule_gives, rule_refuses, part_read, part_refused, members_read, members_refused, sign_stands, sign_missing, token_taken, token_at_end, token_seen, letters_taken, ReadsAll, formula_ends, group_ends, never_closed, member_read, later_refused, member_refused}
 use Rattle.latex2mathml_tokens.specs.Tok.{Tok}
 use Rattle.latex2mathml_trees.specs.Tree.{Tree}
-
--- what is read is not refused
-not_refused : {A : Type 0} {x : A} {m : List Tok} {r : Refusal} → Read x m ≡ Refused r → ⊥
-not_refused e = cc
-
--- one refused outcome has one refusal
-Refused-inj : {A : Type 0} {r q : Refusal} → ◌≡◌ {A = Outcome A} (Refused r) (Refused q) → r ≡ q
-Refused-inj e = cc
-
--- the same member before the same members
-with_member : {x y : Tree} {m n f g : List Tok} {xs ys : List Tree} → Read x m ≡ Read y n → Read xs f ≡ Read ys g → Read (x ∷ xs) f ≡ Read (y ∷ ys) g
-with_member d e = cc
 
 -- what follows one outcome of a part also follows the other, which is the same
 moved_rule : {A : Type 0} (then : A → Rule) {x y : A} {m n : List Tok} {o : Outcome Tree} → Read x m ≡ Read y n → ReadsRule (then y) n o → ReadsRule (then x) m o
@@ -26,45 +13,23 @@ moved_rule then {x} {y} {m} {n} {o} e d =
 
 -- and so do the members after a member
 moved_all : {end : Option Tok} {x y : Tree} {m n : List Tok} {o : Outcome (List Tree)} → Read x m ≡ Read y n → ReadsAll end n o → ReadsAll end m o
-moved_all {end} {x} {y} {m} {n} {o} e d =
+moved_all {end} {m = m} {n = n} {o = o} e d =
     let q : n ≡ m = cc in
     subst (λ k. ReadsAll end k o) q d
-
--- and what follows a sign
-moved_sign : {r : Rule} {t : Tok} {l m n : List Tok} {o : Outcome Tree} → l ≡ t ∷ m → l ≡ t ∷ n → ReadsRule r n o → ReadsRule r m o
-moved_sign {r} {m = m} {n = n} {o = o} p q d =
-    let same : n ≡ m = cc in
-    subst (λ k. ReadsRule r k o) same d
-
--- after one end token stand the same tokens
-same_end : {t : Tok} {l m n : List Tok} → l ≡ t ∷ m → l ≡ t ∷ n → ◌≡◌ {A = Outcome (List Tree)} (Read [] m) (Read [] n)
-same_end p q = cc
-
--- a member does not begin with the end token
-no_member : {end t : Tok} {l m : List Tok} → t ∷ l ≡ end ∷ m → Some end ≢ Some t → ⊥
-no_member p h = h (sym (ap first p))
-
--- a letter does not stand after the run of letters
-no_letter : {l m n : List Tok} {t : Tok} {c : ℕ} → l ≡ m → first_letter m ≡ None → l ≡ t ∷ n → letter_of t ≡ Some c → ⊥
-no_letter e none f some =
-    let both = sym none ∙ ap first_letter (sym e ∙ f) ∙ some in
-    cc both
 
 -- the longest run of letters is one
 one_run : (cs ds : List ℕ) (l m n : List Tok) → AreLetters cs l m → AreLetters ds l n → Read cs m ≡ Read ds n
 one_run [] [] l m n p q = cc (p.0, q.0)
-one_run [] (d ∷ ds) l m n p q = absurd (no_letter p.0 p.1 q.1.1 q.1.2)
-one_run (c ∷ cs) [] l m n p q = absurd (no_letter q.0 q.1 p.1.1 p.1.2)
+one_run [] (d ∷ ds) l m n p q = cc (p.0, p.1, q.1.2, ap first_letter q.1.1)
+one_run (c ∷ cs) [] l m n p q = cc (q.0, q.1, p.1.2, ap first_letter p.1.1)
 one_run (c ∷ cs) (d ∷ ds) l m n p q =
-    let same_token : q.0 ≡ p.0 = cc (p.1.1, q.1.1) in
     let same_rest : q.1.0 ≡ p.1.0 = cc (p.1.1, q.1.1) in
-    let both = sym p.1.2 ∙ ap letter_of (sym same_token) ∙ q.1.2 in
     let later = one_run cs ds p.1.0 m n p.1.3 (subst (λ k. AreLetters ds k n) same_rest q.1.3) in
-    cc (both, later)
+    cc (p.1.1, q.1.1, p.1.2, q.1.2, later)
 
 mutual
   -- a core, a single or a node comes to one outcome
-  one : {s : Sort} {l : List Tok} {o p : Outcome Tree} → Reads s l o → Reads s l p → o ≡ p
+  pub one : {s : Sort} {l : List Tok} {o p : Outcome Tree} → Reads s l o → Reads s l p → o ≡ p
   one core_at_end core_at_end = refl
   one (core_begun d) (core_begun e) = one_rule d e
   one (single_read d) (single_read e) = one_rule d e
@@ -75,14 +40,16 @@ mutual
   one_rule rule_gives rule_gives = refl
   one_rule rule_refuses rule_refuses = refl
   one_rule (part_read {then = then} d ds) (part_read e es) = one_rule ds (moved_rule then (one d e) es)
-  one_rule (part_read d ds) (part_refused e) = absurd (not_refused (one d e))
-  one_rule (part_refused d) (part_read e es) = absurd (not_refused (sym (one d e)))
+  one_rule (part_read d ds) (part_refused e) = cc (one d e)
+  one_rule (part_refused d) (part_read e es) = cc (one d e)
   one_rule (part_refused d) (part_refused e) = one d e
   one_rule (members_read {then = then} d ds) (members_read e es) = one_rule ds (moved_rule then (one_all d e) es)
-  one_rule (members_read d ds) (members_refused e) = absurd (not_refused (one_all d e))
-  one_rule (members_refused d) (members_read e es) = absurd (not_refused (sym (one_all d e)))
-  one_rule (members_refused d) (members_refused e) = ap Refused (Refused-inj (one_all d e))
-  one_rule (sign_stands p d) (sign_stands q e) = one_rule d (moved_sign p q e)
+  one_rule (members_read d ds) (members_refused e) = cc (one_all d e)
+  one_rule (members_refused d) (members_read e es) = cc (one_all d e)
+  one_rule (members_refused d) (members_refused e) = cc (one_all d e)
+  one_rule (sign_stands {t = t} {a = a} {m = m} p d) (sign_stands {m = n} q e) =
+      let same : Read t m ≡ Read t n = cc in
+      one_rule d (moved_rule (λ u. a) same e)
   one_rule (sign_stands p d) (sign_missing h e) = absurd (h (ap first p))
   one_rule (sign_missing h d) (sign_stands p e) = absurd (h (ap first p))
   one_rule (sign_missing h d) (sign_missing k e) = one_rule d e
@@ -95,21 +62,21 @@ mutual
   pub one_all : {end : Option Tok} {l : List Tok} {o p : Outcome (List Tree)} → ReadsAll end l o → ReadsAll end l p → o ≡ p
   one_all formula_ends formula_ends = refl
   one_all never_closed never_closed = refl
-  one_all never_closed (group_ends p) = absurd cc
-  one_all (group_ends p) never_closed = absurd cc
-  one_all (group_ends p) (group_ends q) = same_end p q
-  one_all (group_ends p) (member_read h e es) = absurd (no_member p h)
-  one_all (group_ends p) (later_refused h e es) = absurd (no_member p h)
-  one_all (group_ends p) (member_refused h e) = absurd (no_member p h)
-  one_all (member_read h d ds) (group_ends p) = absurd (no_member p h)
-  one_all (member_read h d ds) (member_read k e es) = with_member (one d e) (one_all ds (moved_all (one d e) es))
-  one_all (member_read h d ds) (later_refused k e es) = absurd (not_refused (one_all ds (moved_all (one d e) es)))
-  one_all (member_read h d ds) (member_refused k e) = absurd (not_refused (one d e))
-  one_all (later_refused h d ds) (group_ends p) = absurd (no_member p h)
-  one_all (later_refused h d ds) (member_read k e es) = absurd (not_refused (sym (one_all ds (moved_all (one d e) es))))
+  one_all never_closed (group_ends p) = cc
+  one_all (group_ends p) never_closed = cc
+  one_all (group_ends p) (group_ends q) = cc
+  one_all (group_ends p) (member_read h e es) = absurd (h (sym (ap first p)))
+  one_all (group_ends p) (later_refused h e es) = absurd (h (sym (ap first p)))
+  one_all (group_ends p) (member_refused h e) = absurd (h (sym (ap first p)))
+  one_all (member_read h d ds) (group_ends p) = absurd (h (sym (ap first p)))
+  one_all (member_read h d ds) (member_read k e es) = cc (one d e, one_all ds (moved_all (one d e) es))
+  one_all (member_read h d ds) (later_refused k e es) = cc (one_all ds (moved_all (one d e) es))
+  one_all (member_read h d ds) (member_refused k e) = cc (one d e)
+  one_all (later_refused h d ds) (group_ends p) = absurd (h (sym (ap first p)))
+  one_all (later_refused h d ds) (member_read k e es) = cc (one_all ds (moved_all (one d e) es))
   one_all (later_refused h d ds) (later_refused k e es) = one_all ds (moved_all (one d e) es)
-  one_all (later_refused h d ds) (member_refused k e) = absurd (not_refused (one d e))
-  one_all (member_refused h d) (group_ends p) = absurd (no_member p h)
-  one_all (member_refused h d) (member_read k e es) = absurd (not_refused (sym (one d e)))
-  one_all (member_refused h d) (later_refused k e es) = absurd (not_refused (sym (one d e)))
-  one_all (member_refused h d) (member_refused k e) = ap Refused (Refused-inj (one d e))
+  one_all (later_refused h d ds) (member_refused k e) = cc (one d e)
+  one_all (member_refused h d) (group_ends p) = absurd (h (sym (ap first p)))
+  one_all (member_refused h d) (member_read k e es) = cc (one d e)
+  one_all (member_refused h d) (later_refused k e es) = cc (one d e)
+  one_all (member_refused h d) (member_refused k e) = cc (one d e)

@@ -1,20 +1,14 @@
 -- White space at a place between two tokens that is no digit place leaves the token list as it was.
-use Rattle.std.proofs.Common.{◌≡◌, ℕ, Bool, true, false, ◌&&◌, List, [], ◌∷◌, ◌++◌, Option, Some, None, map, refl, sym, ap, subst, ◌∙◌, append_assoc, arith}
-use Rattle.std.proofs.lemmas.Bool.{and_parts}
-use Rattle.std.proofs.lemmas.Bool.Decides.{nat_tests}
-use Rattle.std.proofs.lemmas.Str.{chars-append}
-use Rattle.std.specs.Char.{is_ascii_digit, is_ascii_alphabetic}
-use Rattle.std.specs.List.{AllPass}
-use Rattle.std.specs.Str.{IsUtf8, chars}
+use Rattle.std.proofs.Common.{◌≡◌, ℕ, Bool, true, false, ◌&&◌, List, [], ◌∷◌, ◌++◌, Option, Some, None, map, refl, sym, ap, subst, ◌∙◌, append_assoc, arith, ⊎_elim}
+use Rattle.std.proofs.{lemmas.Bool.and_parts, lemmas.Bool.cases_Bool, lemmas.Bool.Decides.nat_tests, lemmas.Str.chars-append}
+use Rattle.std.specs.{Char.is_ascii_digit, Char.is_ascii_alphabetic, List.AllPass, Str.IsUtf8, Str.chars}
 use Rattle.latex2mathml_formulas.specs.Characters.{Begins, Stops, head, is_empty, is_space}
-use Rattle.latex2mathml_formulas.specs.Cutting.{slices_of}
+use Rattle.latex2mathml_formulas.specs.{Cutting.slices_of, Rendering.IsRendering, Rendering.IsFormulaRefusal}
 use Rattle.latex2mathml_formulas.specs.Places.{AreSlices, IsBetweenTokens, IsDigitPlace, IsReadAlike, SpaceChangesNothing, HasPlaces}
-use Rattle.latex2mathml_formulas.specs.Rendering.{IsRendering, IsFormulaRefusal}
 use Rattle.latex2mathml_formulas.specs.Spelling.{SpellsAt, Slice, HasSlices, HasTokens, is_equals_sign, is_period, takes_digit, character, colon, colon_equals, number, digit, symbol_command, letter_command, lone_backslash}
 use Rattle.latex2mathml_tokens.specs.Tok.{Tok}
-use Rattle.latex2mathml_formulas.proofs.FirstSlices.{Dark, spells_dark}
-use Rattle.latex2mathml_formulas.proofs.OneList.{at_most_one, cut}
-use Rattle.latex2mathml_formulas.proofs.Passing.{Each, each, passing}
+use Rattle.latex2mathml_formulas.proofs.{OneList.at_most_one, OneList.cut, Passing.Each, Passing.each, Passing.passing, Starts.and_false}
+use Rattle.latex2mathml_formulas.proofs.Tokenizing.{Dark, dark_front, spells_dark}
 
 -- a slice, where other characters may follow it
 
@@ -27,51 +21,33 @@ light_stops : (p : ℕ → Bool) (next : Option ℕ) → ((c : ℕ) → is_space
 light_stops p None other light = absurd light
 light_stops p (Some c) other light = other c light
 
-no_digit : (c : ℕ) → is_space c ≡ true → is_ascii_digit c ≡ false
-no_digit c h = grind (arith, nat_tests)
+-- white space is no digit, no period, no equals sign and no letter
+spaces_apart : (c : ℕ) → is_space c ≡ true → (is_ascii_digit c ≡ false) × (is_period c ≡ false) × (is_equals_sign c ≡ false) × (is_ascii_alphabetic c ≡ false)
+spaces_apart c h = (grind (arith, nat_tests), grind (arith, nat_tests), grind (arith, nat_tests), grind (arith, nat_tests))
 
-no_period : (c : ℕ) → is_space c ≡ true → is_period c ≡ false
-no_period c h = grind (arith, nat_tests)
-
-no_equals_sign : (c : ℕ) → is_space c ≡ true → is_equals_sign c ≡ false
-no_equals_sign c h = grind (arith, nat_tests)
-
-no_letter : (c : ℕ) → is_space c ≡ true → is_ascii_alphabetic c ≡ false
-no_letter c h = grind (arith, nat_tests)
-
--- a slice that does not end the text spells the same before white space
-spells_before_space : (alone : Bool) (w : List ℕ) (next other : Option ℕ) (t : Tok) → (next ≡ None → ⊥) → IsLight other → SpellsAt alone w next t → SpellsAt alone w other t
-spells_before_space alone w next other t some light (character c longer dark e f) = character c longer dark e f
-spells_before_space alone w next other t some light (colon stops e f) = colon (light_stops is_equals_sign other no_equals_sign light) e f
-spells_before_space alone w next other t some light (colon_equals e f) = colon_equals e f
-spells_before_space alone w next other t some light (number a n f) =
-    number a (record {
+-- a slice spells the same before what ends no longer slice, and where a digit is as much a number of its own
+spells_there : (alone other : Bool) (w : List ℕ) (next later : Option ℕ) (t : Tok) → (Begins is_ascii_digit w → alone ≡ other) → ((p : ℕ → Bool) → ((c : ℕ) → is_space c ≡ true → p c ≡ false) → Stops p next → Stops p later) → (next ≡ None → later ≡ None) → SpellsAt alone w next t → SpellsAt other w later t
+spells_there alone other w next later t same stops none (character c longer dark e f) = character c longer dark e f
+spells_there alone other w next later t same stops none (colon s e f) = colon (stops is_equals_sign (λ c h. (spaces_apart c h).2) s) e f
+spells_there alone other w next later t same stops none (colon_equals e f) = colon_equals e f
+spells_there alone other w next later t same stops none (number a n f) =
+    number (sym (same n.begins) ∙ a) (record {
       begins = n.begins;
       holds = n.holds;
       at_most_one = n.at_most_one;
-      ends = light_stops is_ascii_digit other no_digit light;
-      longest = λ none. light_stops is_period other no_period light;
+      ends = stops is_ascii_digit (λ c h. (spaces_apart c h).0) n.ends;
+      longest = λ k. stops is_period (λ c h. (spaces_apart c h).1) (n.longest k);
     }) f
-spells_before_space alone w next other t some light (digit c a d e f) = digit c a d e f
-spells_before_space alone w next other t some light (symbol_command c l e f) = symbol_command c l e f
-spells_before_space alone w next other t some light (letter_command c cs e l s f) = letter_command c cs e l (light_stops is_ascii_alphabetic other no_letter light) f
-spells_before_space alone w next other t some light (lone_backslash e n f) = absurd (some n)
-
--- a slice that is no digit spells the same where a digit is no number of its own
-spells_apart : (alone : Bool) (w : List ℕ) (next : Option ℕ) (t : Tok) → (alone ≡ true → Begins is_ascii_digit w → ⊥) → SpellsAt alone w next t → SpellsAt false w next t
-spells_apart alone w next t none (character c longer dark e f) = character c longer dark e f
-spells_apart alone w next t none (colon stops e f) = colon stops e f
-spells_apart alone w next t none (colon_equals e f) = colon_equals e f
-spells_apart alone w next t none (number a n f) = number refl n f
-spells_apart alone w next t none (digit c a d e f) = absurd (none a (subst (Begins is_ascii_digit) (sym e) d))
-spells_apart alone w next t none (symbol_command c l e f) = symbol_command c l e f
-spells_apart alone w next t none (letter_command c cs e l s f) = letter_command c cs e l s f
-spells_apart alone w next t none (lone_backslash e n f) = lone_backslash e n f
+spells_there alone other w next later t same stops none (digit c a d e f) =
+    digit c (sym (same (subst (Begins is_ascii_digit) (sym e) d)) ∙ a) d e f
+spells_there alone other w next later t same stops none (symbol_command c l e f) = symbol_command c l e f
+spells_there alone other w next later t same stops none (letter_command c cs e l s f) = letter_command c cs e l (stops is_ascii_alphabetic (λ c h. (spaces_apart c h).3) s) f
+spells_there alone other w next later t same stops none (lone_backslash e n f) = lone_backslash e (none n) f
 
 -- the slices before the place
 
 spells_longer : (alone : Bool) (w more behind other : List ℕ) (t : Tok) → (head behind ≡ None → ⊥) → IsLight (head other) → SpellsAt alone w (head (more ++ behind)) t → SpellsAt alone w (head (more ++ other)) t
-spells_longer alone w [] behind other t some light spells = spells_before_space alone w (head behind) (head other) t some light spells
+spells_longer alone w [] behind other t some light spells = spells_there alone alone w (head behind) (head other) t (λ d. refl) (λ p dark s. light_stops p (head other) dark light) (λ e. absurd (some e)) spells
 spells_longer alone w (c ∷ more) behind other t some light spells = spells
 
 -- they are slices too where white space follows them
@@ -116,31 +92,27 @@ empty_nil : (cs : List ℕ) → is_empty cs ≡ true → cs ≡ []
 empty_nil [] h = refl
 empty_nil (c ∷ cs) h = cc
 
-and_false : (b : Bool) → (b && false) ≡ false
-and_false true = refl
-and_false false = refl
-
--- white space, a slice, and the slices of the rest
-next_slices : (takes : Bool) (gap : List ℕ) (s : Slice) (rest text : List ℕ) → text ≡ gap ++ (s.text ++ rest) → AllPass is_space gap → SpellsAt (takes && is_empty gap) s.text (head rest) s.token → HasSlices takes text (s ∷ slices_of (takes_digit (Some s.token)) rest)
-next_slices takes gap s rest text whole white spells = (rest, (gap, whole, white, spells), cut (takes_digit (Some s.token)) rest)
-
 -- the slices of a text with a place between two tokens
 
 abbrev around : (before after : List ℕ) → IsBetweenTokens before after → List Slice
 around before after place = place.earlier ++ place.last ∷ place.next ∷ slices_of (takes_digit (Some place.next.token)) place.rest
 
+-- the slices up to the place, the white space there, and the slices of the rest
+slices_around : {before after : List ℕ} (place : IsBetweenTokens before after) (text behind gap : List ℕ) → text ≡ place.front ++ behind → behind ≡ gap ++ (place.next.text ++ place.rest) → AreSlices false place.front behind (place.earlier ++ place.last ∷ []) → AllPass is_space gap → SpellsAt (takes_digit (Some place.last.token) && is_empty gap) place.next.text (head place.rest) place.next.token → HasSlices false text (around before after place)
+slices_around place text behind gap whole next earlier space spells =
+    let later : HasSlices (takes_digit (Some place.last.token)) behind (place.next ∷ slices_of (takes_digit (Some place.next.token)) place.rest) = (place.rest, (gap, next, space, spells), cut _ place.rest) in
+    subst (λ x. HasSlices false x (around _ _ place)) (sym whole) (slices_joined false place.front behind place.earlier place.last _ earlier later)
+
 has_slices : (before after : List ℕ) (place : IsBetweenTokens before after) → HasSlices false (before ++ after) (around before after place)
 has_slices before after place =
-    let takes : Bool = takes_digit (Some place.last.token) in
-    let behind : List ℕ = place.left ++ after in
-    let whole : before ++ after ≡ place.front ++ behind = ap (λ x. x ++ after) place.before_is ∙ append_assoc place.front place.left after in
-    let next : behind ≡ (place.left ++ place.right) ++ (place.next.text ++ place.rest) = ap (λ x. place.left ++ x) place.after_is ∙ sym (append_assoc place.left place.right (place.next.text ++ place.rest)) in
-    let later : HasSlices takes behind (place.next ∷ slices_of (takes_digit (Some place.next.token)) place.rest) = next_slices takes (place.left ++ place.right) place.next place.rest behind next place.space place.spells in
-    subst (λ x. HasSlices false x (around before after place)) (sym whole) (slices_joined false place.front behind place.earlier place.last _ place.slices later)
+    let whole = ap (λ x. x ++ after) place.before_is ∙ append_assoc place.front place.left after in
+    let next = ap (λ x. place.left ++ x) place.after_is ∙ sym (append_assoc place.left place.right (place.next.text ++ place.rest)) in
+    slices_around place (before ++ after) (place.left ++ after) (place.left ++ place.right) whole next place.slices place.space place.spells
 
 -- .. also with white space put there
-has_slices_spaced : (before after : List ℕ) (place : IsBetweenTokens before after) → ¬ (IsDigitPlace place) → (c : ℕ) (cs : List ℕ) → Each is_space (c ∷ cs) → HasSlices false (before ++ (c ∷ cs ++ after)) (around before after place)
-has_slices_spaced before after place no_digit_place c cs white =
+same_slices : (before after : List ℕ) (place : IsBetweenTokens before after) → ¬ (IsDigitPlace place) → (space : List ℕ) → Each is_space space → HasSlices false (before ++ (space ++ after)) (around before after place)
+same_slices before after place no_digit_place [] white = has_slices before after place
+same_slices before after place no_digit_place (c ∷ cs) white =
     let takes : Bool = takes_digit (Some place.last.token) in
     let slice : List ℕ = place.next.text ++ place.rest in
     let gap : List ℕ = place.left ++ (c ∷ cs ++ place.right) in
@@ -148,17 +120,12 @@ has_slices_spaced before after place no_digit_place c cs white =
     let whole : before ++ (c ∷ cs ++ after) ≡ place.front ++ behind = ap (λ x. x ++ (c ∷ cs ++ after)) place.before_is ∙ append_assoc place.front place.left (c ∷ cs ++ after) in
     let next : behind ≡ gap ++ slice = ap (λ x. place.left ++ (c ∷ cs ++ x)) place.after_is ∙ sym (append_assoc place.left (c ∷ cs ++ place.right) slice ∙ ap (λ x. place.left ++ x) (append_assoc (c ∷ cs) place.right slice)) in
     let space : Each is_space (place.left ++ place.right) = each is_space (place.left ++ place.right) place.space in
-    let dark : Dark slice = spells_dark (takes && is_empty (place.left ++ place.right)) place.next.text place.rest place.next.token place.spells in
+    let dark : Dark slice = dark_front place.next.text place.rest (spells_dark (takes && is_empty (place.left ++ place.right)) place.next.text (head place.rest) place.next.token place.spells) in
     let some : head (place.left ++ after) ≡ None → ⊥ = λ none. some_stands place.left place.right slice dark (ap (λ x. head (place.left ++ x)) (sym place.after_is) ∙ none) in
     let earlier : AreSlices false place.front behind (place.earlier ++ place.last ∷ []) = slices_before_space false place.front (place.left ++ after) behind (place.earlier ++ place.last ∷ []) some (light_first place.left c cs place.right space white.0 after) place.slices in
     let apart : (takes && is_empty gap) ≡ false = ap (λ b. takes && b) (gap_some place.left c (cs ++ place.right)) ∙ and_false takes in
-    let spells : SpellsAt false place.next.text (head place.rest) place.next.token = spells_apart (takes && is_empty (place.left ++ place.right)) place.next.text (head place.rest) place.next.token (λ alone digit. (let both = and_parts takes (is_empty (place.left ++ place.right)) alone in no_digit_place (record { touching = empty_nil (place.left ++ place.right) both.1; takes = both.0; digit = digit }))) place.spells in
-    let later : HasSlices takes behind (place.next ∷ slices_of (takes_digit (Some place.next.token)) place.rest) = next_slices takes gap place.next place.rest behind next (passing is_space gap (gap_grown place.left (c ∷ cs) place.right space white)) (subst (λ b. SpellsAt b place.next.text (head place.rest) place.next.token) (sym apart) spells) in
-    subst (λ x. HasSlices false x (around before after place)) (sym whole) (slices_joined false place.front behind place.earlier place.last _ earlier later)
-
-same_slices : (before after : List ℕ) (place : IsBetweenTokens before after) → ¬ (IsDigitPlace place) → (space : List ℕ) → Each is_space space → HasSlices false (before ++ (space ++ after)) (around before after place)
-same_slices before after place no_digit_place [] white = has_slices before after place
-same_slices before after place no_digit_place (c ∷ cs) white = has_slices_spaced before after place no_digit_place c cs white
+    let spells : SpellsAt false place.next.text (head place.rest) place.next.token = spells_there (takes && is_empty (place.left ++ place.right)) false place.next.text (head place.rest) (head place.rest) place.next.token (λ digit. ⊎_elim (λ alone. absurd (let both = and_parts takes (is_empty (place.left ++ place.right)) alone in no_digit_place (record { touching = empty_nil (place.left ++ place.right) both.1; takes = both.0; digit = digit }))) (λ apart. apart) (cases_Bool (takes && is_empty (place.left ++ place.right)))) (λ p dark s. s) (λ e. e) place.spells in
+    slices_around place (before ++ (c ∷ cs ++ after)) behind gap whole next earlier (passing is_space gap (gap_grown place.left (c ∷ cs) place.right space white)) (subst (λ b. SpellsAt b place.next.text (head place.rest) place.next.token) (sym apart) spells)
 
 -- texts with the same slices
 

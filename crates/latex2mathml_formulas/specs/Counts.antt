@@ -4,8 +4,7 @@ use Rattle.latex2mathml_formulas.specs.Characters.{◌∈◌}
 use Rattle.latex2mathml_formulas.specs.Grammar.{node, Read, Reads, Refused}
 use Rattle.latex2mathml_formulas.specs.Spelling.{Slice, HasSlices, HasTokens}
 use Rattle.latex2mathml_trees.specs.Tree.{Tree}
-use Rattle.latex2mathml_tokens.specs.Refusal.{Refusal}
-use Rattle.latex2mathml_tokens.specs.Tok.{Tok}
+use Rattle.latex2mathml_tokens.specs.{Refusal.Refusal, Tok.Tok}
 
 -- the text begins with a backslash
 abbrev pub begins_with_backslash : List ℕ → Bool

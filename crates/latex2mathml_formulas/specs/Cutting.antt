@@ -1,8 +1,7 @@
 -- The slices of a text, computed, so that what is left of a text can be seen as a list. `HasSlices` says what they are:
 -- nothing that is promised rests on how they are found here.
 use Rattle.std.specs.Prelude.{ℕ, zero, suc, Bool, ◌&&◌, List, [], ◌∷◌, length, drop, Some, codes, if◌then◌else◌}
-use Rattle.std.specs.Char.{is_ascii_digit, is_ascii_alphabetic}
-use Rattle.std.specs.Str.{byte, encode_utf8_all}
+use Rattle.std.specs.{Char.is_ascii_digit, Char.is_ascii_alphabetic, Str.byte, Str.encode_utf8_all}
 use Rattle.latex2mathml_formulas.specs.Characters.{◌∈◌, is_empty, is_space}
 use Rattle.latex2mathml_tokens.specs.Commands.{command_token}
 use Rattle.latex2mathml_formulas.specs.Spelling.{Slice, is_period, is_equals_sign, character_token, takes_digit}

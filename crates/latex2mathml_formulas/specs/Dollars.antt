@@ -1,12 +1,9 @@
 -- Texts without a dollar sign. The sign is ASCII, so it is no byte of another character, and what is said of bytes here
 -- holds of characters.
 use Rattle.std.specs.Prelude.{◌≢◌, ℕ, Bool, not, ◌&&◌, ◌==◌, IsTrue, List, [], ◌∷◌, ◌++◌}
-use Rattle.std.specs.List.{list_all}
-use Rattle.std.specs.Str.{byte}
+use Rattle.std.specs.{List.list_all, Str.byte}
 use Rattle.std.proofs.Common.{⊎_elim, refl, ap, ◌∙◌}
-use Rattle.std.proofs.lemmas.Bool.{and_parts}
-use Rattle.std.proofs.lemmas.Bool.Decides.{eqb_tells}
-use Rattle.std.proofs.lemmas.List.Folds.{list_all-append}
+use Rattle.std.proofs.{lemmas.Bool.and_parts, lemmas.Bool.Decides.eqb_tells, lemmas.List.Folds.list_all-append}
 
 -- the dollar sign
 abbrev pub dollar : ℕ

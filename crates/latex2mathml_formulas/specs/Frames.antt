@@ -1,29 +1,23 @@
 -- What the parser's frames stand for: each is a rule that was begun, at the part that it waits for. A frame holds no tree:
 -- what was read of its rule are the first of the trees that stand beside it, the last that was read first. These words serve
 -- the contracts of the parser's functions.
-use Rattle.std.specs.Prelude.{ℕ, ◌+◌, ◌-◌, Bool, true, false, List, [], ◌∷◌, drop, reverse, take}
+use Rattle.std.specs.Prelude.{ℕ, ◌+◌, ◌-◌, Bool, true, false, List, [], ◌∷◌, ◌++◌, drop, reverse, take}
 use Rattle.latex2mathml_formulas.specs.Grammar.{Sort, core, single, node, operand, Rule, gives, reads_part, reads_sign, of_one, of_degree, with_second, under_slash, after_fence_members, stretched_or_refused, after_environment_members, Reads}
 use Rattle.latex2mathml_formulas.specs.Levels.{Standing, awaits_part, awaits_members, Level, part, level_of_rule}
-use Rattle.latex2mathml_formulas.specs.Marks.{sign_token}
-use Rattle.latex2mathml_trees.specs.Productions.{group_tree, stretched_operator}
-use Rattle.latex2mathml_trees.specs.Style.{styled}
+use Rattle.latex2mathml_formulas.specs.{Marks.sign_token, declared.parse.frames.Due.Due, declared.parse.frames.Frame.Frame}
+use Rattle.latex2mathml_trees.specs.{Productions.group_tree, Productions.stretched_operator, Style.styled}
 use Rattle.latex2mathml_trees.specs.Tree.{Tree, operator, subscript, superscript}
 use Rattle.latex2mathml_parts.specs.Parts.{arity, fence_text, put, top, words_of}
 use Rattle.latex2mathml_parts.specs.declared.kind.Kind.{Kind}
 use Rattle.latex2mathml_parts.specs.declared.kind.Kind.TheVariants as kind
-use Rattle.latex2mathml_tokens.specs.Lexemes.{lexeme_tok}
-use Rattle.latex2mathml_tokens.specs.Tok.{Tok, Circumflex, Underscore}
-use Rattle.latex2mathml_formulas.specs.declared.parse.frames.Due.{Due}
+use Rattle.latex2mathml_tokens.specs.{Lexemes.lexeme_tok, Tok.Tok, Tok.Circumflex, Tok.Underscore}
 use Rattle.latex2mathml_formulas.specs.declared.parse.frames.Due.TheVariants as due
-use Rattle.latex2mathml_formulas.specs.declared.parse.frames.Frame.{Frame}
 use Rattle.latex2mathml_formulas.specs.declared.parse.frames.Frame.TheVariants as frame
-use Rattle.latex2mathml_formulas.specs.declared.parse.frames.Group.{Group}
+use Rattle.latex2mathml_formulas.specs.{declared.parse.frames.Group.Group, declared.parse.frames.GroupEnd.GroupEnd}
 use Rattle.latex2mathml_formulas.specs.declared.parse.frames.Group.TheVariants as group
-use Rattle.latex2mathml_formulas.specs.declared.parse.frames.GroupEnd.{GroupEnd}
 use Rattle.latex2mathml_formulas.specs.declared.parse.frames.GroupEnd.TheVariants as group_end
-use Rattle.latex2mathml_formulas.specs.declared.parse.frames.Pair.{Pair}
+use Rattle.latex2mathml_formulas.specs.{declared.parse.frames.Pair.Pair, declared.reader.mark.Sign.Sign}
 use Rattle.latex2mathml_formulas.specs.declared.parse.frames.Pair.TheVariants as pair
-use Rattle.latex2mathml_formulas.specs.declared.reader.mark.Sign.{Sign}
 use Rattle.latex2mathml_formulas.specs.declared.reader.mark.Sign.TheVariants.{Sub, Sup}
 
 -- what carries a script, with the script of this sign
@@ -84,7 +78,7 @@ with_limits c below above ts =
 
 -- the rule that was begun, at the part that is to be read next
 abbrev pub standing_of : Frame → List Tree → Standing
-standing_of (frame.Members g n) ts = awaits_members (end_of g) (reverse (take n ts)) (after_members g (drop n ts))
+standing_of (frame.Members g n) ts = awaits_members (end_of g) (λ xs. after_members g (drop n ts) (reverse (take n ts) ++ xs))
 standing_of (frame.Operand k) ts = awaits_part operand (λ x. gives (top (put k (x ∷ ts))))
 standing_of (frame.First k) ts = awaits_part operand (λ x. of_one (λ y. top (put k (y ∷ x ∷ ts))))
 standing_of (frame.Style v) ts = awaits_part operand (λ x. gives (styled v x))

@@ -1,10 +1,9 @@
 -- Laws of the grammar: they hold of every list of tokens, and whatever the rules are.
 use Rattle.std.specs.Prelude.{◌≡◌, ◌⊎◌, ◌↔◌, List, [], ◌++◌, Some}
 use Rattle.latex2mathml_formulas.specs.Grammar.{Sort, Rule, Read, Refused, Reads, ReadsRule, ReadsAll, ReadsFormula, Refuses}
-use Rattle.latex2mathml_tokens.specs.Refusal.{Refusal}
+use Rattle.latex2mathml_tokens.specs.{Refusal.Refusal, Tok.Tok}
 use Rattle.latex2mathml_formulas.specs.SliceRefusals.{PartRefuses, RuleRefuses, MembersRefuse, FormulaRefuses}
 use Rattle.latex2mathml_formulas.specs.Slices.{IsPart, AreParts, AreMembers, AreNodes}
-use Rattle.latex2mathml_tokens.specs.Tok.{Tok}
 use Rattle.latex2mathml_trees.specs.Tree.{Tree}
 
 -- the tokens have exactly one reading or exactly one refusal

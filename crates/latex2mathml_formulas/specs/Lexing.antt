@@ -1,13 +1,9 @@
 -- What the reader's functions return, in the words of the spelling.
 use Rattle.std.specs.Prelude.{◌≡◌, ℕ, ◌&&◌, Bool, List, ◌∷◌, ◌++◌}
-use Rattle.std.specs.Char.{is_ascii_digit, is_ascii_alphabetic}
-use Rattle.std.specs.List.{AllPass}
+use Rattle.std.specs.{Char.is_ascii_digit, Char.is_ascii_alphabetic, List.AllPass, Str.byte, Str.encode_utf8_all}
 use Rattle.latex2mathml_formulas.specs.Characters.{Stops, head, is_empty, is_space}
-use Rattle.std.specs.Str.{byte, encode_utf8_all}
-use Rattle.latex2mathml_formulas.specs.Spelling.{SpellsAt, IsNumber}
-use Rattle.latex2mathml_tokens.specs.Commands.{command_token}
-use Rattle.latex2mathml_tokens.specs.Tok.{Tok}
-use Rattle.latex2mathml_formulas.specs.declared.reader.characters.Class.{Class}
+use Rattle.latex2mathml_formulas.specs.{Spelling.SpellsAt, Spelling.IsNumber, declared.reader.characters.Class.Class}
+use Rattle.latex2mathml_tokens.specs.{Commands.command_token, Tok.Tok}
 use Rattle.latex2mathml_formulas.specs.declared.reader.characters.Class.TheVariants.{Space, Digit, Letter}
 
 -- the test of a class of characters

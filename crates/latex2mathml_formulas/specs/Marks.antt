@@ -1,8 +1,7 @@
 -- What stands next in a list of tokens: the marks that go on with what was read, and names.
 use Rattle.std.specs.Prelude.{◌≡◌, ◌≢◌, ◌↔◌, ℕ, List, [], ◌∷◌, Option, Some, None}
 use Rattle.std.specs.Str.{byte, encode_utf8_all}
-use Rattle.latex2mathml_formulas.specs.Grammar.{AreLetters, first, prime}
-use Rattle.latex2mathml_formulas.specs.Spelling.{character_token}
+use Rattle.latex2mathml_formulas.specs.{Grammar.AreLetters, Grammar.first, Grammar.prime, Spelling.character_token}
 use Rattle.latex2mathml_tokens.specs.Tok.{Tok, Underscore, Circumflex}
 use Rattle.latex2mathml_formulas.specs.declared.reader.mark.Mark.{Mark}
 use Rattle.latex2mathml_formulas.specs.declared.reader.mark.Mark.TheVariants.{Prime, Script}

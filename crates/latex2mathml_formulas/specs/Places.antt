@@ -1,15 +1,11 @@
 -- Places in a text between two tokens, where white space may be put. A place is two texts, the one before it and the one
 -- after it, and both are slices and white space: nothing scans.
 use Rattle.std.specs.Prelude.{◌≡◌, ◌↔◌, ℕ, Bool, false, ◌&&◌, IsTrue, List, [], ◌∷◌, ◌++◌, Some, None}
-use Rattle.std.specs.Char.{is_ascii_digit}
-use Rattle.std.specs.List.{AllPass}
-use Rattle.std.specs.Str.{chars}
+use Rattle.std.specs.{Char.is_ascii_digit, List.AllPass, Str.chars}
 use Rattle.latex2mathml_formulas.specs.Characters.{Begins, head, is_empty, is_space}
 use Rattle.latex2mathml_formulas.specs.Rendering.{IsRendering, IsFormulaRefusal}
 use Rattle.latex2mathml_formulas.specs.Spelling.{Slice, SpellsAt, HasSlices, HasTokens, takes_digit}
-use Rattle.latex2mathml_tokens.specs.Refusal.{Refusal}
-use Rattle.latex2mathml_tokens.specs.Tok.{Tok}
-use Rattle.latex2mathml_tokens.specs.declared.DisplayStyle.{DisplayStyle}
+use Rattle.latex2mathml_tokens.specs.{Refusal.Refusal, Tok.Tok, declared.DisplayStyle.DisplayStyle}
 
 -- the text w, where `behind` follows it, is slices in turn, with white space before each or none
 abbrev pub AreSlices : Bool → List ℕ → List ℕ → List Slice → Type 0

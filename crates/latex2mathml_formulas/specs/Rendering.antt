@@ -1,14 +1,9 @@
 -- What a formula is turned into. A text is its bytes here.
 use Rattle.std.specs.Prelude.{◌≡◌, ℕ, List, ◌++◌, None, codes}
 use Rattle.std.specs.Str.{chars}
-use Rattle.latex2mathml_tokens.specs.Attributes.{display_text}
-use Rattle.latex2mathml_formulas.specs.Grammar.{ReadsFormula, Refuses}
-use Rattle.latex2mathml_trees.specs.Print.{prints}
-use Rattle.latex2mathml_tokens.specs.Refusal.{Refusal}
-use Rattle.latex2mathml_formulas.specs.Spelling.{HasTokens}
-use Rattle.latex2mathml_tokens.specs.Tok.{Tok}
-use Rattle.latex2mathml_trees.specs.Tree.{Tree, trees_of}
-use Rattle.latex2mathml_tokens.specs.declared.DisplayStyle.{DisplayStyle}
+use Rattle.latex2mathml_tokens.specs.{Attributes.display_text, Refusal.Refusal, Tok.Tok, declared.DisplayStyle.DisplayStyle}
+use Rattle.latex2mathml_formulas.specs.{Grammar.ReadsFormula, Grammar.Refuses, Spelling.HasTokens}
+use Rattle.latex2mathml_trees.specs.{Print.prints, Tree.Tree, Tree.trees_of}
 
 -- trees as one `math` element
 abbrev pub math_print : DisplayStyle → List Tree → List ℕ

@@ -1,10 +1,8 @@
 -- Laws of formulas: of their renderings and their refusals. They hold of every text.
 use Rattle.std.specs.Prelude.{◌≡◌, ◌≢◌, ◌⊎◌, ℕ, List}
-use Rattle.latex2mathml_formulas.specs.Dollars.{IsDollarFree}
-use Rattle.latex2mathml_formulas.specs.Rendering.{IsFormulaRefusal, IsRendering}
+use Rattle.latex2mathml_formulas.specs.{Dollars.IsDollarFree, Rendering.IsFormulaRefusal, Rendering.IsRendering}
 use Rattle.latex2mathml_trees.specs.MathSchema.{IsMathElement}
-use Rattle.latex2mathml_tokens.specs.Refusal.{Refusal, InvalidNumberOfDollarSigns}
-use Rattle.latex2mathml_tokens.specs.declared.DisplayStyle.{DisplayStyle}
+use Rattle.latex2mathml_tokens.specs.{Refusal.Refusal, Refusal.InvalidNumberOfDollarSigns, declared.DisplayStyle.DisplayStyle}
 
 -- each rendering of the formula is one `math` element that obeys the child table
 abbrev pub RendersElements : List ℕ → DisplayStyle → Type 0

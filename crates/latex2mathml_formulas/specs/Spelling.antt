@@ -1,9 +1,7 @@
 -- How a text spells its tokens. Nothing here scans: a slice of the text, and the character that stands after it, are
 -- a token or are none.
 use Rattle.std.specs.Prelude.{◌≡◌, ℕ, ◌≤◌, Bool, true, false, ◌&&◌, ◌||◌, ◌==◌, IsTrue, IsFalse, List, [], ◌∷◌, ◌++◌, map, count_by, codes, Option, Some, None, if◌then◌else◌}
-use Rattle.std.specs.Char.{is_ascii_digit, is_ascii_alphabetic}
-use Rattle.std.specs.List.{AllPass}
-use Rattle.std.specs.Str.{byte, encode_utf8_all}
+use Rattle.std.specs.{Char.is_ascii_digit, Char.is_ascii_alphabetic, List.AllPass, Str.byte, Str.encode_utf8_all}
 use Rattle.latex2mathml_formulas.specs.Characters.{◌∈◌, Begins, Stops, head, is_empty, is_space}
 use Rattle.latex2mathml_tokens.specs.Commands.{command_token}
 use Rattle.latex2mathml_tokens.specs.Tok.{Tok, Illegal, Ampersand, Paren, LBrace, RBrace, Underscore, Circumflex, Operator, Letter, Number, Command, Sqrt, Frac, Binom, Style}

@@ -1,25 +1,16 @@
 -- The steps of the parser: what holds between two of them, what is counted, and how much is left to do.
 use Rattle.std.specs.Prelude.{◌≡◌, Bool, true, false, ℕ, ◌+◌, ◌*◌, ◌<◌, ◌≤◌, List, [], ◌++◌, drop, length, sum_by, IfSome}
-use Rattle.latex2mathml_formulas.specs.Frames.{tree_count, innermost, inside}
+use Rattle.latex2mathml_formulas.specs.Frames.{tree_count, innermost, inside, sort_made, standing_of}
 use Rattle.latex2mathml_formulas.specs.Grammar.{core, node, Outcome, Read, Reads, Refused, Rule}
-use Rattle.latex2mathml_formulas.specs.Levels.{Leads, Level, Made, RuleLeads, Accepts}
-use Rattle.latex2mathml_formulas.specs.Openers.{opens}
-use Rattle.latex2mathml_formulas.specs.Unread.{GoesOn, OpensFor}
-use Rattle.latex2mathml_trees.specs.Print.{print}
-use Rattle.latex2mathml_trees.specs.Tree.{Tree}
-use Rattle.latex2mathml_parts.specs.Forests.{trees_in}
-use Rattle.latex2mathml_parts.specs.Parts.{top}
-use Rattle.latex2mathml_tokens.specs.Lexemes.{lexeme_tok}
-use Rattle.latex2mathml_tokens.specs.Refusal.{refusal_of}
-use Rattle.latex2mathml_tokens.specs.Tok.{Tok}
-use Rattle.latex2mathml_tokens.specs.declared.lexeme.Lexeme.{Lexeme}
+use Rattle.latex2mathml_formulas.specs.Levels.{Leads, Level, Made, RuleLeads, Accepts, remaining}
+use Rattle.latex2mathml_formulas.specs.{Openers.opens, Unread.GoesOn, Unread.OpensFor, declared.parse.Parser.Parser}
+use Rattle.latex2mathml_trees.specs.{Print.print, Tree.Tree}
+use Rattle.latex2mathml_parts.specs.{Forests.trees_in, Parts.top}
+use Rattle.latex2mathml_tokens.specs.{Lexemes.lexeme_tok, Refusal.refusal_of, Tok.Tok, declared.lexeme.Lexeme.Lexeme}
 use Rattle.latex2mathml_tokens.specs.declared.lexeme.Lexeme.TheVariants as lexeme
-use Rattle.latex2mathml_formulas.specs.declared.parse.Parser.{Parser}
-use Rattle.latex2mathml_formulas.specs.declared.parse.State.{State}
+use Rattle.latex2mathml_formulas.specs.{declared.parse.State.State, declared.parse.frames.Due.Due, declared.parse.frames.Frame.Frame}
 use Rattle.latex2mathml_formulas.specs.declared.parse.State.TheVariants as state
-use Rattle.latex2mathml_formulas.specs.declared.parse.frames.Due.{Due}
 use Rattle.latex2mathml_formulas.specs.declared.parse.frames.Due.TheVariants as due
-use Rattle.latex2mathml_formulas.specs.declared.parse.frames.Frame.{Frame}
 use Rattle.latex2mathml_formulas.specs.declared.parse.frames.Frame.TheVariants as frame
 
 -- the level that the parser is at, without the last n trees
@@ -33,6 +24,10 @@ last_tree_read p = Read (top (trees_in p.parts)) p.reader.list
 -- whatever the rest of a core's rule comes to, it leads on; without the last n trees
 abbrev pub GoesOnBy : Rule → ℕ → List Tok → Parser → Type 0
 GoesOnBy r n input p = RuleLeads r (Made core (level n input p)) p.reader.list
+
+-- .. and so does the rest of the rule of this frame, to which the last trees belong
+abbrev pub GoesOnIn : Frame → List Tok → Parser → Type 0
+GoesOnIn f input p = RuleLeads (remaining (standing_of f (trees_in p.parts))) (Made (sort_made f) (level (tree_count f) input p)) p.reader.list
 
 -- the node of the formula is read: it is the last tree
 abbrev pub Ends : List Tok → Parser → Type 0

@@ -1,8 +1,6 @@
 -- The laws of texts and of lists of tokens, of all of them at once: who uses them needs no text at hand.
 use Rattle.std.specs.Prelude.{ℕ, List, IsUtf8}
-use Rattle.latex2mathml_formulas.specs.Laws.{HasOneReading}
-use Rattle.latex2mathml_formulas.specs.Places.{HasPlaces, SpaceChangesNothing}
-use Rattle.latex2mathml_formulas.specs.TokenLists.{TextHasOneReading}
+use Rattle.latex2mathml_formulas.specs.{Laws.HasOneReading, Places.HasPlaces, Places.SpaceChangesNothing, TokenLists.TextHasOneReading}
 use Rattle.latex2mathml_tokens.specs.Tok.{Tok}
 
 -- what holds of all texts

@@ -1,7 +1,6 @@
 -- The laws of the spelling, and of the reading of what is spelled: they hold of every text.
 use Rattle.std.specs.Prelude.{◌≡◌, ℕ, false, List, None}
-use Rattle.latex2mathml_formulas.specs.Laws.{HasOneReading}
-use Rattle.latex2mathml_formulas.specs.Spelling.{Slice, HasSlices, HasTokens}
+use Rattle.latex2mathml_formulas.specs.{Laws.HasOneReading, Spelling.Slice, Spelling.HasSlices, Spelling.HasTokens}
 use Rattle.latex2mathml_tokens.specs.Tok.{Tok}
 
 -- the text, a list of characters, has exactly one token list

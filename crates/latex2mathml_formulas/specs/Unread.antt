@@ -1,8 +1,6 @@
 -- What is left of a text that is taken token by token, and what was counted so far.
 use Rattle.std.specs.Prelude.{◌≡◌, ℕ, ◌+◌, ◌*◌, ◌≤◌, List, drop, map, length}
-use Rattle.latex2mathml_formulas.specs.Counts.{backslashes}
-use Rattle.latex2mathml_formulas.specs.Openers.{openers}
-use Rattle.latex2mathml_formulas.specs.Spelling.{Slice}
+use Rattle.latex2mathml_formulas.specs.{Counts.backslashes, Openers.openers, Spelling.Slice}
 use Rattle.latex2mathml_tokens.specs.Tok.{Tok}
 
 -- the slices that are left and their tokens, how many tokens were taken, how many of the slices that are left begin with a

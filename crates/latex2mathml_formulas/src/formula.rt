@@ -1,14 +1,9 @@
 //! From a formula to its markup.
 ghost use Rattle.std.specs.Prelude.{◌≡◌, ℕ, ◌∷◌, ◌++◌, [], IfOk, List, OnOk, codes, string_bytes};
-ghost use Rattle.latex2mathml_formulas.specs.Counts.{IsRefusedWithin};
-ghost use Rattle.latex2mathml_formulas.specs.Grammar.{ReadsFormula, Refuses};
-ghost use Rattle.latex2mathml_formulas.specs.Openers.{opens};
+ghost use Rattle.latex2mathml_formulas.specs.{Counts.IsRefusedWithin, Grammar.ReadsFormula, Grammar.Refuses, Openers.opens};
 ghost use Rattle.latex2mathml_formulas.specs.Rendering.{IsFormulaRefusal, IsRendering, math_print};
 ghost use Rattle.latex2mathml_formulas.specs.Steps.{Counted, HasTrees, Holds, IsAppended, trees_of_state};
-ghost use Rattle.latex2mathml_tokens.specs.Attributes.{display_text};
-ghost use Rattle.latex2mathml_tokens.specs.Lexemes.{lexeme_tok};
-ghost use Rattle.latex2mathml_tokens.specs.Refusal.{IfRefused};
-ghost use Rattle.latex2mathml_tokens.specs.Tok.{Tok};
+ghost use Rattle.latex2mathml_tokens.specs.{Attributes.display_text, Lexemes.lexeme_tok, Refusal.IfRefused, Tok.Tok};
 ghost use Rattle.latex2mathml_trees.specs.Tree.{Tree};
 
 use crate::parse::begin::symbol;

@@ -1,10 +1,8 @@
 //! Laws of texts, of the grammar, and of renderings.
-ghost use Rattle.std.specs.Prelude.{map};
-ghost use Rattle.std.specs.Str.{chars};
+ghost use Rattle.std.specs.{Prelude.map, Str.chars};
 ghost use Rattle.latex2mathml_formulas.specs.Laws.{HasOneReading, IsReadBySlices, IsRefusedBySlices, IsSliced};
-ghost use Rattle.latex2mathml_formulas.specs.Places.{HasPlaces, SpaceChangesNothing};
+ghost use Rattle.latex2mathml_formulas.specs.{Places.HasPlaces, Places.SpaceChangesNothing, TextLaws.TextsHold};
 ghost use Rattle.latex2mathml_formulas.specs.RenderingLaws.{HasOneRendering, RendersDollarFree, RendersElements, RenderingsHold};
-ghost use Rattle.latex2mathml_formulas.specs.TextLaws.{TextsHold};
 ghost use Rattle.latex2mathml_tokens.specs.Tok.{tok};
 ghost use Rattle.latex2mathml_formulas.specs.TokenLists.{HasOneTokenList, TextHasOneReading};
 
@@ -55,6 +53,7 @@ pub fn refused_by_slices()
 {}
 
 /// Each rendering of a text is one `math` element that obeys the child table.
+#[tactic(auto, using(crate::proofs::MathElements::rendering_is_math))]
 pub fn rendering(text: &str, display: DisplayStyle)
     ensures { RendersElements text.now display }
 {
@@ -63,6 +62,7 @@ pub fn rendering(text: &str, display: DisplayStyle)
 }
 
 /// No rendering of a formula holds a dollar sign.
+#[tactic(auto, using(crate::proofs::Kept::dollar_free))]
 pub fn dollar_free(text: &str)
     ensures { RendersDollarFree text.now }
 {
@@ -79,11 +79,13 @@ pub fn one_rendering(text: &str, display: DisplayStyle)
 
 /// Each formula has exactly one rendering, which is one `math` element and holds no dollar sign, or exactly one refusal,
 /// which is never for dollar signs.
+#[tactic(auto, using(crate::proofs::Renderings::renderings_hold))]
 pub fn renderings()
     ensures { RenderingsHold }
 {}
 
 /// A place lies between each two tokens of a text that stand side by side.
+#[tactic(auto, using(crate::proofs::WhiteSpace::has_places))]
 pub fn places(text: &str)
     ensures { HasPlaces (chars text.now) }
 {
@@ -92,6 +94,7 @@ pub fn places(text: &str)
 
 /// White space at a place between two tokens leaves the tokens as they were, and so every answer. A digit place is left
 /// out: `\frac12` has one after `\frac`, and there white space makes another formula of it.
+#[tactic(auto, using(crate::proofs::WhiteSpace::space_changes_nothing))]
 pub fn white_space(before: &str, space: &str, after: &str)
     ensures { SpaceChangesNothing before.now space.now after.now }
 {

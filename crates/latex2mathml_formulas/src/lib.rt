@@ -5,9 +5,8 @@
 
 ghost use Rattle.std.specs.Prelude.{◌≢◌, ◌≤◌, IfOk, is_ok, length, string_bytes};
 ghost use Rattle.std.specs.Str.{chars};
-ghost use Rattle.latex2mathml_formulas.specs.Counts.{IsComparisonCount, IsRefusalCount, IsTokenCount};
+ghost use Rattle.latex2mathml_formulas.specs.{Counts.IsComparisonCount, Counts.IsRefusalCount, Counts.IsTokenCount, Openers.IsFrameCount};
 ghost use Rattle.latex2mathml_trees.specs.MathSchema.{IsMathElement};
-ghost use Rattle.latex2mathml_formulas.specs.Openers.{IsFrameCount};
 ghost use Rattle.latex2mathml_tokens.specs.Refusal.{IfRefused, InvalidNumberOfDollarSigns};
 ghost use Rattle.latex2mathml_formulas.specs.Rendering.{IsRendering, IsFormulaRefusal};
 

@@ -1,18 +1,12 @@
 //! Lexemes to parts: one loop over a stack of frames. Each step is proved to lead to what the grammar says about the
 //! tokens that were left before it.
-ghost use Rattle.std.specs.Prelude.{◌≡◌, ◌≢◌, ◌+◌, ◌<◌, [], false, IfOk, List, OnOk, vec_len};
+ghost use Rattle.std.specs.Prelude.{◌≡◌, ◌≢◌, ◌+◌, ◌<◌, [], false, IfOk, IfSome, List, vec_len};
 ghost use Rattle.std.specs.Str.{chars};
-ghost use Rattle.latex2mathml_formulas.specs.Counts.{backslashes};
-ghost use Rattle.latex2mathml_formulas.specs.Cutting.{slices_of};
-ghost use Rattle.latex2mathml_formulas.specs.Frames.{awaits, tree_count, unfit, within};
-ghost use Rattle.latex2mathml_formulas.specs.Grammar.{Read, Reads, Refused, core as a_core, node as a_node};
-ghost use Rattle.latex2mathml_formulas.specs.Levels.{Leads, Made};
-ghost use Rattle.latex2mathml_formulas.specs.Steps.{Counted, Follows, HasTrees, Holds, end_of, level, trees_of_state, state_weight, to_do, frame_weight, work};
-ghost use Rattle.latex2mathml_formulas.specs.Unread.{token_list};
-ghost use Rattle.latex2mathml_parts.specs.Forests.{trees_in};
-ghost use Rattle.latex2mathml_tokens.specs.Lexemes.{lexeme_tok};
-ghost use Rattle.latex2mathml_tokens.specs.Refusal.{IfRefused, MissingParensethis};
-ghost use Rattle.latex2mathml_tokens.specs.Tok.{Tok, tok};
+ghost use Rattle.latex2mathml_formulas.specs.{Counts.backslashes, Cutting.slices_of, Frames.awaits, Frames.tree_count, Frames.unfit};
+ghost use Rattle.latex2mathml_formulas.specs.Grammar.{Reads, Refused, node as a_node};
+ghost use Rattle.latex2mathml_formulas.specs.{Levels.Leads, Unread.token_list};
+ghost use Rattle.latex2mathml_formulas.specs.Steps.{Counted, Follows, GoesOnIn, HasTrees, Holds, end_of, level, trees_of_state, state_weight, to_do, frame_weight, work};
+ghost use Rattle.latex2mathml_tokens.specs.{Lexemes.lexeme_tok, Refusal.MissingParensethis, Refusal.refusal_of, Tok.Tok, Tok.tok};
 
 pub(crate) mod begin;
 mod deliver;
@@ -92,6 +86,7 @@ impl<'a> Parser<'a> {
     /// Goes on until the node of the formula is read, or the formula is refused. Returns whether the node is read: it is
     /// the last tree then.
     #[inline(always)]
+    #[tactic(auto, using(crate::proofs::Stepping::counted_none))]
     pub(crate) fn finish(&mut self, begun: State) -> Result<bool, AllocError>
         requires { HasTrees (trees_of_state begun) self.old }
         ensures node { (input : List Tok) → Holds input self.old begun → IfOk result (λ read. Holds input self.new (end_of read)) }
@@ -172,6 +167,7 @@ impl<'a> Parser<'a> {
     fn refuse(&mut self, error: LatexError) -> State
         ensures state { result ≡ State.Refused }
         ensures refusal { self.new ≡ record self.old { refusal = error } }
+        ensures holds { (input : List Tok) → IfSome (refusal_of error) (λ r. Reads a_node input (Refused r)) → Holds input self.new result }
     {
         self.refusal = error;
         State::Refused
@@ -192,12 +188,11 @@ impl<'a> Parser<'a> {
     }
 
     /// Opens a frame. Its next part is due then.
+    #[tactic(auto, using(crate::proofs::Stacks::put_on))]
     fn open(&mut self, frame: Frame<'a>) -> Result<State, AllocError>
         requires fit { unfit frame ≡ 0 }
         requires trees { HasTrees (tree_count frame) self.old }
-        ensures holds { (input : List Tok)
-            → Leads (within input self.old.frames.stack.items frame.entry (trees_in self.old.parts)) self.old.reader.list
-            → IfOk result (Holds input self.new) }
+        ensures holds { (input : List Tok) → GoesOnIn frame.entry input self.old → IfOk result (Holds input self.new) }
         ensures counted { Counted 1 self.old self.new }
         ensures follows { IfOk result (Follows (to_do self.old + frame_weight frame.entry + 6) self.new) }
     {
@@ -206,13 +201,12 @@ impl<'a> Parser<'a> {
     }
 
     /// Puts a frame back that was taken off. Its next part is due then. This is no opening: the frame was counted before.
+    #[tactic(auto, using(crate::proofs::Stacks::put_on))]
     fn put_back(&mut self, frame: Frame<'a>) -> Result<State, AllocError>
         requires fit { unfit frame ≡ 0 }
         requires trees { HasTrees (tree_count frame) self.old }
         requires room { vec_len self.old.frames.stack < self.old.frames.greatest }
-        ensures holds { (input : List Tok)
-            → Leads (within input self.old.frames.stack.items frame.entry (trees_in self.old.parts)) self.old.reader.list
-            → IfOk result (Holds input self.new) }
+        ensures holds { (input : List Tok) → GoesOnIn frame.entry input self.old → IfOk result (Holds input self.new) }
         ensures counted { Counted 0 self.old self.new }
         ensures follows { IfOk result (Follows (to_do self.old + frame_weight frame.entry + state_weight State.Next (awaits frame.entry) + 1) self.new) }
     {

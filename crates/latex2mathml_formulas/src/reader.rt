@@ -2,13 +2,10 @@
 //! looked for.
 ghost use Rattle.std.specs.Prelude.{◌≡◌, ◌≢◌, ◌≤◌, ◌∷◌, ℕ, [], false, List, IfOk, MatchBool, Some, codes, length, string_bytes};
 ghost use Rattle.std.specs.Str.{chars};
-ghost use Rattle.latex2mathml_formulas.specs.Counts.{backslashes};
-ghost use Rattle.latex2mathml_formulas.specs.Cutting.{slices_of};
-ghost use Rattle.latex2mathml_formulas.specs.Grammar.{first, first_or_end};
+ghost use Rattle.latex2mathml_formulas.specs.{Counts.backslashes, Cutting.slices_of, Grammar.first, Grammar.first_or_end};
 ghost use Rattle.latex2mathml_formulas.specs.Marks.{IsSeen, MarkStands, NameStands, rest_of, sign_token};
 ghost use Rattle.latex2mathml_formulas.specs.Unread.{GoesOn, OpensFor, token_list};
-ghost use Rattle.latex2mathml_tokens.specs.Lexemes.{lexeme_tok};
-ghost use Rattle.latex2mathml_tokens.specs.Tok.{EOF, Paren};
+ghost use Rattle.latex2mathml_tokens.specs.{Lexemes.lexeme_tok, Tok.EOF, Tok.Paren};
 
 pub(crate) mod characters;
 pub(crate) mod mark;

@@ -1,4 +1,3 @@
-pub mod Balance
 pub mod Chains
 pub mod Layers
 pub mod Members

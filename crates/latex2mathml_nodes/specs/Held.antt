@@ -1,9 +1,7 @@
 -- How many nodes and lists are in the parts of a node.
 use Rattle.std.specs.Prelude.{ℕ, ◌+◌}
-use Rattle.latex2mathml_nodes.specs.declared.ast.dismantle.Parts.{Parts}
+use Rattle.latex2mathml_nodes.specs.{declared.ast.dismantle.Parts.Parts, Nodes.tree, Nodes.trees, Chains.hung, Chains.hung_in}
 use Rattle.latex2mathml_nodes.specs.declared.ast.dismantle.Parts.TheVariants.{None, One, Two, Three, All}
-use Rattle.latex2mathml_nodes.specs.Nodes.{tree, trees}
-use Rattle.latex2mathml_nodes.specs.Chains.{hung, hung_in}
 use Rattle.latex2mathml_trees.specs.Weight.{weight, weights}
 
 -- where they are whole

@@ -1,14 +1,10 @@
 -- The topmost layer of a tree: a number for its kind, the values in it, and the trees in it. A tree is known by the three.
 use Rattle.std.specs.Prelude.{ℕ, ℤ, ◌+◌, Bool, List, Option}
-use Rattle.latex2mathml_nodes.specs.Nodes.{tree, trees}
-use Rattle.latex2mathml_nodes.specs.declared.ast.layer.Inner.{Inner}
+use Rattle.latex2mathml_nodes.specs.{Nodes.tree, Nodes.trees, declared.ast.layer.Inner.Inner, declared.ast.layer.Value.Value}
 use Rattle.latex2mathml_nodes.specs.declared.ast.layer.Inner.TheVariants as inner
-use Rattle.latex2mathml_nodes.specs.declared.ast.layer.Value.{Value}
 use Rattle.latex2mathml_nodes.specs.declared.ast.layer.Value.TheVariants as value
-use Rattle.latex2mathml_tokens.specs.declared.DisplayStyle.{DisplayStyle}
-use Rattle.latex2mathml_tokens.specs.declared.attribute.Accent.{Accent}
-use Rattle.latex2mathml_tokens.specs.declared.attribute.ColumnAlign.{ColumnAlign}
-use Rattle.latex2mathml_tokens.specs.declared.attribute.LineThickness.{LineThickness}
+use Rattle.latex2mathml_tokens.specs.{declared.DisplayStyle.DisplayStyle, declared.attribute.Accent.Accent}
+use Rattle.latex2mathml_tokens.specs.{declared.attribute.ColumnAlign.ColumnAlign, declared.attribute.LineThickness.LineThickness}
 use Rattle.latex2mathml_tokens.specs.declared.attribute.Variant.{Variant}
 use Rattle.latex2mathml_trees.specs.Tree.{Tree, Trees, number, letter, operator, function, applied, space, subscript, superscript, sub_sup, over_op, under_op, overset, underset, under, under_over, root, sqrt, frac, row, fenced, stretched, other_operator, sized_paren, words, matrix, ampersand, new_line, slashed, style, undefined}
 use Rattle.latex2mathml_trees.specs.Weight.{weight, weights}
@@ -35,78 +31,37 @@ pub data Within : Type 0 where
   three_trees : Tree → Tree → Tree → Within
   all_trees : Trees → Within
 
-abbrev pub kind_of : Tree → ℕ
-kind_of (number digits) = 0
-kind_of (letter c variant) = 1
-kind_of (operator c) = 2
-kind_of (function name) = 3
-kind_of (applied name x) = 4
-kind_of (space w) = 5
-kind_of (subscript x y) = 6
-kind_of (superscript x y) = 7
-kind_of (sub_sup x y z) = 8
-kind_of (over_op c accent x) = 9
-kind_of (under_op c accent x) = 10
-kind_of (overset x y) = 11
-kind_of (underset x y) = 12
-kind_of (under x y) = 13
-kind_of (under_over x y z) = 14
-kind_of (root x y) = 15
-kind_of (sqrt x) = 16
-kind_of (frac x y thickness) = 17
-kind_of (row members) = 18
-kind_of (fenced opening close x) = 19
-kind_of (stretched is_stretchy t) = 20
-kind_of (other_operator t) = 21
-kind_of (sized_paren size paren) = 22
-kind_of (words t) = 23
-kind_of (matrix members align) = 24
-kind_of ampersand = 25
-kind_of new_line = 26
-kind_of (slashed x) = 27
-kind_of (style d x) = 28
-kind_of (undefined t) = 29
-
-abbrev pub own_of : Tree → Own
-own_of (number digits) = text digits
-own_of (letter c variant) = styled_sign c variant
-own_of (operator c) = sign c
-own_of (function name) = text name
-own_of (applied name x) = text name
-own_of (space w) = width w
-own_of (over_op c accent x) = accented_sign c accent
-own_of (under_op c accent x) = accented_sign c accent
-own_of (frac x y thickness) = line thickness
-own_of (fenced opening close x) = texts opening close
-own_of (stretched is_stretchy t) = stretching is_stretchy t
-own_of (other_operator t) = text t
-own_of (sized_paren size paren) = texts size paren
-own_of (words t) = text t
-own_of (matrix members align) = columns align
-own_of (style d x) = display d
-own_of (undefined t) = text t
-own_of x = nothing
-
-abbrev pub within_of : Tree → Within
-within_of (applied name x) = one_tree x
-within_of (subscript x y) = two_trees x y
-within_of (superscript x y) = two_trees x y
-within_of (sub_sup x y z) = three_trees x y z
-within_of (over_op c accent x) = one_tree x
-within_of (under_op c accent x) = one_tree x
-within_of (overset x y) = two_trees x y
-within_of (underset x y) = two_trees x y
-within_of (under x y) = two_trees x y
-within_of (under_over x y z) = three_trees x y z
-within_of (root x y) = two_trees x y
-within_of (sqrt x) = one_tree x
-within_of (frac x y thickness) = two_trees x y
-within_of (row members) = all_trees members
-within_of (fenced opening close x) = one_tree x
-within_of (matrix members align) = all_trees members
-within_of (slashed x) = one_tree x
-within_of (style d x) = one_tree x
-within_of x = no_tree
+abbrev pub layer_of : Tree → ℕ × Own × Within
+layer_of (number digits) = (0, text digits, no_tree)
+layer_of (letter c variant) = (1, styled_sign c variant, no_tree)
+layer_of (operator c) = (2, sign c, no_tree)
+layer_of (function name) = (3, text name, no_tree)
+layer_of (applied name x) = (4, text name, one_tree x)
+layer_of (space w) = (5, width w, no_tree)
+layer_of (subscript x y) = (6, nothing, two_trees x y)
+layer_of (superscript x y) = (7, nothing, two_trees x y)
+layer_of (sub_sup x y z) = (8, nothing, three_trees x y z)
+layer_of (over_op c accent x) = (9, accented_sign c accent, one_tree x)
+layer_of (under_op c accent x) = (10, accented_sign c accent, one_tree x)
+layer_of (overset x y) = (11, nothing, two_trees x y)
+layer_of (underset x y) = (12, nothing, two_trees x y)
+layer_of (under x y) = (13, nothing, two_trees x y)
+layer_of (under_over x y z) = (14, nothing, three_trees x y z)
+layer_of (root x y) = (15, nothing, two_trees x y)
+layer_of (sqrt x) = (16, nothing, one_tree x)
+layer_of (frac x y thickness) = (17, line thickness, two_trees x y)
+layer_of (row members) = (18, nothing, all_trees members)
+layer_of (fenced opening close x) = (19, texts opening close, one_tree x)
+layer_of (stretched is_stretchy t) = (20, stretching is_stretchy t, no_tree)
+layer_of (other_operator t) = (21, text t, no_tree)
+layer_of (sized_paren size paren) = (22, texts size paren, no_tree)
+layer_of (words t) = (23, text t, no_tree)
+layer_of (matrix members align) = (24, columns align, all_trees members)
+layer_of ampersand = (25, nothing, no_tree)
+layer_of new_line = (26, nothing, no_tree)
+layer_of (slashed x) = (27, nothing, one_tree x)
+layer_of (style d x) = (28, display d, one_tree x)
+layer_of (undefined t) = (29, text t, no_tree)
 
 -- how many nodes and lists are in the trees
 abbrev pub weight_within : Within → ℕ

@@ -1,8 +1,7 @@
 -- The trees that nodes of the code are.
 use Rattle.std.specs.Prelude.{List, string_bytes, map, Option, option_map, Box}
 use Rattle.std.specs.declared.alloc.Global.{Global}
-use Rattle.latex2mathml_nodes.specs.declared.ast.Node.{Node, fold-Node}
-use Rattle.latex2mathml_nodes.specs.declared.ast.Node.TheOpen.{Node-F}
+use Rattle.latex2mathml_nodes.specs.{declared.ast.Node.Node, declared.ast.Node.fold-Node, declared.ast.Node.TheOpen.Node-F}
 use Rattle.latex2mathml_trees.specs.Tree.{Tree, Trees, function_tree, root_tree, trees_of, number, letter, operator, space, subscript, superscript, sub_sup, over_op, under_op, overset, underset, under, under_over, frac, row, fenced, stretched, other_operator, sized_paren, words, matrix, ampersand, new_line, slashed, style, undefined}
 
 abbrev pub unboxed : Option (Box Tree Global) → Option Tree

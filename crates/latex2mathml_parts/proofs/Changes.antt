@@ -1,17 +1,12 @@
 -- What the last trees become when they are put together or changed.
-use Rattle.std.proofs.Common.{◌≡◌, ◌≢◌, ℕ, ◌-◌, ◌<◌, ◌≤◌, List, [], ◌∷◌, Option, None, length, length-drop, take, drop, reverse, suc, zero, refl, sym, ap, ◌∙◌, arith, ◌⊎◌, inl, inr}
+use Rattle.std.proofs.Common.{◌≡◌, ◌≢◌, ℕ, ◌-◌, ◌<◌, ◌≤◌, List, [], ◌∷◌, Option, None, length, length-drop, take, drop, reverse, suc, zero, refl, sym, ap, ◌∙◌, arith}
 use Rattle.std.proofs.lemmas.List.{length-reverse, length-take-le}
-use Rattle.std.proofs.Math.Nat.{eq-or-lt_of_le}
 use Rattle.latex2mathml_trees.specs.Productions.{group_tree, matrix_of, matrix_members}
 use Rattle.latex2mathml_trees.specs.Tree.{Tree, matrix, row, no_trees, more_trees, trees_of}
-use Rattle.latex2mathml_tokens.specs.declared.attribute.ColumnAlign.{ColumnAlign}
-use Rattle.latex2mathml_tokens.specs.declared.attribute.Variant.{Variant}
-use Rattle.latex2mathml_parts.specs.Forests.{Stands, forest}
-use Rattle.latex2mathml_parts.specs.Forms.{all_in, put_form}
-use Rattle.latex2mathml_parts.specs.Parts.{top}
+use Rattle.latex2mathml_tokens.specs.{declared.attribute.ColumnAlign.ColumnAlign, declared.attribute.Variant.Variant}
+use Rattle.latex2mathml_parts.specs.{Forests.Stands, Forests.forest, Forms.all_in, Forms.put_form, Parts.top, declared.form.Part.Part}
 use Rattle.latex2mathml_parts.specs.declared.form.Form.TheVariants as form
-use Rattle.latex2mathml_parts.specs.declared.form.Part.{Part}
-use Rattle.latex2mathml_parts.proofs.Styles.{all_plain, plain}
+use Rattle.latex2mathml_parts.proofs.Styles.{all_plain}
 
 pub drop_one_more : (n : ℕ) (ts : List Tree) → drop 1 (drop n ts) ≡ drop (suc n) ts
 drop_one_more zero ts = refl
@@ -23,18 +18,13 @@ grouped_row [] h = refl
 grouped_row (x ∷ []) h = absurd (h refl)
 grouped_row (x ∷ y ∷ ys) h = refl
 
-last_trees : (count : ℕ) (ts : List Tree) → count ≢ 1 → count ≤ length ts → group_tree (reverse (take count ts)) ≡ row (trees_of (reverse (take count ts)))
+-- several trees are a row
+pub last_trees : (count : ℕ) (ts : List Tree) → count ≢ 1 → count ≤ length ts → group_tree (reverse (take count ts)) ≡ row (trees_of (reverse (take count ts)))
 last_trees count ts h k = grouped_row (reverse (take count ts)) (λ g. h (sym (length-take-le count ts k) ∙ sym (length-reverse (take count ts)) ∙ g))
 
--- a row is put after so many members
-pub row_grouped : (texts : List (List ℕ)) (count : ℕ) (ts : List Tree) → count ≢ 1 → count ≤ length ts → put_form texts (form.Row count None) ts ≡ group_tree (reverse (take count ts)) ∷ drop count ts
-row_grouped texts count ts h k = ap (λ x. x ∷ drop count ts) (plain (row (trees_of (reverse (take count ts)))) ∙ sym (last_trees count ts h k))
-
--- a matrix is put after so many members
-pub matrix_grouped : (texts : List (List ℕ)) (align : ColumnAlign) (count : ℕ) (ts : List Tree) → count ≢ 1 → count ≤ length ts → put_form texts (form.Matrix count None align) ts ≡ matrix_of align (group_tree (reverse (take count ts))) ∷ drop (suc count) ts
-matrix_grouped texts align count ts h k =
-    ap (λ xs. matrix xs align ∷ drop (suc count) ts) (all_plain (trees_of (reverse (take count ts))))
-    ∙ ap (λ x. matrix_of align x ∷ drop (suc count) ts) (sym (last_trees count ts h k))
+-- their members
+pub last_members : (count : ℕ) (ts : List Tree) → count ≢ 1 → count ≤ length ts → matrix_members (group_tree (reverse (take count ts))) ≡ trees_of (reverse (take count ts))
+last_members count ts h k = ap matrix_members (last_trees count ts h k)
 
 -- a matrix is put after one member, which is no row
 pub matrix_one : (texts : List (List ℕ)) (align : ColumnAlign) (ts : List Tree) → 0 < length ts → matrix_members (top ts) ≡ more_trees (top ts) no_trees → put_form texts (form.Matrix 1 None align) ts ≡ matrix_of align (top ts) ∷ drop 2 ts
@@ -57,17 +47,10 @@ stands_spread texts ps align count style start h a k e s t w =
     record {
       text = tt;
       fits = omega arith;
-      some = some start s shorter two;
+      some = let apart : start ≢ length ps = λ f. let g : length (forest texts (take start ps)) ≡ length (forest texts ps) = ap (λ n. length (forest texts (take n ps))) f ∙ ap length w in omega arith in omega arith;
       within = omega arith;
       below = ap (λ n. forest texts (take n ps)) (omega arith) ∙ t ∙ ap (drop 2) e ∙ drop_one_more count ts;
     }
-  where
-    some : (start : ℕ) → start ≤ length ps → length (forest texts (take start ps)) ≡ length (drop 2 (forest texts ps)) → length (drop 2 (forest texts ps)) ≡ length (forest texts ps) - 2 → 0 < length ps - start
-    some start s shorter two = at (eq-or-lt_of_le {n = start} {m = length ps} s)
-      where
-        at : (start ≡ length ps) ⊎ (start < length ps) → 0 < length ps - start
-        at (inl f) = let g : length (forest texts (take start ps)) ≡ length (forest texts ps) = ap (λ n. length (forest texts (take n ps))) f ∙ ap length w in absurd (omega (arith, a, g, shorter, two))
-        at (inr f) = omega arith
 
 -- below so many trees stands one more
 pub some_below : (texts : List (List ℕ)) (ps : List Part) (count start : ℕ) → count < length (forest texts ps) → forest texts (take start ps) ≡ drop count (forest texts ps) → 0 < start

@@ -1,16 +1,12 @@
 -- The trees of a list of parts: where they stand, and what they become when a part is put or changed.
 use Rattle.std.proofs.Common.{◌≡◌, ℕ, ◌+◌, ◌-◌, ◌<◌, ◌≤◌, List, [], ◌∷◌, ◌++◌, length, length-append, take, drop, slice_index_or, slice_set, suc, zero, refl, sym, ap, ◌∙◌, arith, subst, ◌⊎◌, inl, inr}
 use Rattle.std.proofs.lemmas.List.{get_or-take, length-set, length-take-le, take-append-le, take-take}
-use Rattle.std.proofs.lemmas.Grind.{take-set_at}
-use Rattle.std.proofs.Math.Seq.{take-suc, take-length, get_or-append_seam}
-use Rattle.std.proofs.Math.Nat.{eq-or-lt_of_le}
-use Rattle.std.proofs.Math.ListN.{get_or-append}
+use Rattle.std.proofs.{lemmas.Grind.take-set_at, Math.Seq.take-suc, Math.Seq.take-length, Math.Seq.get_or-append_seam}
+use Rattle.std.proofs.{Math.Nat.eq-or-lt_of_le, Math.ListN.get_or-append}
 use Rattle.latex2mathml_trees.specs.Tree.{Tree, function, undefined, words}
 use Rattle.latex2mathml_parts.specs.Forests.{AreWhole, Stands, forest, forest_on}
-use Rattle.latex2mathml_parts.specs.Forms.{HasText, arity_of, put_form}
-use Rattle.latex2mathml_parts.specs.declared.form.Form.{Form}
+use Rattle.latex2mathml_parts.specs.{Forms.HasText, Forms.arity_of, Forms.put_form, declared.form.Form.Form, declared.form.Part.Part}
 use Rattle.latex2mathml_parts.specs.declared.form.Form.TheVariants as form
-use Rattle.latex2mathml_parts.specs.declared.form.Part.{Part}
 use Rattle.latex2mathml_parts.proofs.Puts.{form_length}
 
 pub forest_on-append : (texts : List (List ℕ)) (ts : List Tree) (ps qs : List Part) → forest_on texts ts (ps ++ qs) ≡ forest_on texts (forest_on texts ts ps) qs
@@ -23,8 +19,8 @@ unfolding AreWhole
 part_stands texts ps n p w h e = subst (Stands texts ps n) (sym e) (w n p h)
 
 -- the forest of one part more
-pub forest-more : (texts : List (List ℕ)) (ps : List Part) (n : ℕ) (d : Part) → n < length ps → forest texts (take (suc n) ps) ≡ put_form texts (slice_index_or ps n d).form (forest texts (take n ps))
-forest-more texts ps n d h = ap (forest texts) (take-suc ps n d h) ∙ forest_on-append texts [] (take n ps) (slice_index_or ps n d ∷ [])
+pub forest_more : (texts : List (List ℕ)) (ps : List Part) (n : ℕ) (d : Part) → n < length ps → forest texts (take (suc n) ps) ≡ put_form texts (slice_index_or ps n d).form (forest texts (take n ps))
+forest_more texts ps n d h = ap (forest texts) (take-suc ps n d h) ∙ forest_on-append texts [] (take n ps) (slice_index_or ps n d ∷ [])
 
 pub forest_pushed : (texts : List (List ℕ)) (ps : List Part) (p : Part) → forest texts (ps ++ p ∷ []) ≡ put_form texts p.form (forest texts ps)
 forest_pushed texts ps p = forest_on-append texts [] ps (p ∷ [])
@@ -32,13 +28,14 @@ forest_pushed texts ps p = forest_on-append texts [] ps (p ∷ [])
 same_forest : (texts : List (List ℕ)) (ps : List Part) (p : Part) (n : ℕ) → n ≤ length ps → forest texts (take n (ps ++ p ∷ [])) ≡ forest texts (take n ps)
 same_forest texts ps p n h = ap (forest texts) (take-append-le n ps (p ∷ []) h)
 
-stands_before : (texts : List (List ℕ)) (ps : List Part) (p q : Part) (n : ℕ) → n < length ps → Stands texts ps n q → Stands texts (ps ++ p ∷ []) n q
-stands_before texts ps p q n h s = record {
-  text = s.text;
-  fits = subst (λ ts. arity_of q.form ≤ length ts) (sym (same_forest texts ps p n (omega arith))) s.fits;
+-- a part stands where it stood, if the trees before it are the same
+stands_among : (texts us : List (List ℕ)) (ps qs : List Part) (n : ℕ) (p : Part) → HasText us p.form → ((m : ℕ) → m ≤ n → forest us (take m qs) ≡ forest texts (take m ps)) → Stands texts ps n p → Stands us qs n p
+stands_among texts us ps qs n p h same s = record {
+  text = h;
+  fits = rw (same n (omega arith)) s.fits;
   some = s.some;
   within = s.within;
-  below = let w = s.within in let z = s.some in same_forest texts ps p (n + 1 - q.size) (omega arith) ∙ s.below ∙ ap (drop (arity_of q.form)) (sym (same_forest texts ps p n (omega arith)));
+  below = let z = s.some in same (n + 1 - p.size) (omega arith) ∙ s.below ∙ ap (drop (arity_of p.form)) (sym (same n (omega arith)));
 }
 
 -- the new part
@@ -61,25 +58,16 @@ whole_pushed texts ps p start w x a s z t n d h = at (eq-or-lt_of_le {n = n} {m 
   where
     at : (n ≡ length ps) ⊎ (n < length ps) → Stands texts (ps ++ p ∷ []) n (slice_index_or (ps ++ p ∷ []) n d)
     at (inl e) = subst (λ m. Stands texts (ps ++ p ∷ []) m (slice_index_or (ps ++ p ∷ []) m d)) (sym e) (subst (Stands texts (ps ++ p ∷ []) (length ps)) (sym (get_or-append_seam ps p [] d)) (stands_last texts ps p start x a s z t))
-    at (inr k) = subst (Stands texts (ps ++ p ∷ []) n) (sym (get_or-append ps (p ∷ []) d n k)) (stands_before texts ps p _ n k (w n d k))
+    at (inr k) = subst (Stands texts (ps ++ p ∷ []) n) (sym (get_or-append ps (p ∷ []) d n k)) (stands_among texts texts ps (ps ++ p ∷ []) n _ (w n d k).text (λ m i. same_forest texts ps p m (omega arith)) (w n d k))
 
 -- the first parts of whole ones
 pub whole_taken : (texts : List (List ℕ)) (ps : List Part) (n : ℕ) → n ≤ length ps → AreWhole texts ps → AreWhole texts (take n ps)
 unfolding AreWhole
 whole_taken texts ps n h w m d i =
     let k : length (take n ps) ≡ n = length-take-le n ps h in
-    let j : m < n = omega arith in
-    let same : (a : ℕ) → a ≤ n → forest texts (take a (take n ps)) ≡ forest texts (take a ps) = λ a b. ap (forest texts) (take-take a n ps b) in
     let s = w m d (omega arith) in
-    let q = slice_index_or ps m d in
-    subst (Stands texts (take n ps) m) (sym (get_or-take n ps m d j))
-    (record {
-      text = s.text;
-      fits = subst (λ ts. arity_of q.form ≤ length ts) (sym (same m (omega arith))) s.fits;
-      some = s.some;
-      within = s.within;
-      below = let z = s.some in let y = s.within in same (m + 1 - q.size) (omega arith) ∙ s.below ∙ ap (drop (arity_of q.form)) (sym (same m (omega arith)));
-    })
+    rw (get_or-take n ps m d (omega arith))
+    (stands_among texts texts ps (take n ps) m _ s.text (λ a b. ap (forest texts) (take-take a n ps (omega arith))) s)
 
 -- there are no more trees than parts
 forest_length_on : (texts : List (List ℕ)) (ps : List Part) (ts : List Tree) → length (forest_on texts ts ps) ≤ length ts + length ps
@@ -116,36 +104,26 @@ last_set ps q h =
 
 -- a text more is set aside
 form_kept : (texts : List (List ℕ)) (t : List ℕ) (f : Form) (ts : List Tree) → HasText texts f → put_form (texts ++ t ∷ []) f ts ≡ put_form texts f ts
-form_kept texts t (form.Of k) ts h = refl
 form_kept texts t (form.Name place) ts h = ap (λ l. function l ∷ ts) (get_or-append texts (t ∷ []) [] place h)
 form_kept texts t (form.Words place) ts h = ap (λ l. words l ∷ ts) (get_or-append texts (t ∷ []) [] place h)
 form_kept texts t (form.Undefined place) ts h = ap (λ l. undefined l ∷ ts) (get_or-append texts (t ∷ []) [] place h)
-form_kept texts t (form.Stretched c) ts h = refl
-form_kept texts t (form.StretchedParen paren) ts h = refl
-form_kept texts t form.Slashed ts h = refl
-form_kept texts t (form.Row count style) ts h = refl
-form_kept texts t (form.Matrix count style align) ts h = refl
+form_kept texts t f ts h = refl
 
 text_kept : (texts : List (List ℕ)) (t : List ℕ) (f : Form) → HasText texts f → HasText (texts ++ t ∷ []) f
-text_kept texts t (form.Of k) h = tt
 text_kept texts t (form.Name place) h = omega (arith, length-append texts (t ∷ []), h)
 text_kept texts t (form.Words place) h = omega (arith, length-append texts (t ∷ []), h)
 text_kept texts t (form.Undefined place) h = omega (arith, length-append texts (t ∷ []), h)
-text_kept texts t (form.Stretched c) h = tt
-text_kept texts t (form.StretchedParen paren) h = tt
-text_kept texts t form.Slashed h = tt
-text_kept texts t (form.Row count style) h = tt
-text_kept texts t (form.Matrix count style align) h = tt
+text_kept texts t f h = tt
 
 forest_kept : (texts : List (List ℕ)) (t : List ℕ) (ps : List Part) (d : Part) (n : ℕ) → n ≤ length ps → AreWhole texts ps → forest (texts ++ t ∷ []) (take n ps) ≡ forest texts (take n ps)
 unfolding AreWhole
 forest_kept texts t ps d zero h w = refl
 forest_kept texts t ps d (suc n) h w =
     let q = slice_index_or ps n d in
-    forest-more (texts ++ t ∷ []) ps n d (omega arith)
+    forest_more (texts ++ t ∷ []) ps n d (omega arith)
     ∙ ap (put_form (texts ++ t ∷ []) q.form) (forest_kept texts t ps d n (omega arith) w)
     ∙ form_kept texts t q.form (forest texts (take n ps)) (w n d (omega arith)).text
-    ∙ sym (forest-more texts ps n d (omega arith))
+    ∙ sym (forest_more texts ps n d (omega arith))
 
 pub forest_aside : (texts : List (List ℕ)) (t : List ℕ) (ps : List Part) → AreWhole texts ps → forest (texts ++ t ∷ []) ps ≡ forest texts ps
 forest_aside texts t [] w = refl
@@ -156,16 +134,8 @@ forest_aside texts t (p ∷ ps) w =
 pub whole_aside : (texts : List (List ℕ)) (t : List ℕ) (ps : List Part) → AreWhole texts ps → AreWhole (texts ++ t ∷ []) ps
 unfolding AreWhole
 whole_aside texts t ps w n d h =
-    let q = slice_index_or ps n d in
     let s = w n d h in
-    let same : (m : ℕ) → m ≤ length ps → forest (texts ++ t ∷ []) (take m ps) ≡ forest texts (take m ps) = λ m i. forest_kept texts t ps d m i w in
-    record {
-      text = text_kept texts t q.form s.text;
-      fits = subst (λ ts. arity_of q.form ≤ length ts) (sym (same n (omega arith))) s.fits;
-      some = s.some;
-      within = s.within;
-      below = let z = s.some in let y = s.within in same (n + 1 - q.size) (omega arith) ∙ s.below ∙ ap (drop (arity_of q.form)) (sym (same n (omega arith)));
-    }
+    stands_among texts (texts ++ t ∷ []) ps ps n _ (text_kept texts t _ s.text) (λ m i. forest_kept texts t ps d m (omega arith) w) s
 
 pub all_taken : (texts : List (List ℕ)) (ps : List Part) → forest texts (take (length ps) ps) ≡ forest texts ps
 all_taken texts ps = ap (forest texts) (take-length ps)

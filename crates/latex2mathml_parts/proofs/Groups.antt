@@ -2,16 +2,11 @@
 use Rattle.std.proofs.Common.{◌≡◌, ◌+◌, List, [], ◌∷◌, ◌++◌, Option, ap, codes, refl, reverse, sum_by, sym, ◌∙◌, arith}
 use Rattle.latex2mathml_trees.specs.Print.{member_print, members_print, print, prints}
 use Rattle.latex2mathml_trees.specs.Tree.{Tree, trees_of}
-use Rattle.latex2mathml_tokens.specs.Attributes.{align_text}
-use Rattle.latex2mathml_tokens.specs.declared.attribute.ColumnAlign.{ColumnAlign}
-use Rattle.latex2mathml_tokens.specs.declared.attribute.Variant.{Variant}
-use Rattle.latex2mathml_parts.specs.Forms.{all_in, in_style}
+use Rattle.latex2mathml_tokens.specs.{Attributes.align_text, declared.attribute.ColumnAlign.ColumnAlign, declared.attribute.Variant.Variant}
+use Rattle.latex2mathml_parts.specs.{Forms.all_in, Forms.in_style, Shapes.print_weight, declared.write.groups.Group.Group}
 use Rattle.latex2mathml_parts.specs.Groups.{group_close, group_open, members_in, tree_of_group}
-use Rattle.latex2mathml_parts.specs.Shapes.{print_weight}
-use Rattle.latex2mathml_parts.specs.declared.write.groups.Group.{Group}
 use Rattle.latex2mathml_parts.specs.declared.write.groups.Group.TheVariants as group
-use Rattle.latex2mathml_parts.proofs.Markups.{three}
-use Rattle.latex2mathml_parts.proofs.Works.{members_weight}
+use Rattle.latex2mathml_parts.proofs.{Markups.three, Works.members_weight}
 
 prints-in : (s : Option Variant) (xs : List Tree) → prints (all_in s (trees_of xs)) ≡ members_in group.Row s xs
 prints-in s [] = refl

@@ -1,6 +1,5 @@
 -- What an environment makes of a group.
-use Rattle.latex2mathml_trees.specs.Productions.{fenced_matrix, matrix_of}
-use Rattle.latex2mathml_trees.specs.Tree.{Tree}
+use Rattle.latex2mathml_trees.specs.{Productions.fenced_matrix, Productions.matrix_of, Tree.Tree}
 use Rattle.latex2mathml_tokens.specs.Names.{paren_text}
 use Rattle.latex2mathml_parts.specs.declared.environment.Environment.{Environment}
 use Rattle.latex2mathml_parts.specs.declared.environment.Environment.TheVariants as environment

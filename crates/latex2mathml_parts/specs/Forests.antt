@@ -2,9 +2,7 @@
 use Rattle.std.specs.Prelude.{◌≡◌, ℕ, ◌+◌, ◌-◌, ◌<◌, ◌≤◌, List, [], ◌∷◌, drop, length, map, slice_index_or, string_bytes, take, String}
 use Rattle.std.specs.declared.alloc.Global.{Global}
 use Rattle.latex2mathml_trees.specs.Tree.{Tree}
-use Rattle.latex2mathml_parts.specs.Forms.{HasText, arity_of, put_form}
-use Rattle.latex2mathml_parts.specs.Parts.{top}
-use Rattle.latex2mathml_parts.specs.declared.form.Part.{Part}
+use Rattle.latex2mathml_parts.specs.{Forms.HasText, Forms.arity_of, Forms.put_form, Parts.top, declared.form.Part.Part}
 
 abbrev pub forest_on : List (List ℕ) → List Tree → List Part → List Tree
 forest_on texts ts [] = ts

@@ -2,10 +2,8 @@
 use Rattle.std.specs.Prelude.{ℕ, ◌<◌, List, [], ◌∷◌, Option, Some, None, true, drop, length, reverse, slice_index_or, suc, take}
 use Rattle.std.specs.Char.{encode_utf8}
 use Rattle.latex2mathml_trees.specs.Tree.{Tree, Trees, function, letter, matrix, row, slashed, stretched, undefined, words, no_trees, more_trees, trees_of}
-use Rattle.latex2mathml_tokens.specs.Names.{paren_text}
-use Rattle.latex2mathml_tokens.specs.declared.attribute.Variant.{Variant}
-use Rattle.latex2mathml_parts.specs.Parts.{arity, put, top}
-use Rattle.latex2mathml_parts.specs.declared.form.Form.{Form}
+use Rattle.latex2mathml_tokens.specs.{Names.paren_text, declared.attribute.Variant.Variant}
+use Rattle.latex2mathml_parts.specs.{Parts.arity, Parts.put, Parts.top, declared.form.Form.Form}
 use Rattle.latex2mathml_parts.specs.declared.form.Form.TheVariants as form
 
 -- the variant of a letter in a style

@@ -3,10 +3,8 @@ use Rattle.std.specs.Prelude.{ℕ, List, ◌++◌, Option, codes}
 use Rattle.std.specs.List.{flat_map}
 use Rattle.latex2mathml_trees.specs.Print.{member_print, print}
 use Rattle.latex2mathml_trees.specs.Tree.{Tree, Trees, matrix, row}
-use Rattle.latex2mathml_tokens.specs.Attributes.{align_text}
-use Rattle.latex2mathml_tokens.specs.declared.attribute.Variant.{Variant}
-use Rattle.latex2mathml_parts.specs.Forms.{in_style}
-use Rattle.latex2mathml_parts.specs.declared.write.groups.Group.{Group}
+use Rattle.latex2mathml_tokens.specs.{Attributes.align_text, declared.attribute.Variant.Variant}
+use Rattle.latex2mathml_parts.specs.{Forms.in_style, declared.write.groups.Group.Group}
 use Rattle.latex2mathml_parts.specs.declared.write.groups.Group.TheVariants as group
 
 -- the tree of a group

@@ -3,8 +3,7 @@ use Rattle.std.specs.Prelude.{ℕ, List, [], ◌∷◌, Option, Some, None, drop
 use Rattle.latex2mathml_trees.specs.Productions.{binomial_tree, overbrace_tree, labelled_overbrace_tree, prime_mark, underbrace_tree, labelled_underbrace_tree}
 use Rattle.latex2mathml_trees.specs.Tree.{Tree, ampersand, fenced, frac, function, letter, new_line, number, operator, other_operator, over_op, overset, root, sized_paren, space, sqrt, sub_sup, subscript, superscript, under, under_op, under_over, underset, words}
 use Rattle.latex2mathml_tokens.specs.Names.{function_text, limit_text, paren_text, size_text}
-use Rattle.latex2mathml_tokens.specs.declared.attribute.LineThickness.TheVariants.{Medium}
-use Rattle.latex2mathml_tokens.specs.declared.names.Paren.{Paren}
+use Rattle.latex2mathml_tokens.specs.{declared.attribute.LineThickness.TheVariants.Medium, declared.names.Paren.Paren}
 use Rattle.latex2mathml_parts.specs.declared.kind.Kind.{Kind}
 use Rattle.latex2mathml_parts.specs.declared.kind.Kind.TheVariants as kind
 

@@ -1,12 +1,9 @@
 -- What is still to be written of a list of parts, as markup. The work that was put last is done first.
 use Rattle.std.specs.Prelude.{◌≡◌, ℕ, ◌+◌, ◌<◌, List, [], ◌∷◌, ◌++◌, Option, Some, None, codes, reverse, sum_by}
 use Rattle.std.specs.List.{flat_map}
-use Rattle.latex2mathml_trees.specs.Print.{print}
-use Rattle.latex2mathml_trees.specs.Tree.{operator}
-use Rattle.latex2mathml_parts.specs.Forests.{Forest, IsPlace, tree_at}
-use Rattle.latex2mathml_parts.specs.Forms.{in_style}
-use Rattle.latex2mathml_parts.specs.Shapes.{print_weight, sign_print}
-use Rattle.latex2mathml_parts.specs.declared.work.Work.{Work}
+use Rattle.latex2mathml_trees.specs.{Print.print, Tree.operator}
+use Rattle.latex2mathml_parts.specs.{Forests.Forest, Forests.IsPlace, Forests.tree_at, Forms.in_style}
+use Rattle.latex2mathml_parts.specs.{Shapes.print_weight, Shapes.sign_print, declared.work.Work.Work}
 use Rattle.latex2mathml_parts.specs.declared.work.Work.TheVariants as work
 
 abbrev pub work_print : Forest → Work → List ℕ

@@ -3,12 +3,9 @@ ghost use Rattle.std.specs.Prelude.{◌≡◌, ◌-◌, ◌<◌, ◌≤◌, ◌�
 ghost use Rattle.latex2mathml_trees.specs.Productions.{environment_tree, group_tree, matrix_of, stretched_operator};
 ghost use Rattle.latex2mathml_trees.specs.Style.{styled};
 ghost use Rattle.latex2mathml_trees.specs.Tree.{Tree, function, slashed, undefined, words};
-ghost use Rattle.latex2mathml_tokens.specs.Lexemes.{lexeme_tok};
-ghost use Rattle.latex2mathml_tokens.specs.TokenText.{token_text};
-ghost use Rattle.latex2mathml_parts.specs.Forests.{trees_at, trees_in};
-ghost use Rattle.latex2mathml_parts.specs.Forms.{put_form};
+ghost use Rattle.latex2mathml_tokens.specs.{Lexemes.lexeme_tok, TokenText.token_text};
+ghost use Rattle.latex2mathml_parts.specs.{Forests.trees_at, Forests.trees_in, Forms.put_form, declared.form.Form.Form};
 ghost use Rattle.latex2mathml_parts.specs.Parts.{arity, put, top, words_of};
-ghost use Rattle.latex2mathml_parts.specs.declared.form.Form.{Form};
 
 use crate::environment::Environment;
 use crate::form::{Form, Part};
@@ -100,6 +97,7 @@ impl<'a> Parts<'a> {
 
     /// Makes one tree of the last trees, which are so many: one is itself, none or several are a row.
     #[inline(always)]
+    #[tactic(auto, using(crate::proofs::Styles::plain, crate::proofs::Styles::all_plain, crate::proofs::Changes::last_trees))]
     pub fn group(&mut self, count: usize) -> Result<(), AllocError>
         requires { count ≤ length (trees_in self.old) }
         ensures { OnOk result (trees_in self.new ≡ group_tree (reverse (take count (trees_in self.old))) ∷ drop count (trees_in self.old)) }
@@ -107,8 +105,7 @@ impl<'a> Parts<'a> {
         if count == 1 {
             return Ok(());
         }
-        self.push(count, Form::Row(count, None))?;
-        Ok(())
+        self.push(count, Form::Row(count, None))
     }
 
     /// Makes an environment of the last trees, which are so many, and of its name, which stands below them as words.
@@ -137,6 +134,7 @@ impl<'a> Parts<'a> {
     }
 
     /// The words below the last trees, which are so many. It is empty where no words stand there.
+    #[tactic(auto, using(crate::proofs::Changes::some_below))]
     pub fn name(&self, count: usize) -> &str
         requires { count < length (trees_in self.now) }
         ensures { result.now ≡ words_of (top (drop count (trees_in self.now))) }
@@ -148,6 +146,7 @@ impl<'a> Parts<'a> {
     }
 
     /// Makes a matrix of the last trees, which are so many, and of the name below them.
+    #[tactic(auto, using(crate::proofs::Styles::all_plain, crate::proofs::Changes::last_members))]
     fn matrix(&mut self, align: ColumnAlign, count: usize) -> Result<(), AllocError>
         requires { count < length (trees_in self.old) }
         ensures { OnOk result (trees_in self.new
@@ -159,8 +158,7 @@ impl<'a> Parts<'a> {
         // There are more parts than members, so the sum fits.
         let parts = self.len();
         prove!(count < parts);
-        self.push(count + 1, Form::Matrix(count, None, align))?;
-        Ok(())
+        self.push(count + 1, Form::Matrix(count, None, align))
     }
 
     /// Makes a matrix of the last tree and of the name below it. The members of a row are those of the matrix.

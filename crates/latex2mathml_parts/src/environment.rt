@@ -1,7 +1,6 @@
 //! The environments that there are.
 ghost use Rattle.std.specs.Prelude.{◌≡◌, Some, None, MatchOption};
-ghost use Rattle.latex2mathml_trees.specs.Productions.{environment_tree};
-ghost use Rattle.latex2mathml_trees.specs.Tree.{Tree};
+ghost use Rattle.latex2mathml_trees.specs.{Productions.environment_tree, Tree.Tree};
 ghost use Rattle.latex2mathml_parts.specs.Environments.{tree_around};
 
 use latex2mathml_tokens::attribute::ColumnAlign;

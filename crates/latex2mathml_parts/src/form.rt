@@ -1,11 +1,8 @@
 //! What the list of parts holds.
 ghost use Rattle.std.specs.Prelude.{◌≡◌, ◌∷◌, ℕ, List, Some, None, MatchOption, drop};
-ghost use Rattle.latex2mathml_trees.specs.Productions.{matrix_members, stretched_operator};
-ghost use Rattle.latex2mathml_trees.specs.Style.{styled};
+ghost use Rattle.latex2mathml_trees.specs.{Productions.matrix_members, Productions.stretched_operator, Style.styled};
 ghost use Rattle.latex2mathml_trees.specs.Tree.{Tree, more_trees, no_trees};
-ghost use Rattle.latex2mathml_parts.specs.Forms.{HasText, arity_of, put_form};
-ghost use Rattle.latex2mathml_parts.specs.Parts.{top};
-ghost use Rattle.latex2mathml_parts.specs.declared.form.Form.{Form};
+ghost use Rattle.latex2mathml_parts.specs.{Forms.HasText, Forms.arity_of, Forms.put_form, Parts.top, declared.form.Form.Form};
 
 use crate::kind::Kind;
 use latex2mathml_tokens::attribute::{ColumnAlign, Variant};
@@ -45,6 +42,7 @@ pub(crate) struct Part<'a> {
 impl<'a> Form<'a> {
     /// The form of a part whose tree is given a style.
     #[inline(always)]
+    #[tactic(auto, using(crate::proofs::Styles::all_restyled))]
     pub(crate) fn with_style(self, variant: Variant) -> Form<'a>
         ensures arity { arity_of result ≡ arity_of self.entry }
         ensures text { (texts : List (List ℕ)) → HasText texts self.entry → HasText texts result }

@@ -32,6 +32,7 @@ impl<'a> Model for Parts<'a> {
 
 impl<'a> Parts<'a> {
     /// No parts.
+    #[tactic(auto, using(crate::proofs::Forests::whole_empty))]
     pub fn new(alloc: Global) -> Parts<'a>
         ensures { trees_in result ≡ [] }
     {
@@ -52,6 +53,7 @@ impl<'a> Parts<'a> {
     }
 
     /// Drops all parts, and keeps their room.
+    #[tactic(auto, using(crate::proofs::Forests::whole_empty))]
     pub fn clear(&mut self)
         ensures { trees_in self.new ≡ [] }
     {
@@ -60,6 +62,7 @@ impl<'a> Parts<'a> {
     }
 
     /// How many parts there are: at least as many as trees.
+    #[tactic(auto, using(crate::proofs::Forests::forest_length))]
     pub fn len(&self) -> usize
         ensures count { result ≡ length self.now.list }
         ensures trees { length (trees_in self.now) ≤ result }
@@ -76,6 +79,7 @@ impl<'a> Parts<'a> {
     }
 
     /// The last of so many parts.
+    #[tactic(auto, using(crate::proofs::Forests::forest_more))]
     pub(crate) fn part_at(&self, end: usize) -> Part<'a>
         requires { IsPlace self.now end }
         ensures stands { Stands self.now.texts self.now.list (end - 1) result }
@@ -94,6 +98,7 @@ impl<'a> Parts<'a> {
     }
 
     /// Where the trees before the last of so many parts end.
+    #[tactic(auto, using(crate::proofs::Puts::below_form))]
     pub(crate) fn before_last(&self, end: usize) -> usize
         requires { IsPlace self.now end }
         ensures trees { trees_at self.now result ≡ drop 1 (trees_at self.now end) }
@@ -120,6 +125,7 @@ impl<'a> Parts<'a> {
 
     /// Puts a part after its operands.
     #[inline(always)]
+    #[tactic(auto, using(crate::proofs::Forests::whole_pushed, crate::proofs::Forests::forest_pushed))]
     pub(crate) fn push(&mut self, arity: usize, form: Form<'a>) -> Result<(), AllocError>
         requires arity { arity ≡ arity_of form }
         requires text { HasText self.old.texts form }
@@ -132,6 +138,7 @@ impl<'a> Parts<'a> {
     }
 
     /// Puts another part in place of the last.
+    #[tactic(auto, using(crate::proofs::Forests::whole_replaced, crate::proofs::Forests::forest_replaced, crate::proofs::Forests::last_set, crate::proofs::Forests::forest_length))]
     pub(crate) fn replace_last(&mut self, part: Part<'a>)
         requires some { 0 < length (trees_in self.old) }
         requires stands { Stands self.old.texts self.old.list (length self.old.list - 1) part }
@@ -142,6 +149,7 @@ impl<'a> Parts<'a> {
     }
 
     /// Sets a text aside, and returns its place.
+    #[tactic(auto, using(crate::proofs::Forests::whole_aside, crate::proofs::Forests::forest_aside, std::proofs::lemmas::Grind::common_steps))]
     pub(crate) fn set_aside(&mut self, text: String) -> Result<usize, AllocError>
         ensures trees { trees_in self.new ≡ trees_in self.old }
         ensures place { IfOk result (λ place. (place < length self.new.texts)

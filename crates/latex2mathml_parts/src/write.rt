@@ -1,17 +1,14 @@
 //! From parts to markup.
 ghost use Rattle.std.specs.Prelude.{◌≡◌, ◌+◌, ◌<◌, ◌≤◌, ◌++◌, [], IfOk, OnOk, length, string_bytes, None};
-ghost use Rattle.latex2mathml_trees.specs.Print.{print};
-ghost use Rattle.latex2mathml_trees.specs.Tree.{slashed};
+ghost use Rattle.latex2mathml_trees.specs.{Print.print, Tree.slashed};
 ghost use Rattle.latex2mathml_parts.specs.Forests.{IsPlace, tree_at, trees_at, trees_in};
 ghost use Rattle.latex2mathml_parts.specs.Forms.{HasText, arity_of, in_style, put_form};
-ghost use Rattle.latex2mathml_parts.specs.Parts.{arity, put, top};
-ghost use Rattle.latex2mathml_parts.specs.Shapes.{print_weight};
+ghost use Rattle.latex2mathml_parts.specs.{Parts.arity, Parts.put, Parts.top, Shapes.print_weight};
 ghost use Rattle.latex2mathml_parts.specs.Works.{AreIn, IsIn, IsNext, Leaves, Writes, work_print, work_weight};
 
 mod fences;
 mod groups;
 mod leaves;
-mod names;
 mod operands;
 mod shapes;
 mod tables;
@@ -43,6 +40,7 @@ impl Parts<'_> {
     }
 
     /// Writes the last tree of the list.
+    #[tactic(auto, using(crate::proofs::Styles::plain, crate::proofs::Forests::all_taken, std::proofs::lemmas::Grind::common_steps))]
     fn write_last(&self, works: &mut Vec<Work>, out: &mut String) -> Result<(), AllocError>
         requires some { 0 < length (trees_in self.now) }
         requires empty { works.old.items ≡ [] }
@@ -81,6 +79,7 @@ impl Parts<'_> {
     }
 
     /// Writes the last tree of so many parts down to its first leaf, and puts what follows on the list.
+    #[tactic(auto, using(crate::proofs::Styles::plain, std::proofs::lemmas::Grind::common_steps))]
     fn write_down(
         &self,
         end: usize,
@@ -121,6 +120,7 @@ impl Parts<'_> {
 
     /// Writes what stands first of the tree of a part, after so many parts, and puts what follows on the list.
     #[inline(always)]
+    #[tactic(auto, using(crate::proofs::Styles::all_twice, crate::proofs::Styles::weights_in, std::proofs::lemmas::Grind::common_steps))]
     fn write_form(
         &self,
         form: Form,
@@ -140,37 +140,21 @@ impl Parts<'_> {
             (print_weight (top (put_form self.now.texts form.entry (trees_at self.now end)))) works.new.items) }
     {
         match form {
-            Form::Of(kind) => self.write_kind(kind, style, end, works, out),
+            Form::Of(kind) => return self.write_kind(kind, style, end, works, out),
             Form::Row(count, own) => {
                 self.write_group(Group::Row, count, outer(style, own), end, works, out)?;
-                Ok(None)
             }
             Form::Matrix(count, own, align) => {
                 self.write_group(Group::Matrix(align), count, own, end, works, out)?;
-                Ok(None)
             }
-            Form::Slashed => self.write_under_slash(end, works, out),
-            Form::Name(place) => {
-                write_text("<mi>", self.text(place), "</mi>", out)?;
-                Ok(None)
-            }
-            Form::Words(place) => {
-                write_text("<mtext>", self.text(place), "</mtext>", out)?;
-                Ok(None)
-            }
-            Form::Undefined(place) => {
-                append_undefined(self.text(place), out)?;
-                Ok(None)
-            }
-            Form::Stretched(c) => {
-                write_char("<mo stretchy=\"true\">", c, "</mo>", out)?;
-                Ok(None)
-            }
-            Form::StretchedParen(paren) => {
-                out.push_str(Elements::of(paren).stretched)?;
-                Ok(None)
-            }
+            Form::Slashed => return self.write_under_slash(end, works, out),
+            Form::Name(place) => write_text("<mi>", self.text(place), "</mi>", out)?,
+            Form::Words(place) => write_text("<mtext>", self.text(place), "</mtext>", out)?,
+            Form::Undefined(place) => append_undefined(self.text(place), out)?,
+            Form::Stretched(c) => write_char("<mo stretchy=\"true\">", c, "</mo>", out)?,
+            Form::StretchedParen(paren) => out.push_str(Elements::of(paren).stretched)?,
         }
+        Ok(None)
     }
 
     /// Writes what a slash stands through: a letter and an operator show it, no other tree does.
@@ -212,10 +196,7 @@ impl Parts<'_> {
         ensures left { IfOk result (Leaves self.now works.old.items (print_weight (top (put kind.entry (trees_at self.now end)))) works.new.items) }
     {
         match kind {
-            Kind::Letter(c, own) => {
-                write_letter(c, letter_variant(style, own), out)?;
-                Ok(None)
-            }
+            Kind::Letter(c, own) => write_letter(c, letter_variant(style, own), out)?,
             Kind::Number(_)
             | Kind::Operator(_)
             | Kind::Paren(_)
@@ -224,11 +205,9 @@ impl Parts<'_> {
             | Kind::Space(_)
             | Kind::Function(_)
             | Kind::Limit(_)
-            | Kind::SizedParen(_, _) => {
-                write_leaf(kind, out)?;
-                Ok(None)
-            }
-            _ => self.write_operands(kind, end, works, out),
+            | Kind::SizedParen(_, _) => write_leaf(kind, out)?,
+            _ => return self.write_operands(kind, end, works, out),
         }
+        Ok(None)
     }
 }

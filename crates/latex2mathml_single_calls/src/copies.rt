@@ -1,29 +1,14 @@
 //! Copies of values that hold texts.
 
-use crate::{BEGINNING, END, mark, tell};
-use latex2mathml::ast::Node;
-use latex2mathml::attribute::{ColumnAlign, LineThickness};
+use crate::nodes::every_kind;
+use crate::{BEGINNING, END, mark};
+use latex2mathml::LatexError;
 use latex2mathml::token::Token;
-use latex2mathml::{DisplayStyle, LatexError};
 use std::alloc::{AllocError, Global};
 use std::io;
 
 fn text(alloc: Global, text: &str) -> Result<String, AllocError> {
     String::from_str(alloc, text)
-}
-
-/// A node with texts, boxes and lists of nodes.
-fn node(alloc: Global) -> Result<Node, AllocError> {
-    let number = Box::new(alloc, Node::Number(text(alloc, "3.14")?))?;
-    let words = Box::new(alloc, Node::Text(text(alloc, "abc")?))?;
-    let fraction = Node::Frac(number, words, LineThickness::Medium);
-    let argument = Box::new(alloc, Node::Undefined(text(alloc, "foo")?))?;
-    let function = Node::Function(text(alloc, "sin")?, Some(argument));
-    let bar = Node::StrechedOp(true, text(alloc, "|")?);
-    let row = Node::Row(vec![in alloc; fraction, function, bar]?);
-    let matrix = Node::Matrix(vec![in alloc; row, Node::NewLine]?, ColumnAlign::Left);
-    let matrix = Box::new(alloc, matrix)?;
-    Ok(Node::Style(Some(DisplayStyle::Block), matrix))
 }
 
 fn token(alloc: Global) -> Result<Token, AllocError> {
@@ -51,7 +36,7 @@ fn compare<T: PartialEq + Drop>(
 }
 
 fn copy_node(rt: &HostRuntime) -> io::Result<()> {
-    let source = node(rt.alloc())?;
+    let source = every_kind(rt.alloc())?;
     mark(rt.alloc(), BEGINNING)?;
     let copy = source.clone(rt.alloc());
     mark(rt.alloc(), END)?;

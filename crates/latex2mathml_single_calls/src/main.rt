@@ -3,6 +3,7 @@
 #![tactic(auto)]
 
 mod copies;
+mod nodes;
 
 use latex2mathml::{
     DisplayStyle, FileFault, Reading, Stream, convert_html, latex_to_mathml,

@@ -1,18 +1,11 @@
 -- A look-up among the entries whose names begin with the first byte of the name.
 use Rattle.std.proofs.Common.{◌≡◌, ℕ, zero, suc, ◌+◌, ◌-◌, ◌<◌, ◌≤◌, true, false, not, cond, List, [], ◌∷◌, Some, None, map, take, drop, get_or, length, refl, sym, ap, subst, ◌∙◌, add-one, arith}
-use Rattle.std.proofs.lemmas.Bool.{and_parts, not-true}
-use Rattle.std.proofs.lemmas.List.{drop-map, take-map}
+use Rattle.std.proofs.{lemmas.Bool.and_parts, lemmas.Bool.not-true, lemmas.List.drop-map, lemmas.List.take-map}
 use Rattle.std.proofs.lemmas.List.Elements.{All-drop, All-take}
-use Rattle.std.specs.List.{AllPass, slice_range}
-use Rattle.std.specs.Prelude.{nat_le, slice_get}
-use Rattle.std.specs.Str.{bytes_eq}
-use Rattle.latex2mathml_tokens.specs.Commands.{command_entries, entry_token}
-use Rattle.latex2mathml_tokens.specs.Entries.{entry_of}
+use Rattle.std.specs.{List.AllPass, List.slice_range, Prelude.nat_le, Prelude.slice_get, Str.bytes_eq}
+use Rattle.latex2mathml_tokens.specs.{Commands.command_entries, Commands.entry_token, Entries.entry_of, Keys.has_key, Ordered.ascending}
 use Rattle.latex2mathml_tokens.specs.Index.{begins_with, divides, none_begins_with, stand_between}
-use Rattle.latex2mathml_tokens.specs.Keys.{has_key}
-use Rattle.latex2mathml_tokens.specs.Ordered.{ascending}
-use Rattle.latex2mathml_tokens.specs.Tok.{Tok}
-use Rattle.latex2mathml_tokens.specs.declared.token.meaning.Entry.{Entry}
+use Rattle.latex2mathml_tokens.specs.{Tok.Tok, declared.token.meaning.Entry.Entry}
 use Rattle.latex2mathml_tokens.proofs.Lookups.{ascending-drop, ascending-take}
 
 abbrev Entries : Type 0

@@ -1,8 +1,7 @@
 -- Errors that a call passes on, and the refusals that they report.
 use Rattle.std.proofs.Common.{◌≡◌, Option, Some, None, Result, Ok, Err, sym, subst}
 use Rattle.std.specs.Prelude.{IfSome, IsErrAnd}
-use Rattle.latex2mathml_tokens.specs.Refusal.{IfRefused, Refusal, refusal_of}
-use Rattle.latex2mathml_tokens.specs.declared.error.LatexError.{LatexError}
+use Rattle.latex2mathml_tokens.specs.{Refusal.IfRefused, Refusal.Refusal, Refusal.refusal_of, declared.error.LatexError.LatexError}
 
 -- a fact about a refusal gives another one
 weaker : (P Q : Refusal → Type 0) (o : Option Refusal) → ((r : Refusal) → P r → Q r) → IfSome o P → IfSome o Q

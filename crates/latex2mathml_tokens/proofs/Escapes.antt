@@ -2,9 +2,7 @@
 use Rattle.std.proofs.Common.{◌≡◌, ◌≢◌, ℕ, suc, ◌<◌, List, [], ◌∷◌, ◌++◌, length, get_or, refl, sym, ap, ◌∙◌, arith, append-nil, encode_utf8, map, false}
 use Rattle.std.specs.List.{flat_map}
 use Rattle.std.specs.Str.{IsUtf8, NoCharPasses, NonePass, chars, encode_utf8_all}
-use Rattle.std.proofs.Math.Utf8.{encodes}
-use Rattle.std.proofs.lemmas.Bool.Decides.{nat_tests}
-use Rattle.std.proofs.lemmas.Grind.{flat_map-append}
+use Rattle.std.proofs.{Math.Utf8.encodes, lemmas.Bool.Decides.nat_tests, lemmas.Grind.flat_map-append}
 use Rattle.std.proofs.lemmas.Str.{inside_one, encodes-chars}
 use Rattle.latex2mathml_tokens.specs.Escape.{content, content_byte, is_escaped, quoted_byte, value, value_byte}
 

@@ -3,23 +3,13 @@ use Rattle.std.proofs.Common.{◌≡◌, ℕ, zero, suc, ◌+◌, ◌*◌, ◌^�
 use Rattle.std.specs.declared.cmp.Ordering.{Ordering}
 use Rattle.std.specs.declared.cmp.Ordering.TheVariants.{Less, Equal, Greater}
 use Rattle.std.specs.Ordering.{nat_cmp, is_lt, is_eq, ordering_reverse}
-use Rattle.std.specs.Cmp.Lexicographic.{slice_cmp, texts_ties}
-use Rattle.std.specs.Prelude.{⊤}
-use Rattle.std.specs.Str.{bytes_eq}
-use Rattle.std.proofs.lemmas.Cmp.{nat_list_cmp_total}
-use Rattle.std.proofs.lemmas.Slice.Eq.{bytes_eq-Decides}
-use Rattle.std.proofs.lemmas.Bool.Decides.{nat_tests}
-use Rattle.latex2mathml_tokens.specs.Commands.{entry_token}
-use Rattle.latex2mathml_tokens.specs.Ordered.{ascending, before_first}
-use Rattle.latex2mathml_tokens.specs.Tok.{Tok}
-use Rattle.latex2mathml_tokens.specs.declared.token.meaning.Entry.{Entry}
-use Rattle.latex2mathml_tokens.specs.Entries.{entry_of}
+use Rattle.std.specs.{Cmp.Lexicographic.slice_cmp, Cmp.Lexicographic.texts_ties, Prelude.⊤, Str.bytes_eq, List.AllPass}
+use Rattle.std.proofs.{lemmas.Cmp.nat_list_cmp_total, lemmas.Slice.Eq.bytes_eq-Decides, lemmas.Bool.Decides.nat_tests}
+use Rattle.latex2mathml_tokens.specs.{Commands.entry_token, Ordered.ascending, Ordered.before_first, Tok.Tok}
+use Rattle.latex2mathml_tokens.specs.{declared.token.meaning.Entry.Entry, Entries.entry_of, Keys.has_key}
 use Rattle.std.proofs.lemmas.List.{map-append, length-take, length-drop}
 use Rattle.std.proofs.lemmas.List.Elements.{All-drop, All-get_or, All-take}
-use Rattle.std.specs.List.{AllPass}
-use Rattle.latex2mathml_tokens.specs.Keys.{has_key}
-use Rattle.std.proofs.Math.Nat.{pow-suc, mul-le-mul_right}
-use Rattle.std.proofs.Math.Pow.{pow_mono}
+use Rattle.std.proofs.{Math.Nat.pow-suc, Math.Nat.mul-le-mul_right, Math.Pow.pow_mono}
 
 abbrev Entries : Type 0
 Entries = List (List ℕ × Tok)

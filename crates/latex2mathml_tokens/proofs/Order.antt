@@ -1,8 +1,6 @@
 -- The command table is sorted and has 474 entries, none of them with the empty name. All of this is computed.
 use Rattle.std.proofs.Common.{◌≡◌, [], true, refl, length}
-use Rattle.latex2mathml_tokens.specs.Commands.{command_entries, command_token}
-use Rattle.latex2mathml_tokens.specs.Ordered.{ascending}
-use Rattle.latex2mathml_tokens.specs.Tok.{Command}
+use Rattle.latex2mathml_tokens.specs.{Commands.command_entries, Commands.command_token, Ordered.ascending, Tok.Command}
 
 pub ascending-command_entries : ascending command_entries ≡ true
 unfolding ascending command_entries

@@ -1,8 +1,7 @@
 -- The command table: which token the name of a command stands for. A name is its bytes, without the backslash; a
 -- character is its code point, and stands after its line as well.
 use Rattle.std.specs.Prelude.{ℕ, pos, negsuc, List, [], ◌∷◌, Option, Some, None, unwrap_or, cond, codes}
-use Rattle.std.specs.Char.{encode_utf8}
-use Rattle.std.specs.Str.{bytes_eq}
+use Rattle.std.specs.{Char.encode_utf8, Str.bytes_eq}
 use Rattle.latex2mathml_tokens.specs.Tok.{Tok, Begin, End, NewLine, Left, Right, Middle, Paren, Frac, Binom, Overset, Underset, Overbrace, Underbrace, Sqrt, Integral, Lim, Space, Style, Big, Over, Under, Operator, BigOp, Letter, Function, OperatorName, Slashed, Text, Command}
 use Rattle.latex2mathml_tokens.specs.declared.DisplayStyle.TheVariants.{Block, Inline}
 use Rattle.latex2mathml_tokens.specs.declared.attribute.Variant.TheVariants.{Normal, Italic, Bold, BoldItalic, DoubleStruck, Fraktur, Script, SansSerif, Monospace}

@@ -5,18 +5,14 @@ use mathlib.Core.HLevel.{Discrete}
 use mathlib.Core.List.{List-discrete}
 use native.Mathlib.Decide.{ℕ_discrete}
 use lib.IntN.{ℤ_discrete}
-use Rattle.latex2mathml_tokens.specs.Refusal.{Refusal, Refusal-discrete}
-use Rattle.latex2mathml_tokens.specs.Same.{optional, same, told_apart_by}
-use Rattle.latex2mathml_tokens.specs.Tok.{Tok, Tok-discrete}
-use Rattle.latex2mathml_tokens.specs.declared.DisplayStyle.{DisplayStyle}
+use Rattle.latex2mathml_tokens.specs.{Refusal.Refusal, Refusal.Refusal-discrete, Same.optional, Same.same, Same.told_apart_by}
+use Rattle.latex2mathml_tokens.specs.{Tok.Tok, Tok.Tok-discrete, declared.DisplayStyle.DisplayStyle}
 use Rattle.latex2mathml_tokens.specs.declared.DisplayStyle.TheVariants.{Block, Inline}
-use Rattle.latex2mathml_tokens.specs.declared.attribute.Variant.{Variant}
+use Rattle.latex2mathml_tokens.specs.{declared.attribute.Variant.Variant, declared.attribute.Accent.Accent}
 use Rattle.latex2mathml_tokens.specs.declared.attribute.Variant.TheVariants.{Normal, Italic, Bold, BoldItalic, DoubleStruck, BoldFraktur, Script, BoldScript, Fraktur, SansSerif, BoldSansSerif, SansSerifItalic, SansSerifBoldItalic, Monospace}
-use Rattle.latex2mathml_tokens.specs.declared.attribute.Accent.{Accent}
 use Rattle.latex2mathml_tokens.specs.declared.attribute.Accent.TheVariants as accent
-use Rattle.latex2mathml_tokens.specs.declared.attribute.LineThickness.{LineThickness}
+use Rattle.latex2mathml_tokens.specs.{declared.attribute.LineThickness.LineThickness, declared.attribute.ColumnAlign.ColumnAlign}
 use Rattle.latex2mathml_tokens.specs.declared.attribute.LineThickness.TheVariants.{Thin, Medium, Thick, Length}
-use Rattle.latex2mathml_tokens.specs.declared.attribute.ColumnAlign.{ColumnAlign}
 use Rattle.latex2mathml_tokens.specs.declared.attribute.ColumnAlign.TheVariants as align
 
 -- An attribute without fields has a number, and a number has its attribute.

@@ -2,13 +2,10 @@
 use Rattle.std.specs.Prelude.{ℕ, List}
 use Rattle.latex2mathml_tokens.specs.Names.{function_text, limit_text, paren_text, size_text}
 use Rattle.latex2mathml_tokens.specs.Tok as token
-use Rattle.latex2mathml_tokens.specs.Tok.{Tok}
-use Rattle.latex2mathml_tokens.specs.declared.attribute.Accent.TheVariants.{True}
-use Rattle.latex2mathml_tokens.specs.declared.token.meaning.Bare.{Bare}
+use Rattle.latex2mathml_tokens.specs.{Tok.Tok, declared.attribute.Accent.TheVariants.True, declared.token.meaning.Bare.Bare}
 use Rattle.latex2mathml_tokens.specs.declared.token.meaning.Bare.TheVariants as bare
-use Rattle.latex2mathml_tokens.specs.declared.token.meaning.Meaning.{Meaning}
+use Rattle.latex2mathml_tokens.specs.{declared.token.meaning.Meaning.Meaning, declared.token.meaning.Entry.Entry}
 use Rattle.latex2mathml_tokens.specs.declared.token.meaning.Meaning.TheVariants as meaning
-use Rattle.latex2mathml_tokens.specs.declared.token.meaning.Entry.{Entry}
 
 abbrev pub bare_token : Bare → Tok
 bare_token bare.Begin = token.Begin

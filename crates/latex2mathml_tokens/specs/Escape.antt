@@ -1,9 +1,7 @@
 -- How a text stands in markup, and how it stands in quotes. All that is escaped is ASCII, and no byte of another
 -- character is, so what holds of bytes holds of characters.
 use Rattle.std.specs.Prelude.{ℕ, Bool, ◌||◌, List, [], ◌∷◌, ◌++◌, if◌then◌else◌, ◌==◌, codes}
-use Rattle.std.specs.List.{flat_map}
-use Rattle.std.specs.Char.{encode_utf8}
-use Rattle.std.specs.Str.{byte}
+use Rattle.std.specs.{List.flat_map, Char.encode_utf8, Str.byte}
 
 -- what contents do not hold as it is
 abbrev pub is_escaped : ℕ → Bool

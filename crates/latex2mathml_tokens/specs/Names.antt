@@ -1,13 +1,10 @@
 -- The texts that tokens may hold, by their names.
-use Rattle.std.specs.Prelude.{ℕ, List, codes}
-use Rattle.std.specs.Char.{encode_utf8}
-use Rattle.latex2mathml_tokens.specs.declared.names.FunctionName.{FunctionName}
+use Rattle.std.specs.{Prelude.ℕ, Prelude.List, Prelude.codes, Char.encode_utf8}
+use Rattle.latex2mathml_tokens.specs.{declared.names.FunctionName.FunctionName, declared.names.LimitName.LimitName}
 use Rattle.latex2mathml_tokens.specs.declared.names.FunctionName.TheVariants as function
-use Rattle.latex2mathml_tokens.specs.declared.names.LimitName.{LimitName}
 use Rattle.latex2mathml_tokens.specs.declared.names.LimitName.TheVariants as limit
-use Rattle.latex2mathml_tokens.specs.declared.names.Paren.{Paren}
+use Rattle.latex2mathml_tokens.specs.{declared.names.Paren.Paren, declared.names.Size.Size}
 use Rattle.latex2mathml_tokens.specs.declared.names.Paren.TheVariants as paren
-use Rattle.latex2mathml_tokens.specs.declared.names.Size.{Size}
 use Rattle.latex2mathml_tokens.specs.declared.names.Size.TheVariants as size
 
 abbrev pub paren_text : Paren → List ℕ

@@ -1,7 +1,6 @@
 -- Entries that are sorted by their names' bytes.
 use Rattle.std.specs.Prelude.{ℕ, List, [], ◌∷◌, Bool, true, ◌&&◌}
-use Rattle.std.specs.Cmp.Lexicographic.{slice_cmp}
-use Rattle.std.specs.Ordering.{nat_cmp, is_lt}
+use Rattle.std.specs.{Cmp.Lexicographic.slice_cmp, Ordering.nat_cmp, Ordering.is_lt}
 use Rattle.latex2mathml_tokens.specs.Tok.{Tok}
 
 -- the name is less than the first entry's, if there is one

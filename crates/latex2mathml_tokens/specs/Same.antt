@@ -1,7 +1,6 @@
 -- Equality as a test that returns true or false, for values whose equality is decidable.
 use Rattle.std.specs.Prelude.{◌≡◌, Bool, true, false, Option, Some, None, unwrap_or, refl}
-use Rattle.std.specs.Bool.{Decides}
-use Rattle.std.specs.Cmp.{IsPartialEquivalence}
+use Rattle.std.specs.{Bool.Decides, Cmp.IsPartialEquivalence}
 use Rattle.std.proofs.Common.{sym, ap, ◌∙◌, subst}
 use Rattle.std.proofs.lemmas.Bool.{false≢true}
 use mathlib.Core.HLevel.{Discrete}

@@ -1,9 +1,7 @@
 -- Tokens as values: a text is its bytes, a character its code point, and no value knows where it lies in memory.
 use Rattle.std.specs.Prelude.{ℕ, ℤ, List, Option, string_bytes}
-use Rattle.latex2mathml_tokens.specs.declared.DisplayStyle.{DisplayStyle}
-use Rattle.latex2mathml_tokens.specs.declared.attribute.Variant.{Variant}
-use Rattle.latex2mathml_tokens.specs.declared.attribute.Accent.{Accent}
-use Rattle.latex2mathml_tokens.specs.declared.token.Token.{Token}
+use Rattle.latex2mathml_tokens.specs.{declared.DisplayStyle.DisplayStyle, declared.attribute.Variant.Variant}
+use Rattle.latex2mathml_tokens.specs.{declared.attribute.Accent.Accent, declared.token.Token.Token}
 use Rattle.latex2mathml_tokens.specs.declared.token.Token.TheVariants as token
 
 pub data Tok : Type 0 where

@@ -1,13 +1,11 @@
 -- The text of a token, as refusals and marked errors name it.
 use Rattle.std.specs.Prelude.{ℕ, List, ◌++◌, Option, Some, None, codes}
 use Rattle.std.specs.Fmt.{signed_decimal}
-use Rattle.latex2mathml_tokens.specs.Escape.{quoted, quoted_char}
+use Rattle.latex2mathml_tokens.specs.{Escape.quoted, Escape.quoted_char, declared.DisplayStyle.DisplayStyle}
 use Rattle.latex2mathml_tokens.specs.Tok.{Tok, Illegal, EOF, Begin, End, Ampersand, NewLine, Left, Right, Middle, Paren, LBrace, RBrace, Frac, Underscore, Circumflex, Binom, Overset, Underset, Overbrace, Underbrace, Sqrt, Integral, Lim, Space, Style, Big, Over, Under, Operator, BigOp, Letter, Number, Function, OperatorName, Slashed, Text, Command}
-use Rattle.latex2mathml_tokens.specs.declared.DisplayStyle.{DisplayStyle}
 use Rattle.latex2mathml_tokens.specs.declared.DisplayStyle.TheVariants.{Block, Inline}
-use Rattle.latex2mathml_tokens.specs.declared.attribute.Variant.{Variant}
+use Rattle.latex2mathml_tokens.specs.{declared.attribute.Variant.Variant, declared.attribute.Accent.Accent}
 use Rattle.latex2mathml_tokens.specs.declared.attribute.Variant.TheVariants.{Normal, Italic, Bold, BoldItalic, DoubleStruck, BoldFraktur, Script, BoldScript, Fraktur, SansSerif, BoldSansSerif, SansSerifItalic, SansSerifBoldItalic, Monospace}
-use Rattle.latex2mathml_tokens.specs.declared.attribute.Accent.{Accent}
 use Rattle.latex2mathml_tokens.specs.declared.attribute.Accent.TheVariants.{True, False}
 
 abbrev pub variant_name : Variant → List ℕ

@@ -1,8 +1,7 @@
 //! Why a formula or a document is refused.
 ghost use Rattle.std.specs.Prelude.{◌≡◌, ◌↔◌, Some, IsTrue, IfOk};
 ghost use Rattle.latex2mathml_tokens.specs.Discreteness.{optional_refusal-discrete, same_refusal};
-ghost use Rattle.latex2mathml_tokens.specs.Refusal.{error_text, refusal_of};
-ghost use Rattle.latex2mathml_tokens.specs.Same.{same_laws};
+ghost use Rattle.latex2mathml_tokens.specs.{Refusal.error_text, Refusal.refusal_of, Same.same_laws};
 ghost use Rattle.latex2mathml_tokens.specs.declared.error.LatexError.TheVariants.{OutOfMemory};
 
 use crate::token::Token;

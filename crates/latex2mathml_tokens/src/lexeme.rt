@@ -1,8 +1,6 @@
 //! Tokens that borrow their texts. The reader and the parser pass them by value, and a refusal makes a [`Token`] of one.
 ghost use Rattle.std.specs.Prelude.{◌≡◌, ◌≤◌, IfOk};
-ghost use Rattle.latex2mathml_tokens.specs.Commands.{command_token};
-ghost use Rattle.latex2mathml_tokens.specs.Lexemes.{lexeme_tok};
-ghost use Rattle.latex2mathml_tokens.specs.Tok.{tok};
+ghost use Rattle.latex2mathml_tokens.specs.{Commands.command_token, Lexemes.lexeme_tok, Tok.tok};
 
 use crate::DisplayStyle;
 use crate::attribute::{Accent, Variant};

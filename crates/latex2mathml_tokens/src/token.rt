@@ -1,9 +1,7 @@
 //! Tokens, and the tokens of commands.
 ghost use Rattle.std.specs.Prelude.{◌≡◌, ◌≤◌, ◌↔◌, IsOk, IsSome, IsTrue, IfOk};
 ghost use Rattle.latex2mathml_tokens.specs.Commands.{command_entries, command_token, entry_token};
-ghost use Rattle.latex2mathml_tokens.specs.Discreteness.{same_tok, tok-discrete};
-ghost use Rattle.latex2mathml_tokens.specs.Same.{same_laws};
-ghost use Rattle.latex2mathml_tokens.specs.Tok.{tok};
+ghost use Rattle.latex2mathml_tokens.specs.{Discreteness.same_tok, Discreteness.tok-discrete, Same.same_laws, Tok.tok};
 
 mod index;
 pub(crate) mod meaning;

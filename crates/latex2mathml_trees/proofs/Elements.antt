@@ -1,134 +1,170 @@
--- The print of a tree in which no function has an argument is one element that obeys the child table.
-use Rattle.std.proofs.Common.{◌≡◌, ℕ, true, false, ◌&&◌, IsTrue, List, [], ◌∷◌, ◌++◌, Option, Some, None, refl, sym, ap, append_assoc, codes, map}
-use Rattle.std.specs.Char.{encode_utf8}
-use Rattle.std.specs.Fmt.{decimal}
-use Rattle.latex2mathml_trees.specs.Arguments.{HasNoArgument, HaveNoArgument}
-use Rattle.latex2mathml_tokens.specs.Attributes.{accent_text, thickness_text}
-use Rattle.latex2mathml_tokens.specs.Escape.{content, content_char, quoted}
-use Rattle.latex2mathml_trees.specs.Markup.{Name, plain, attribute, open_tag, close_tag, OpenElements, above, add, Schema, Runs, is_event, spell_event, step}
-use Rattle.latex2mathml_trees.specs.MathSchema.{child_table}
-use Rattle.latex2mathml_trees.specs.Print.{print, prints, member_print, members_print, slashed_print, style_open}
+-- The print of a tree is elements side by side. Where no function in it has an argument, it is one element that obeys the
+-- child table.
+use Rattle.std.proofs.Common.{◌≡◌, ℕ, ◌+◌, ◌==◌, Bool, true, false, ◌&&◌, IsTrue, List, [], ◌∷◌, ◌++◌, length, Option, Some, None, refl, sym, ap, ◌∙◌, append_assoc, append-nil, length-append, arith, codes, map}
+use Rattle.std.specs.{Char.encode_utf8, Fmt.decimal, List.flat_map, List.list_all}
+use Rattle.latex2mathml_trees.specs.{Arguments.HasNoArgument, Arguments.HaveNoArgument, MathSchema.IsOneElement, MathSchema.child_table}
+use Rattle.latex2mathml_tokens.specs.{Attributes.accent_text, Attributes.thickness_text, declared.DisplayStyle.DisplayStyle}
+use Rattle.latex2mathml_tokens.specs.Escape.{content, content_char, quoted, value}
+use Rattle.latex2mathml_trees.specs.Markup.{Name, Part, plain, Attribute, attribute, open_tag, close_tag, OpenElements, above, at_start, name_of, Runs, IsBalanced, is_name, is_attribute, is_event, spell_event, spell_part}
+use Rattle.latex2mathml_trees.specs.Print.{print, prints, members_print, slashed_print, style_open}
 use Rattle.latex2mathml_trees.specs.Tree.{Tree, Trees, number, letter, operator, function, applied, space, subscript, superscript, sub_sup, over_op, under_op, overset, underset, under, under_over, root, sqrt, frac, row, fenced, stretched, other_operator, sized_paren, words, matrix, ampersand, new_line, slashed, style, undefined, no_trees, more_trees}
-use Rattle.latex2mathml_tokens.specs.declared.DisplayStyle.{DisplayStyle}
 use Rattle.latex2mathml_tokens.specs.declared.DisplayStyle.TheVariants.{Block, Inline}
-use Rattle.latex2mathml_tokens.specs.declared.attribute.Accent.{Accent}
-use Rattle.latex2mathml_tokens.specs.declared.attribute.LineThickness.{LineThickness}
+use Rattle.latex2mathml_tokens.specs.{declared.attribute.Accent.Accent, declared.attribute.LineThickness.LineThickness}
+use Rattle.latex2mathml_tokens.specs.declared.attribute.Accent.TheVariants as accent
 use Rattle.latex2mathml_tokens.specs.declared.attribute.LineThickness.TheVariants.{Thin, Medium, Thick, Length}
-use Rattle.latex2mathml_trees.proofs.Cells.{AreMembers, more_members, no_members, one_member, table_is_child}
-use Rattle.latex2mathml_trees.proofs.Runs.{closed, joined, opened, opened_with, plain-spells, single, spelled_as, staying}
-use Rattle.latex2mathml_trees.proofs.Leaves.{IsChild, accent_is_child, accent_last, error_is_child, fence, identifier, letter_is_child, numeral, operator_is_child, sign, sized_is_child, slashed_identifier, slashed_sign, space_is_child, stretched_is_child, wording}
-use Rattle.latex2mathml_trees.proofs.ValueTexts.{plain-valid, plain_decimal}
+use Rattle.latex2mathml_trees.proofs.Cells.{AreMembers, more_members, no_members, one_member, table_is_element}
+use Rattle.latex2mathml_trees.proofs.Leaves as leaves
+use Rattle.latex2mathml_trees.proofs.Leaves.{AreElements, application, closes, identifier, respelled, schema_of, sign, tagged}
+use Rattle.latex2mathml_trees.proofs.Runs.{ending_as, joined, more, more-above, more-append, more-lowest, spelled_as, staying}
+use Rattle.latex2mathml_trees.proofs.ValueTexts.{escaped, plain_decimal}
 
--- elements with two and with three children
-two : (n : Name) → IsTrue (is_event (open_tag n [])) → IsTrue (is_event (close_tag n)) → ((x y : Name) (s : OpenElements) → step child_table (close_tag n) (above n (y ∷ x ∷ []) false s) ≡ Some s) → (a b : List ℕ) → IsChild a → IsChild b → IsChild (spell_event (open_tag n []) ++ (a ++ (b ++ spell_event (close_tag n))))
-two n v w f a b x y = (n, λ s. joined (opened child_table n s v) (joined (x.1 _) (joined (y.1 _) (closed child_table n _ _ _ w (f x.0 y.0 (add n s))))))
+both : {strict : Bool} {j k : ℕ} {a b : List ℕ} → AreElements strict j a → AreElements strict k b → AreElements strict (j + k) (a ++ b)
+both x y = record {
+  names = y.names ++ x.names;
+  counted = λ e. omega (arith, length-append y.names x.names, x.counted e, y.counted e);
+  leads = λ s. ending_as (sym (more-append y.names x.names s)) (joined (x.leads s) (y.leads (more x.names s)));
+}
 
-three : (n : Name) → IsTrue (is_event (open_tag n [])) → IsTrue (is_event (close_tag n)) → ((x y z : Name) (s : OpenElements) → step child_table (close_tag n) (above n (z ∷ y ∷ x ∷ []) false s) ≡ Some s) → (a b c : List ℕ) → IsChild a → IsChild b → IsChild c → IsChild (spell_event (open_tag n []) ++ (a ++ (b ++ (c ++ spell_event (close_tag n)))))
-three n v w f a b c x y z = (n, λ s. joined (opened child_table n s v) (joined (x.1 _) (joined (y.1 _) (joined (z.1 _) (closed child_table n _ _ _ w (f x.0 y.0 z.0 (add n s)))))))
+module _ (strict : Bool) where
+  -- the bytes end an element that holds so many elements and no text
+  abbrev End : Name → ℕ → List ℕ → Type 0
+  End n count bytes = (ks : List Name) (s : OpenElements) → (IsTrue strict → length ks ≡ count) → Runs (schema_of strict) bytes (above n ks false s) s
 
-root_is_child : (a : List ℕ) → IsChild a → IsChild (codes "<msqrt>" ++ (a ++ codes "</msqrt>"))
-root_is_child a x = (codes "msqrt", λ s. joined (opened child_table (codes "msqrt") s refl) (joined (x.1 _) (closed child_table (codes "msqrt") _ _ _ refl refl)))
+  closed_after : (n : Name) (count : ℕ) → IsTrue (is_name n) → ((parent : Option Name) (ks : List Name) → length ks ≡ count → IsTrue (child_table parent n ks false)) → End n count (spell_event (close_tag n))
+  closed_after n count valid fit ks s h = closes strict n ks false s valid (λ e. fit (name_of s) ks (h e))
 
--- the bytes are children of any element that holds no text yet
-abbrev pub AreChildren : List ℕ → Type 0
-AreChildren bs = (n : Name) (ks : List Name) (s : OpenElements) → (ks' : List Name) × Runs child_table bs (above n ks false s) (above n ks' false s)
+  before : (n : Name) (j k : ℕ) (a rest : List ℕ) → AreElements strict k a → End n (j + k) rest → End n j (a ++ rest)
+  before n j k a rest x end ks s h =
+      joined (ending_as (more-above x.names ks n false s) (x.leads (above n ks false s)))
+      (end (x.names ++ ks) s (λ e. omega (arith, length-append x.names ks, x.counted e, h e)))
 
-no_children : AreChildren []
-no_children n ks s = (ks, staying)
+  -- a sign prints its close tag together with what follows
+  sign_before : (n : Name) (j : ℕ) (attributes : List Attribute) (bs rest : List ℕ) → IsTrue (list_all is_attribute attributes) → End n (j + 1) rest → End n j (spell_event (open_tag (codes "mo") attributes) ++ (content bs ++ (codes "</mo>" ++ rest)))
+  sign_before n j attributes bs rest valid end ks s h =
+      spelled_as (append_assoc (spell_event (open_tag (codes "mo") attributes)) _ rest ∙ ap (λ l. spell_event (open_tag (codes "mo") attributes) ++ l) (append_assoc (content bs) (codes "</mo>") rest))
+      (before n j 1 _ rest (sign strict attributes valid bs) end ks s h)
 
-more_children : (a b : List ℕ) → IsChild a → AreChildren b → AreChildren (a ++ b)
-more_children a b x y n ks s = let r = y n (x.0 ∷ ks) s in (r.0, joined (x.1 (above n ks false s)) r.1)
+  -- an element that may hold any elements
+  within : (n : Name) (attributes : List Attribute) (k : ℕ) (a : List ℕ) → IsTrue (is_event (open_tag n attributes)) → IsTrue (is_name n) → ((parent : Option Name) (ks : List Name) → IsTrue (child_table parent n ks false)) → AreElements strict k a → AreElements strict 1 (spell_event (open_tag n attributes) ++ (a ++ spell_event (close_tag n)))
+  within n attributes k a valid named fit x = tagged strict n attributes valid (λ s. before n 0 k a _ x (closed_after n (0 + k) named (λ parent ks e. fit parent ks)) [] s (λ e. refl))
 
-row_is_child : (a : List ℕ) → AreChildren a → IsChild (codes "<mrow>" ++ (a ++ codes "</mrow>"))
-row_is_child a x = (codes "mrow", λ s. let r = x (codes "mrow") [] (add (codes "mrow") s) in joined (opened child_table (codes "mrow") s refl) (joined r.1 (closed child_table (codes "mrow") _ _ _ refl refl)))
+  -- an element that holds so many
+  abbrev Holds : Name → ℕ → Type 0
+  Holds n count = IsTrue (is_name n) × ((parent : Option Name) (ks : List Name) → length ks ≡ count → IsTrue (child_table parent n ks false))
 
-accented_is_child : (n : Name) → IsTrue (is_event (open_tag n [])) → IsTrue (is_event (close_tag n)) → ((x y : Name) (s : OpenElements) → step child_table (close_tag n) (above n (y ∷ x ∷ []) false s) ≡ Some s) → (c : ℕ) (k : Accent) (a : List ℕ) → IsChild a → IsChild (spell_event (open_tag n []) ++ (a ++ (codes "<mo accent=\"" ++ (accent_text k ++ (codes "\">" ++ (content_char c ++ (codes "</mo>" ++ spell_event (close_tag n))))))))
-unfolding two
-accented_is_child n v w f c k a x =
-    let r = two n v w f a (codes "<mo accent=\"" ++ (accent_text k ++ (codes "\">" ++ (content_char c ++ codes "</mo>")))) x (accent_is_child c k) in
-    (n, λ s. spelled_as (ap (λ l. spell_event (open_tag n []) ++ (a ++ l)) (sym (accent_last (spell_event (close_tag n)) c k))) (r.1 s))
+  exactly : (count : ℕ) (ks : List Name) → length ks ≡ count → (length ks == count && true) ≡ (count == count && true)
+  exactly count ks e = ap (λ l. l == count && true) e
 
--- the open tag of a fraction, and what follows it
-pub frac_opened : (schema : Schema) (t : LineThickness) (rest : List ℕ) (s u : OpenElements) → Runs schema rest (above (codes "mfrac") [] false (add (codes "mfrac") s)) u → Runs schema (codes "<mfrac" ++ (thickness_text t ++ (codes ">" ++ rest))) s u
-frac_opened schema Thin rest s u m = joined (single schema (open_tag (codes "mfrac") (attribute (codes "linethickness") (map plain (codes "thin")) ∷ [])) s _ refl refl) m
-frac_opened schema Medium rest s u m = joined (opened schema (codes "mfrac") s refl) m
-frac_opened schema Thick rest s u m = joined (single schema (open_tag (codes "mfrac") (attribute (codes "linethickness") (map plain (codes "thick")) ∷ [])) s _ refl refl) m
-frac_opened schema (Length l) rest s u m =
-    spelled_as (ap (λ w. codes "<mfrac linethickness=\"" ++ w) (sym (append_assoc (decimal l) (codes "\"") (codes ">" ++ rest))))
-    (opened_with schema (codes "mfrac") (codes "linethickness") (map plain (decimal l)) (decimal l) rest s u (ap (λ b. b && true) (plain-valid (decimal l) (plain_decimal l))) (plain-spells (decimal l)) m)
+  two_end : (n : Name) (a b : List ℕ) → Holds n 2 → AreElements strict 1 a → AreElements strict 1 b → (s : OpenElements) → Runs (schema_of strict) (a ++ (b ++ spell_event (close_tag n))) (above n [] false s) s
+  two_end n a b holds x y s = before n 0 1 a _ x (before n 1 1 b _ y (closed_after n 2 holds.0 holds.1)) [] s (λ e. refl)
 
-frac_is_child : (t : LineThickness) (a b : List ℕ) → IsChild a → IsChild b → IsChild (codes "<mfrac" ++ (thickness_text t ++ (codes ">" ++ (a ++ (b ++ codes "</mfrac>")))))
-frac_is_child t a b x y = (
-  codes "mfrac",
-  λ s.
-      let parts : Runs child_table (a ++ (b ++ codes "</mfrac>")) (above (codes "mfrac") [] false (add (codes "mfrac") s)) (add (codes "mfrac") s) = joined (x.1 _) (joined (y.1 _) (closed child_table (codes "mfrac") (y.0 ∷ x.0 ∷ []) false (add (codes "mfrac") s) refl refl)) in
-      frac_opened child_table t (a ++ (b ++ codes "</mfrac>")) s (add (codes "mfrac") s) parts,
-)
+  two : (n : Name) (a b : List ℕ) → Holds n 2 → AreElements strict 1 a → AreElements strict 1 b → AreElements strict 1 (spell_event (open_tag n []) ++ (a ++ (b ++ spell_event (close_tag n))))
+  two n a b holds x y = tagged strict n [] (ap (λ b. b && true) holds.0) (two_end n a b holds x y)
 
-fenced_is_child : (o c a : List ℕ) → IsChild a → IsChild (codes "<mrow><mo stretchy=\"true\" form=\"prefix\">" ++ (content o ++ (codes "</mo>" ++ (a ++ (codes "<mo stretchy=\"true\" form=\"postfix\">" ++ (content c ++ codes "</mo></mrow>"))))))
-fenced_is_child o c a x = (
-  codes "mrow",
-  λ s.
-      let r = add (codes "mrow") s in
-      let first = fence (codes "prefix") refl o (above (codes "mrow") [] false r) in
-      let last = fence (codes "postfix") refl c (above (codes "mrow") (x.0 ∷ codes "mo" ∷ []) false r) in
-      joined (opened child_table (codes "mrow") s refl)
-      (spelled_as (ap (λ l. codes "<mo stretchy=\"true\" form=\"prefix\">" ++ l) (append_assoc (content o) (codes "</mo>") (a ++ (codes "<mo stretchy=\"true\" form=\"postfix\">" ++ (content c ++ codes "</mo></mrow>")))))
-      (joined first (joined (x.1 _)
-      (spelled_as (ap (λ l. codes "<mo stretchy=\"true\" form=\"postfix\">" ++ l) (append_assoc (content c) (codes "</mo>") (codes "</mrow>")))
-      (joined last (closed child_table (codes "mrow") (codes "mo" ∷ x.0 ∷ codes "mo" ∷ []) false r refl refl)))))),
-)
+  three : (n : Name) (a b c : List ℕ) → Holds n 3 → AreElements strict 1 a → AreElements strict 1 b → AreElements strict 1 c → AreElements strict 1 (spell_event (open_tag n []) ++ (a ++ (b ++ (c ++ spell_event (close_tag n)))))
+  three n a b c holds x y z = tagged strict n [] (ap (λ b. b && true) holds.0) (λ s. before n 0 1 a _ x (before n 1 1 b _ y (before n 2 1 c _ z (closed_after n 3 holds.0 holds.1))) [] s (λ e. refl))
 
-slashed_is_child : (x : Tree) → IsChild (print x) → IsChild (slashed_print x (print x))
-slashed_is_child (letter c v) g = slashed_identifier (encode_utf8 c) v
-slashed_is_child (operator c) g = slashed_sign (encode_utf8 c)
-slashed_is_child x g = g
+  accented : (n : Name) → Holds n 2 → (c : ℕ) (k : Accent) (a : List ℕ) → AreElements strict 1 a → AreElements strict 1 (spell_event (open_tag n []) ++ (a ++ (codes "<mo accent=\"" ++ (accent_text k ++ (codes "\">" ++ (content_char c ++ (codes "</mo>" ++ spell_event (close_tag n))))))))
+  accented n holds c accent.True a x = tagged strict n [] (ap (λ b. b && true) holds.0) (λ s. before n 0 1 a _ x (sign_before n 1 (attribute (codes "accent") (map plain (codes "true")) ∷ []) (encode_utf8 c) _ refl (closed_after n 2 holds.0 holds.1)) [] s (λ e. refl))
+  accented n holds c accent.False a x = tagged strict n [] (ap (λ b. b && true) holds.0) (λ s. before n 0 1 a _ x (sign_before n 1 (attribute (codes "accent") (map plain (codes "false")) ∷ []) (encode_utf8 c) _ refl (closed_after n 2 holds.0 holds.1)) [] s (λ e. refl))
 
-pub style_opened : (schema : Schema) (d : Option DisplayStyle) (s : OpenElements) → Runs schema (style_open d) s (above (codes "mstyle") [] false (add (codes "mstyle") s))
-style_opened schema None s = opened schema (codes "mstyle") s refl
-style_opened schema (Some Block) s = single schema (open_tag (codes "mstyle") (attribute (codes "displaystyle") (map plain (codes "true")) ∷ [])) s _ refl refl
-style_opened schema (Some Inline) s = single schema (open_tag (codes "mstyle") (attribute (codes "displaystyle") (map plain (codes "false")) ∷ [])) s _ refl refl
+  fraction : (t : LineThickness) (a b : List ℕ) → AreElements strict 1 a → AreElements strict 1 b → AreElements strict 1 (codes "<mfrac" ++ (thickness_text t ++ (codes ">" ++ (a ++ (b ++ codes "</mfrac>")))))
+  fraction Thin a b x y = tagged strict (codes "mfrac") (attribute (codes "linethickness") (map plain (codes "thin")) ∷ []) refl (two_end (codes "mfrac") a b (refl, λ parent. exactly 2) x y)
+  fraction Medium a b x y = two (codes "mfrac") a b (refl, λ parent. exactly 2) x y
+  fraction Thick a b x y = tagged strict (codes "mfrac") (attribute (codes "linethickness") (map plain (codes "thick")) ∷ []) refl (two_end (codes "mfrac") a b (refl, λ parent. exactly 2) x y)
+  fraction (Length l) a b x y =
+      let v = plain_decimal l in
+      respelled (ap (λ w. codes "<mfrac linethickness=\"" ++ w) (reach v.parts (decimal l) _ v.spelled))
+      (tagged strict (codes "mfrac") (attribute (codes "linethickness") v.parts ∷ []) (ap (λ b. b && true) v.are_parts) (two_end (codes "mfrac") a b (refl, λ parent. exactly 2) x y))
+    where
+      reach : (u : List Part) (v rest : List ℕ) → flat_map spell_part u ≡ v → (((flat_map spell_part u ++ codes "\"") ++ []) ++ codes ">") ++ rest ≡ (v ++ codes "\"") ++ (codes ">" ++ rest)
+      reach u v rest e = simp (append_assoc, append-nil, e)
 
-style_is_child : (d : Option DisplayStyle) (a : List ℕ) → IsChild a → IsChild (style_open d ++ (a ++ codes "</mstyle>"))
-style_is_child d a x = (codes "mstyle", λ s. joined (style_opened child_table d s) (joined (x.1 _) (closed child_table (codes "mstyle") (x.0 ∷ []) false (add (codes "mstyle") s) refl refl)))
+  abbrev fence : List ℕ → List Attribute
+  fence form = attribute (codes "stretchy") (map plain (codes "true")) ∷ attribute (codes "form") (map plain form) ∷ []
 
-mutual
-  pub one_element : (t : Tree) → HasNoArgument t → IsChild (print t)
-  one_element (number digits) h = numeral digits
-  one_element (letter c v) h = letter_is_child c v
-  one_element (operator c) h = operator_is_child c
-  one_element (function name) h = identifier name
-  one_element (applied name x) h = absurd h
-  one_element (space width) h = space_is_child width
-  one_element (subscript a b) h = two (codes "msub") refl refl (λ x y s. refl) _ _ (one_element a h.0) (one_element b h.1)
-  one_element (superscript a b) h = two (codes "msup") refl refl (λ x y s. refl) _ _ (one_element a h.0) (one_element b h.1)
-  one_element (sub_sup a b c) h = three (codes "msubsup") refl refl (λ x y z s. refl) _ _ _ (one_element a h.0) (one_element b h.1) (one_element c h.2)
-  one_element (over_op c k x) h = accented_is_child (codes "mover") refl refl (λ x y s. refl) c k (print x) (one_element x h)
-  one_element (under_op c k x) h = accented_is_child (codes "munder") refl refl (λ x y s. refl) c k (print x) (one_element x h)
-  one_element (overset a b) h = two (codes "mover") refl refl (λ x y s. refl) _ _ (one_element b h.1) (one_element a h.0)
-  one_element (underset a b) h = two (codes "munder") refl refl (λ x y s. refl) _ _ (one_element b h.1) (one_element a h.0)
-  one_element (under a b) h = two (codes "munder") refl refl (λ x y s. refl) _ _ (one_element a h.0) (one_element b h.1)
-  one_element (under_over a b c) h = three (codes "munderover") refl refl (λ x y z s. refl) _ _ _ (one_element a h.0) (one_element b h.1) (one_element c h.2)
-  one_element (root d x) h = two (codes "mroot") refl refl (λ x y s. refl) _ _ (one_element x h.1) (one_element d h.0)
-  one_element (sqrt x) h = root_is_child _ (one_element x h)
-  one_element (frac a b t) h = frac_is_child t _ _ (one_element a h.0) (one_element b h.1)
-  one_element (row members) h = row_is_child (prints members) (some_children members h)
-  one_element (fenced o c x) h = fenced_is_child o c (print x) (one_element x h)
-  one_element (stretched b text) h = stretched_is_child b text
-  one_element (other_operator text) h = sign text
-  one_element (sized_paren size paren) h = sized_is_child size paren
-  one_element (words text) h = wording text
-  one_element (matrix members a) h = table_is_child a (members_print members) (some_members members h)
-  one_element ampersand h = error_is_child (codes "Ampersand")
-  one_element new_line h = error_is_child (codes "NewLine")
-  one_element (slashed x) h = slashed_is_child x (one_element x h)
-  one_element (style d x) h = style_is_child d (print x) (one_element x h)
-  one_element (undefined text) h = error_is_child (codes "Undefined(" ++ (quoted text ++ codes ")"))
+  between_fences : (o c a : List ℕ) → AreElements strict 1 a → AreElements strict 1 (codes "<mrow><mo stretchy=\"true\" form=\"prefix\">" ++ (content o ++ (codes "</mo>" ++ (a ++ (codes "<mo stretchy=\"true\" form=\"postfix\">" ++ (content c ++ codes "</mo></mrow>"))))))
+  between_fences o c a x =
+      tagged strict (codes "mrow") [] refl
+      (λ s. sign_before (codes "mrow") 0 (fence (codes "prefix")) o _ refl
+      (before (codes "mrow") 1 1 a _ x (sign_before (codes "mrow") 2 (fence (codes "postfix")) c _ refl (closed_after (codes "mrow") 3 refl (λ parent ks e. refl)))) [] s (λ e. refl))
 
-  pub some_children : (ts : Trees) → HaveNoArgument ts → AreChildren (prints ts)
-  some_children no_trees h = no_children
-  some_children (more_trees x rest) h = more_children (print x) (prints rest) (one_element x h.0) (some_children rest h.1)
+  -- a parenthesis of a size, which is any text
+  sized : (z p : List ℕ) → AreElements strict 1 (codes "<mrow><mo maxsize=\"" ++ (value z ++ (codes "\" minsize=\"" ++ (value z ++ (codes "\">" ++ (content p ++ codes "</mo></mrow>"))))))
+  sized z p =
+      let v = escaped z in
+      respelled (ap (λ w. codes "<mrow><mo maxsize=\"" ++ w) (reach v.parts (value z) _ v.spelled))
+      (tagged strict (codes "mrow") [] refl
+      (λ s. sign_before (codes "mrow") 0 (attribute (codes "maxsize") v.parts ∷ attribute (codes "minsize") v.parts ∷ []) p (codes "</mrow>") (ap (λ b. b && (b && true)) v.are_parts) (closed_after (codes "mrow") 1 refl (λ parent ks e. refl)) [] s (λ e. refl)))
+    where
+      reach : (u : List Part) (v rest : List ℕ) → flat_map spell_part u ≡ v → (((flat_map spell_part u ++ codes "\"") ++ (codes " minsize=\"" ++ ((flat_map spell_part u ++ codes "\"") ++ []))) ++ codes ">") ++ rest ≡ v ++ (codes "\" minsize=\"" ++ (v ++ (codes "\">" ++ rest)))
+      reach u v rest e = simp (append_assoc, append-nil, e)
 
-  some_members : (ts : Trees) → HaveNoArgument ts → AreMembers (members_print ts)
-  some_members no_trees h = no_members
-  some_members (more_trees x rest) h = more_members (member_print x (print x)) (members_print rest) (one_member x (one_element x h.0)) (some_members rest h.1)
+  slashed_elements : (x : Tree) → AreElements strict 1 (print x) → AreElements strict 1 (slashed_print x (print x))
+  slashed_elements (letter c v) g = leaves.slashed_letter strict c v
+  slashed_elements (operator c) g = leaves.slashed_sign strict c
+  slashed_elements x g = g
+
+  styled : (d : Option DisplayStyle) (a : List ℕ) → AreElements strict 1 a → AreElements strict 1 (style_open d ++ (a ++ codes "</mstyle>"))
+  styled None a x = within (codes "mstyle") [] 1 a refl refl (λ parent ks. refl) x
+  styled (Some Block) a x = within (codes "mstyle") (attribute (codes "displaystyle") (map plain (codes "true")) ∷ []) 1 a refl refl (λ parent ks. refl) x
+  styled (Some Inline) a x = within (codes "mstyle") (attribute (codes "displaystyle") (map plain (codes "false")) ∷ []) 1 a refl refl (λ parent ks. refl) x
+
+  mutual
+    elements : (t : Tree) → (IsTrue strict → HasNoArgument t) → AreElements strict 1 (print t)
+    elements (number digits) h = leaves.leaf strict (codes "mn") [] refl refl (λ parent d. refl) digits
+    elements (letter c v) h = leaves.letter_is_element strict c v
+    elements (operator c) h = leaves.operator_is_element strict c
+    elements (function name) h = identifier strict name
+    elements (applied name x) h =
+        let r = both (identifier strict name) (both (application strict) (elements x (λ e. absurd (h e)))) in
+        let whole = respelled (ap (λ l. codes "<mi>" ++ l) (append_assoc (content name) (codes "</mi>") (codes "<mo>&#x2061;</mo>" ++ print x))) r in
+        record { names = whole.names; counted = λ e. absurd (h e); leads = whole.leads }
+    elements (space width) h = leaves.space_is_element strict width
+    elements (subscript a b) h = two (codes "msub") _ _ (refl, λ parent. exactly 2) (elements a (λ e. (h e).0)) (elements b (λ e. (h e).1))
+    elements (superscript a b) h = two (codes "msup") _ _ (refl, λ parent. exactly 2) (elements a (λ e. (h e).0)) (elements b (λ e. (h e).1))
+    elements (sub_sup a b c) h = three (codes "msubsup") _ _ _ (refl, λ parent. exactly 3) (elements a (λ e. (h e).0)) (elements b (λ e. (h e).1)) (elements c (λ e. (h e).2))
+    elements (over_op c k x) h = accented (codes "mover") (refl, λ parent. exactly 2) c k _ (elements x h)
+    elements (under_op c k x) h = accented (codes "munder") (refl, λ parent. exactly 2) c k _ (elements x h)
+    elements (overset a b) h = two (codes "mover") _ _ (refl, λ parent. exactly 2) (elements b (λ e. (h e).1)) (elements a (λ e. (h e).0))
+    elements (underset a b) h = two (codes "munder") _ _ (refl, λ parent. exactly 2) (elements b (λ e. (h e).1)) (elements a (λ e. (h e).0))
+    elements (under a b) h = two (codes "munder") _ _ (refl, λ parent. exactly 2) (elements a (λ e. (h e).0)) (elements b (λ e. (h e).1))
+    elements (under_over a b c) h = three (codes "munderover") _ _ _ (refl, λ parent. exactly 3) (elements a (λ e. (h e).0)) (elements b (λ e. (h e).1)) (elements c (λ e. (h e).2))
+    elements (root d x) h = two (codes "mroot") _ _ (refl, λ parent. exactly 2) (elements x (λ e. (h e).1)) (elements d (λ e. (h e).0))
+    elements (sqrt x) h = within (codes "msqrt") [] 1 _ refl refl (λ parent ks. refl) (elements x h)
+    elements (frac a b t) h = fraction t _ _ (elements a (λ e. (h e).0)) (elements b (λ e. (h e).1))
+    elements (row members) h = let some = all_elements members h in within (codes "mrow") [] some.0 _ refl refl (λ parent ks. refl) some.1
+    elements (fenced o c x) h = between_fences o c _ (elements x h)
+    elements (stretched b text) h = leaves.stretched_is_element strict b text
+    elements (other_operator text) h = sign strict [] refl text
+    elements (sized_paren size paren) h = sized size paren
+    elements (words text) h = leaves.wording strict text
+    elements (matrix members a) h = table_is_element strict a _ (some_members members h)
+    elements ampersand h = leaves.error_is_element strict (codes "Ampersand")
+    elements new_line h = leaves.error_is_element strict (codes "NewLine")
+    elements (slashed x) h = slashed_elements x (elements x h)
+    elements (style d x) h = styled d _ (elements x h)
+    elements (undefined text) h = leaves.error_is_element strict (codes "Undefined(" ++ (quoted text ++ codes ")"))
+
+    all_elements : (ts : Trees) → (IsTrue strict → HaveNoArgument ts) → (count : ℕ) × AreElements strict count (prints ts)
+    all_elements no_trees h = (0, record { names = []; counted = λ e. refl; leads = λ s. staying })
+    all_elements (more_trees x rest) h = let others = all_elements rest (λ e. (h e).1) in (1 + others.0, both (elements x (λ e. (h e).0)) others.1)
+
+    some_members : (ts : Trees) → (IsTrue strict → HaveNoArgument ts) → AreMembers strict (members_print ts)
+    some_members no_trees h = no_members strict
+    some_members (more_trees x rest) h = more_members strict _ _ (one_member strict x (elements x (λ e. (h e).0))) (some_members rest (λ e. (h e).1))
+
+pub print_is_balanced : (t : Tree) → IsBalanced (print t)
+print_is_balanced t = let some = elements false t (λ e. cc) in (some.names ++ [], (false, ending_as (more-lowest some.names [] false) (some.leads at_start)))
+
+-- one name is that of one element
+one_of : (bytes : List ℕ) (names : List Name) → length names ≡ 1 → Runs child_table bytes at_start (more names at_start) → IsOneElement bytes
+one_of bytes (n ∷ []) e m = (n, m)
+one_of bytes names e m = absurd (omega arith)
+
+pub one_element : (t : Tree) → HasNoArgument t → IsOneElement (print t)
+one_element t h = let some = elements true t (λ e. h) in one_of (print t) some.names (some.counted refl) (some.leads at_start)
+
+-- within any element
+pub some_children : (ts : Trees) → HaveNoArgument ts → (n : Name) (ks : List Name) (s : OpenElements) → (ks' : List Name) × Runs child_table (prints ts) (above n ks false s) (above n ks' false s)
+some_children ts h n ks s = let some = (all_elements true ts (λ e. h)).1 in (some.names ++ ks, ending_as (more-above some.names ks n false s) (some.leads (above n ks false s)))

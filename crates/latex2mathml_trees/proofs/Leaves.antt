@@ -1,164 +1,114 @@
--- Prints without a tree in them are one element each, wherever they stand.
-use Rattle.std.proofs.Common.{◌≡◌, ℕ, ℤ, Bool, true, false, ◌&&◌, ◌==◌, IsTrue, List, [], ◌∷◌, ◌++◌, Some, refl, ap, ◌∙◌, append_assoc, append-nil, codes, map, cond}
-use Rattle.std.specs.Char.{encode_utf8}
-use Rattle.std.specs.List.{flat_map, list_all}
+-- Markup that is elements, wherever it stands; and the elements without a tree in them.
+use Rattle.std.proofs.Common.{◌≡◌, ℕ, ℤ, Bool, true, false, ◌&&◌, ◌||◌, ◌==◌, IsTrue, List, [], ◌∷◌, ◌++◌, length, Option, Some, None, refl, ap, ◌∙◌, append_assoc, append-nil, codes, map, cond}
+use Rattle.std.specs.{Char.encode_utf8, List.list_all}
 use Rattle.std.proofs.lemmas.Grind.{flat_map-append}
-use Rattle.std.proofs.lemmas.List.Folds.{list_all-append}
-use Rattle.latex2mathml_tokens.specs.Attributes.{accent_text, bool_text, variant_text}
-use Rattle.latex2mathml_tokens.specs.Escape.{content, content_byte, content_char, value}
-use Rattle.latex2mathml_trees.specs.Markup.{Name, numbered, Part, plain, attribute, open_tag, close_tag, reference, OpenElements, above, add, Runs, is_name, is_part, is_event, spell_part, spell_event, step}
-use Rattle.latex2mathml_trees.specs.MathSchema.{child_table}
-use Rattle.latex2mathml_trees.specs.Print.{error_print, letter_print, operator_print}
-use Rattle.latex2mathml_trees.specs.Width.{width_text}
-use Rattle.latex2mathml_tokens.specs.declared.attribute.Accent.{Accent}
-use Rattle.latex2mathml_tokens.specs.declared.attribute.Accent.TheVariants as accent
-use Rattle.latex2mathml_tokens.specs.declared.attribute.Variant.{Variant}
-use Rattle.latex2mathml_tokens.specs.declared.attribute.Variant.TheVariants.{Normal, Italic, Bold, BoldItalic, DoubleStruck, BoldFraktur, Script, BoldScript, Fraktur, SansSerif, BoldSansSerif, SansSerifItalic, SansSerifBoldItalic, Monospace}
-use Rattle.latex2mathml_trees.proofs.Runs.{closed, content_leads, empty_with, has_bytes, joined, opened, opened_with, parts, parts-spell, parts-valid, plain-spells, single, spelled_as}
-use Rattle.latex2mathml_trees.proofs.ValueTexts.{is_plain_byte, plain-valid, plain_width}
+use Rattle.latex2mathml_tokens.specs.{Attributes.bool_text, Attributes.variant_text, declared.attribute.Variant.TheVariants.Italic}
+use Rattle.latex2mathml_tokens.specs.{Escape.content, Escape.content_byte, Escape.content_char, declared.attribute.Variant.Variant}
+use Rattle.latex2mathml_trees.specs.Markup.{Name, Reference, numbered, plain, Attribute, attribute, open_tag, close_tag, empty_tag, reference, OpenElements, above, add, name_of, any_element, Schema, Runs, is_name, is_attribute, is_reference, is_event, spell_event, spell_reference}
+use Rattle.latex2mathml_trees.specs.{MathSchema.child_table, Print.error_print, Print.letter_print, Print.operator_print, Width.width_text}
+use Rattle.latex2mathml_trees.proofs.Runs.{content_leads, joined, more, obeying, single, spelled_as}
+use Rattle.latex2mathml_trees.proofs.ValueTexts.{beside, no_text, plain_before, plain_width}
 
--- the bytes are one element that obeys the child table, wherever they stand
-abbrev pub IsChild : List ℕ → Type 0
-IsChild bs = (n : Name) × ((s : OpenElements) → Runs child_table bs s (add n s))
+-- Strictly, elements obey the child table; otherwise no element need obey anything.
+abbrev pub schema_of : Bool → Schema
+schema_of true = child_table
+schema_of false = any_element
 
--- an element of text without attributes
-pub leaf : (n : Name) → IsTrue (is_event (open_tag n [])) → IsTrue (is_event (close_tag n)) → ((d : Bool) (s : OpenElements) → step child_table (close_tag n) (above n [] d s) ≡ Some s) → (bs : List ℕ) → IsChild (spell_event (open_tag n []) ++ (content bs ++ spell_event (close_tag n)))
-leaf n v w f bs = (n, λ s. joined (opened child_table n s v) (joined (content_leads child_table bs (above n [] false (add n s))) (closed child_table n [] (has_bytes bs) (add n s) w (f (has_bytes bs) (add n s)))))
+obeys : (strict : Bool) (parent : Option Name) (n : Name) (ks : List Name) (d : Bool) → (IsTrue strict → IsTrue (child_table parent n ks d)) → IsTrue (schema_of strict parent n ks d)
+obeys true parent n ks d h = h refl
+obeys false parent n ks d h = refl
 
-pub identifier : (bs : List ℕ) → IsChild (codes "<mi>" ++ (content bs ++ codes "</mi>"))
-identifier = leaf (codes "mi") refl refl (λ d s. refl)
+-- the bytes are elements side by side, strictly so many
+pub record AreElements (strict : Bool) (count : ℕ) (bytes : List ℕ) : Type 0 where
+  pub names : List Name
+  pub counted : IsTrue strict → length names ≡ count
+  pub leads : (s : OpenElements) → Runs (schema_of strict) bytes s (more names s)
 
-pub numeral : (bs : List ℕ) → IsChild (codes "<mn>" ++ (content bs ++ codes "</mn>"))
-numeral = leaf (codes "mn") refl refl (λ d s. refl)
+pub respelled : {strict : Bool} {count : ℕ} {a b : List ℕ} → a ≡ b → AreElements strict count a → AreElements strict count b
+respelled e x = record { names = x.names; counted = x.counted; leads = λ s. spelled_as e (x.leads s) }
 
-pub sign : (bs : List ℕ) → IsChild (codes "<mo>" ++ (content bs ++ codes "</mo>"))
-sign = leaf (codes "mo") refl refl (λ d s. refl)
+module _ (strict : Bool) where
+  pub closes : (n : Name) (ks : List Name) (d : Bool) (s : OpenElements) → IsTrue (is_name n) → (IsTrue strict → IsTrue (child_table (name_of s) n ks d)) → Runs (schema_of strict) (spell_event (close_tag n)) (above n ks d s) s
+  closes n ks d s valid h = obeying (schema_of strict) n ks d s valid (obeys strict (name_of s) n ks d h)
 
-pub wording : (bs : List ℕ) → IsChild (codes "<mtext>" ++ (content bs ++ codes "</mtext>"))
-wording = leaf (codes "mtext") refl refl (λ d s. refl)
+  -- an element, from its open tag and what leads from there to its end
+  pub tagged : (n : Name) (attributes : List Attribute) {bytes : List ℕ} → IsTrue (is_event (open_tag n attributes)) → ((s : OpenElements) → Runs (schema_of strict) bytes (above n [] false s) s) → AreElements strict 1 (spell_event (open_tag n attributes) ++ bytes)
+  tagged n attributes valid end = record {
+    names = n ∷ [];
+    counted = λ h. refl;
+    leads = λ s. joined (single (schema_of strict) (open_tag n attributes) s (above n [] false (add n s)) valid refl) (end (add n s));
+  }
 
--- an element of text with one attribute
-leaf_with : (n a : Name) → IsTrue (is_name n) → IsTrue (is_name a) → IsTrue (is_event (close_tag n)) → ((d : Bool) (s : OpenElements) → step child_table (close_tag n) (above n [] d s) ≡ Some s) → (u : List Part) (v bs : List ℕ) → IsTrue (list_all is_part u) → flat_map spell_part u ≡ v → IsChild ((codes "<" ++ (n ++ (codes " " ++ (a ++ codes "=\"")))) ++ (v ++ (codes "\">" ++ (content bs ++ spell_event (close_tag n)))))
-leaf_with n a hn ha w f u v bs hu e = (
-  n,
-  λ s. opened_with child_table n a u v (content bs ++ spell_event (close_tag n)) s (add n s)
-      (ap (λ b. b && ((is_name a && list_all is_part u) && true)) hn ∙ ap (λ b. (b && list_all is_part u) && true) ha ∙ ap (λ b. b && true) hu) e
-      (joined (content_leads child_table bs (above n [] false (add n s))) (closed child_table n [] (has_bytes bs) (add n s) w (f (has_bytes bs) (add n s)))),
-)
+  -- the bytes end an element that holds no element
+  abbrev EndText : Name → List ℕ → Type 0
+  EndText n bytes = (d : Bool) (s : OpenElements) → Runs (schema_of strict) bytes (above n [] d s) s
 
-pub variant-valid : (v : Variant) → IsTrue (list_all is_part (map plain (variant_text v)))
-variant-valid Normal = refl
-variant-valid Italic = refl
-variant-valid Bold = refl
-variant-valid BoldItalic = refl
-variant-valid DoubleStruck = refl
-variant-valid BoldFraktur = refl
-variant-valid Script = refl
-variant-valid BoldScript = refl
-variant-valid Fraktur = refl
-variant-valid SansSerif = refl
-variant-valid BoldSansSerif = refl
-variant-valid SansSerifItalic = refl
-variant-valid SansSerifBoldItalic = refl
-variant-valid Monospace = refl
+  text_ends : (n : Name) → IsTrue (is_name n) → ((parent : Option Name) (d : Bool) → IsTrue (child_table parent n [] d)) → EndText n (spell_event (close_tag n))
+  text_ends n valid fit d s = closes n [] d s valid (λ h. fit (name_of s) d)
 
-identifier_with : (bs : List ℕ) (v : Variant) → IsChild (codes "<mi mathvariant=\"" ++ (variant_text v ++ (codes "\">" ++ (content bs ++ codes "</mi>"))))
-identifier_with bs v = leaf_with (codes "mi") (codes "mathvariant") refl refl refl (λ d s. refl) (map plain (variant_text v)) (variant_text v) bs (variant-valid v) (plain-spells (variant_text v))
+  content_then : (n : Name) (bs rest : List ℕ) → EndText n rest → EndText n (content bs ++ rest)
+  content_then n bs rest end d s = let text = content_leads (schema_of strict) n [] d s bs in joined text.1 (end text.0 s)
 
-pub letter_is_child : (c : ℕ) (v : Variant) → IsChild (letter_print c v)
-letter_is_child c Italic = identifier (encode_utf8 c)
-letter_is_child c Normal = identifier_with (encode_utf8 c) Normal
-letter_is_child c Bold = identifier_with (encode_utf8 c) Bold
-letter_is_child c BoldItalic = identifier_with (encode_utf8 c) BoldItalic
-letter_is_child c DoubleStruck = identifier_with (encode_utf8 c) DoubleStruck
-letter_is_child c BoldFraktur = identifier_with (encode_utf8 c) BoldFraktur
-letter_is_child c Script = identifier_with (encode_utf8 c) Script
-letter_is_child c BoldScript = identifier_with (encode_utf8 c) BoldScript
-letter_is_child c Fraktur = identifier_with (encode_utf8 c) Fraktur
-letter_is_child c SansSerif = identifier_with (encode_utf8 c) SansSerif
-letter_is_child c BoldSansSerif = identifier_with (encode_utf8 c) BoldSansSerif
-letter_is_child c SansSerifItalic = identifier_with (encode_utf8 c) SansSerifItalic
-letter_is_child c SansSerifBoldItalic = identifier_with (encode_utf8 c) SansSerifBoldItalic
-letter_is_child c Monospace = identifier_with (encode_utf8 c) Monospace
+  reference_then : (n : Name) (r : Reference) (rest : List ℕ) → IsTrue (is_reference r) → EndText n rest → EndText n (spell_reference r ++ rest)
+  reference_then n r rest valid end d s = joined (single (schema_of strict) (reference r) (above n [] d s) (above n [] (d || true) s) valid refl) (end (d || true) s)
 
--- an operator with one attribute of plain bytes
-sign_with : (a : Name) → IsTrue (is_name a) → (v bs : List ℕ) → IsTrue (list_all is_part (map plain v)) → IsChild ((codes "<mo " ++ (a ++ codes "=\"")) ++ (v ++ (codes "\">" ++ (content bs ++ codes "</mo>"))))
-sign_with a ha v bs h = leaf_with (codes "mo") a refl ha refl (λ d s. refl) (map plain v) v bs h (plain-spells v)
+  -- an element of text
+  pub leaf : (n : Name) (attributes : List Attribute) → IsTrue (is_name n) → IsTrue (list_all is_attribute attributes) → ((parent : Option Name) (d : Bool) → IsTrue (child_table parent n [] d)) → (bs : List ℕ) → AreElements strict 1 (spell_event (open_tag n attributes) ++ (content bs ++ spell_event (close_tag n)))
+  leaf n attributes valid valids fit bs = tagged n attributes (ap (λ b. b && list_all is_attribute attributes) valid ∙ valids) (content_then n bs _ (text_ends n valid fit) false)
 
-pub operator_is_child : (c : ℕ) → IsChild (operator_print c)
-operator_is_child c =
-    elim (c == 0x2202) as (λ b. IsChild (cond b (codes "<mo mathvariant=\"italic\">" ++ (content_char 0x2202 ++ codes "</mo>")) (codes "<mo>" ++ (content_char c ++ codes "</mo>")))) [
-      | true ↦ sign_with (codes "mathvariant") refl (codes "italic") (encode_utf8 0x2202) refl
-      | false ↦ sign (encode_utf8 c)
-    ]
+  pub identifier : (bs : List ℕ) → AreElements strict 1 (codes "<mi>" ++ (content bs ++ codes "</mi>"))
+  identifier = leaf (codes "mi") [] refl refl (λ parent d. refl)
 
-pub error_is_child : (bs : List ℕ) → IsChild (error_print bs)
-unfolding wording leaf
-error_is_child bs =
-    let whole = codes "[PARSE ERROR: " ++ (bs ++ codes "]") in
-    let e : content whole ≡ codes "[PARSE ERROR: " ++ (content bs ++ codes "]") = ap (λ l. codes "[PARSE ERROR: " ++ l) (flat_map-append content_byte bs (codes "]")) in
-    (codes "mtext", λ s. spelled_as (ap (λ l. codes "<mtext>" ++ (l ++ codes "</mtext>")) e ∙ ap (λ l. codes "<mtext>[PARSE ERROR: " ++ l) (append_assoc (content bs) (codes "]") (codes "</mtext>"))) ((wording whole).1 s))
+  pub wording : (bs : List ℕ) → AreElements strict 1 (codes "<mtext>" ++ (content bs ++ codes "</mtext>"))
+  wording = leaf (codes "mtext") [] refl refl (λ parent d. refl)
 
-pub accent_is_child : (c : ℕ) (k : Accent) → IsChild (codes "<mo accent=\"" ++ (accent_text k ++ (codes "\">" ++ (content_char c ++ codes "</mo>"))))
-accent_is_child c accent.True = sign_with (codes "accent") refl (codes "true") (encode_utf8 c) refl
-accent_is_child c accent.False = sign_with (codes "accent") refl (codes "false") (encode_utf8 c) refl
+  pub sign : (attributes : List Attribute) → IsTrue (list_all is_attribute attributes) → (bs : List ℕ) → AreElements strict 1 (spell_event (open_tag (codes "mo") attributes) ++ (content bs ++ codes "</mo>"))
+  sign attributes valid = leaf (codes "mo") attributes refl valid (λ parent d. refl)
 
--- an accent is the last child, and its close tag is printed together with the next one
-pub accent_last : (end : List ℕ) (c : ℕ) (k : Accent) → codes "<mo accent=\"" ++ (accent_text k ++ (codes "\">" ++ (content_char c ++ (codes "</mo>" ++ end)))) ≡ (codes "<mo accent=\"" ++ (accent_text k ++ (codes "\">" ++ (content_char c ++ codes "</mo>")))) ++ end
-accent_last end c k = ap (λ l. codes "<mo accent=\"" ++ l) (reach (accent_text k) (codes "\">") (content_char c) (codes "</mo>") end)
-  where
-    reach : (a b c d e : List ℕ) → a ++ (b ++ (c ++ (d ++ e))) ≡ (a ++ (b ++ (c ++ d))) ++ e
-    reach a b c d e = simp append_assoc
+  pub letter_is_element : (c : ℕ) (v : Variant) → AreElements strict 1 (letter_print c v)
+  letter_is_element c Italic = identifier (encode_utf8 c)
+  letter_is_element c v = leaf (codes "mi") (attribute (codes "mathvariant") (map plain (variant_text v)) ∷ []) refl refl (λ parent d. refl) (encode_utf8 c)
 
-pub stretched_is_child : (b : Bool) (bs : List ℕ) → IsChild (codes "<mo stretchy=\"" ++ (bool_text b ++ (codes "\">" ++ (content bs ++ codes "</mo>"))))
-stretched_is_child true bs = sign_with (codes "stretchy") refl (codes "true") bs refl
-stretched_is_child false bs = sign_with (codes "stretchy") refl (codes "false") bs refl
+  pub operator_is_element : (c : ℕ) → AreElements strict 1 (operator_print c)
+  operator_is_element c =
+      elim (c == 0x2202) as (λ b. AreElements strict 1 (cond b (codes "<mo mathvariant=\"italic\">" ++ (content_char 0x2202 ++ codes "</mo>")) (codes "<mo>" ++ (content_char c ++ codes "</mo>")))) [
+        | true ↦ sign (attribute (codes "mathvariant") (map plain (codes "italic")) ∷ []) refl (encode_utf8 0x2202)
+        | false ↦ sign [] refl (encode_utf8 c)
+      ]
 
-pub space_is_child : (n : ℤ) → IsChild (codes "<mspace width=\"" ++ (width_text n ++ codes "em\"/>"))
-space_is_child n =
-    let width = width_text n ++ codes "em" in
-    let valid = plain-valid width (list_all-append is_plain_byte (width_text n) (codes "em") ∙ ap (λ b. b && true) (plain_width n)) in
-    (codes "mspace", λ s. spelled_as (ap (λ l. codes "<mspace width=\"" ++ l) (ap (λ l. l ++ codes "\"/>") (plain-spells width) ∙ append_assoc (width_text n) (codes "em") (codes "\"/>"))) (empty_with child_table (codes "mspace") (codes "width") (map plain width) s (add (codes "mspace") s) (ap (λ b. b && true) valid) refl))
+  pub stretched_is_element : (b : Bool) (bs : List ℕ) → AreElements strict 1 (codes "<mo stretchy=\"" ++ (bool_text b ++ (codes "\">" ++ (content bs ++ codes "</mo>"))))
+  stretched_is_element true bs = sign (attribute (codes "stretchy") (map plain (codes "true")) ∷ []) refl bs
+  stretched_is_element false bs = sign (attribute (codes "stretchy") (map plain (codes "false")) ∷ []) refl bs
 
--- a fence: an operator with two attributes
-pub fence : (form : List ℕ) → IsTrue (list_all is_part (map plain form)) → (bs : List ℕ) (s : OpenElements) → Runs child_table ((codes "<mo stretchy=\"true\" form=\"" ++ (form ++ codes "\">")) ++ (content bs ++ codes "</mo>")) s (add (codes "mo") s)
-fence form h bs s =
-    joined
-    (spelled_as (ap (λ l. codes "<mo stretchy=\"true\" form=\"" ++ l) (reach (flat_map spell_part (map plain form)) ∙ ap (λ l. l ++ codes "\">") (plain-spells form)))
-    (single child_table (open_tag (codes "mo") (attribute (codes "stretchy") (map plain (codes "true")) ∷ attribute (codes "form") (map plain form) ∷ [])) s (above (codes "mo") [] false (add (codes "mo") s)) (ap (λ b. b && true) h) refl))
-    (joined (content_leads child_table bs (above (codes "mo") [] false (add (codes "mo") s))) (closed child_table (codes "mo") [] (has_bytes bs) (add (codes "mo") s) refl refl))
-  where
-    reach : (u : List ℕ) → ((u ++ codes "\"") ++ []) ++ codes ">" ≡ u ++ codes "\">"
-    reach u = simp (append_assoc, append-nil)
+  pub error_is_element : (bs : List ℕ) → AreElements strict 1 (error_print bs)
+  error_is_element bs =
+      let e : content (codes "[PARSE ERROR: " ++ (bs ++ codes "]")) ≡ codes "[PARSE ERROR: " ++ (content bs ++ codes "]") = ap (λ l. codes "[PARSE ERROR: " ++ l) (flat_map-append content_byte bs (codes "]")) in
+      respelled (ap (λ l. codes "<mtext>" ++ (l ++ codes "</mtext>")) e ∙ ap (λ l. codes "<mtext>[PARSE ERROR: " ++ l) (append_assoc (content bs) (codes "]") (codes "</mtext>"))) (wording (codes "[PARSE ERROR: " ++ (bs ++ codes "]")))
 
-reach_sizes : (u q m g rest : List ℕ) → (((u ++ q) ++ (m ++ ((u ++ q) ++ []))) ++ g) ++ rest ≡ u ++ ((q ++ m) ++ (u ++ ((q ++ g) ++ rest)))
-reach_sizes u q m g rest = simp (append_assoc, append-nil)
+  pub space_is_element : (n : ℤ) → AreElements strict 1 (codes "<mspace width=\"" ++ (width_text n ++ codes "em\"/>"))
+  space_is_element n =
+      let width = beside (plain_width n) (plain_before 101 refl (plain_before 109 refl no_text)) in
+      record {
+        names = codes "mspace" ∷ [];
+        counted = λ h. refl;
+        leads = λ s. spelled_as (ap (λ l. codes "<mspace width=\"" ++ l) (reach _ _ width.spelled))
+            (single (schema_of strict) (empty_tag (codes "mspace") (attribute (codes "width") width.parts ∷ [])) s (add (codes "mspace") s) (ap (λ b. b && true) width.are_parts) (ap (λ b. cond b (Some (add (codes "mspace") s)) None) (obeys strict (name_of s) (codes "mspace") [] false (λ h. refl))));
+      }
+    where
+      reach : (u w : List ℕ) → u ≡ w ++ codes "em" → ((u ++ codes "\"") ++ []) ++ codes "/>" ≡ w ++ codes "em\"/>"
+      reach u w e = simp (append_assoc, append-nil, e)
 
--- a parenthesis of a size, which is any text
-pub sized_is_child : (z p : List ℕ) → IsChild (codes "<mrow><mo maxsize=\"" ++ (value z ++ (codes "\" minsize=\"" ++ (value z ++ (codes "\">" ++ (content p ++ codes "</mo></mrow>"))))))
-sized_is_child z p = (
-  codes "mrow",
-  λ s.
-      let inner = above (codes "mrow") [] false (add (codes "mrow") s) in
-      let u = parts z in
-      let start = single child_table (open_tag (codes "mo") (attribute (codes "maxsize") u ∷ attribute (codes "minsize") u ∷ [])) inner (above (codes "mo") [] false (add (codes "mo") inner)) (ap (λ b. b && (b && true)) (parts-valid z)) refl in
-      let rest : Runs child_table (content p ++ codes "</mo></mrow>") (above (codes "mo") [] false (add (codes "mo") inner)) (add (codes "mrow") s) = joined (content_leads child_table p (above (codes "mo") [] false (add (codes "mo") inner))) (joined (closed child_table (codes "mo") [] (has_bytes p) (add (codes "mo") inner) refl refl) (closed child_table (codes "mrow") (codes "mo" ∷ []) false (add (codes "mrow") s) refl refl)) in
-      joined (opened child_table (codes "mrow") s refl)
-      (spelled_as (ap (λ l. codes "<mo maxsize=\"" ++ l) (reach_sizes (flat_map spell_part u) (codes "\"") (codes " minsize=\"") (codes ">") (content p ++ codes "</mo></mrow>")) ∙ ap (λ w. codes "<mo maxsize=\"" ++ (w ++ (codes "\" minsize=\"" ++ (w ++ (codes "\">" ++ (content p ++ codes "</mo></mrow>")))))) (parts-spell z))
-      (joined start rest)),
-)
+  -- an element of text after a function's name stands for its application
+  pub application : AreElements strict 1 (codes "<mo>&#x2061;</mo>")
+  application = tagged (codes "mo") [] refl (reference_then (codes "mo") (numbered (codes "2061")) _ refl (text_ends (codes "mo") refl (λ parent d. refl)) false)
 
--- a letter and an operator with a slash, which is a reference
-pub slashed_identifier : (bs : List ℕ) (v : Variant) → IsChild (codes "<mi mathvariant=\"" ++ (variant_text v ++ (codes "\">" ++ (content bs ++ codes "&#x0338;</mi>"))))
-slashed_identifier bs v = (
-  codes "mi",
-  λ s. opened_with child_table (codes "mi") (codes "mathvariant") (map plain (variant_text v)) (variant_text v) (content bs ++ codes "&#x0338;</mi>") s (add (codes "mi") s)
-      (ap (λ b. b && true) (variant-valid v)) (plain-spells (variant_text v))
-      (joined (content_leads child_table bs (above (codes "mi") [] false (add (codes "mi") s))) (joined (single child_table (reference (numbered (codes "0338"))) _ _ refl refl) (closed child_table (codes "mi") [] _ (add (codes "mi") s) refl refl))),
-)
+  -- a letter and an operator with a slash, which is a reference
+  slash_ends : (n : Name) → IsTrue (is_name n) → ((parent : Option Name) (d : Bool) → IsTrue (child_table parent n [] d)) → (bs : List ℕ) → EndText n (content bs ++ (codes "&#x0338;" ++ spell_event (close_tag n)))
+  slash_ends n valid fit bs = content_then n bs _ (reference_then n (numbered (codes "0338")) _ refl (text_ends n valid fit))
 
-pub slashed_sign : (bs : List ℕ) → IsChild (codes "<mo>" ++ (content bs ++ codes "&#x0338;</mo>"))
-slashed_sign bs = (
-  codes "mo",
-  λ s. joined (opened child_table (codes "mo") s refl) (joined (content_leads child_table bs (above (codes "mo") [] false (add (codes "mo") s))) (joined (single child_table (reference (numbered (codes "0338"))) _ _ refl refl) (closed child_table (codes "mo") [] _ (add (codes "mo") s) refl refl))),
-)
+  pub slashed_letter : (c : ℕ) (v : Variant) → AreElements strict 1 (codes "<mi mathvariant=\"" ++ (variant_text v ++ (codes "\">" ++ (content_char c ++ codes "&#x0338;</mi>"))))
+  slashed_letter c Italic = tagged (codes "mi") (attribute (codes "mathvariant") (map plain (codes "italic")) ∷ []) refl (slash_ends (codes "mi") refl (λ parent d. refl) (encode_utf8 c) false)
+  slashed_letter c v = tagged (codes "mi") (attribute (codes "mathvariant") (map plain (variant_text v)) ∷ []) refl (slash_ends (codes "mi") refl (λ parent d. refl) (encode_utf8 c) false)
+
+  pub slashed_sign : (c : ℕ) → AreElements strict 1 (codes "<mo>" ++ (content_char c ++ codes "&#x0338;</mo>"))
+  slashed_sign c = tagged (codes "mo") [] refl (slash_ends (codes "mo") refl (λ parent d. refl) (encode_utf8 c) false)

@@ -1,7 +1,7 @@
-pub mod Appended
 pub mod Cells
 pub mod Elements
 pub mod Leaves
+mod Others
 pub mod Pages
 pub mod Runs
 pub mod ValueTexts

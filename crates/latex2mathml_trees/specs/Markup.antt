@@ -1,9 +1,7 @@
 -- Markup: the events that bytes are cut into (tags, references and data), and when their elements are balanced. Nothing here
 -- knows of formulas.
 use Rattle.std.specs.Prelude.{◌≡◌, ℕ, Bool, true, false, not, ◌&&◌, ◌||◌, IsTrue, List, [], ◌∷◌, ◌++◌, Option, Some, None, option_and_then, if◌then◌else◌, codes}
-use Rattle.std.specs.Str.{bytes_eq}
-use Rattle.std.specs.Char.{is_ascii_alphabetic, is_ascii_hexdigit, is_ascii_lowercase}
-use Rattle.std.specs.List.{flat_map, list_all}
+use Rattle.std.specs.{Str.bytes_eq, Char.is_ascii_alphabetic, Char.is_ascii_hexdigit, Char.is_ascii_lowercase, List.flat_map, List.list_all}
 use Rattle.latex2mathml_tokens.specs.Among.{is_among}
 
 -- the name of an element or of an attribute, as its bytes

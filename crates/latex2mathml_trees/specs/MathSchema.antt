@@ -1,8 +1,7 @@
 -- The child table: which elements there are in the markup of a formula, what each may hold, and where it may stand. The
 -- counts are those of MathML 3.
 use Rattle.std.specs.Prelude.{ℕ, Bool, true, false, not, ◌&&◌, ◌==◌, List, [], ◌∷◌, length, Option, Some, None, if◌then◌else◌, codes}
-use Rattle.std.specs.Str.{bytes_eq}
-use Rattle.std.specs.List.{list_all}
+use Rattle.std.specs.{Str.bytes_eq, List.list_all}
 use Rattle.latex2mathml_trees.specs.Markup.{Name, Schema, IsElement}
 
 -- what an element may hold

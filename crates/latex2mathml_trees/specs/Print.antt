@@ -6,8 +6,7 @@ use Rattle.latex2mathml_trees.specs.Tree.{Tree, Trees, number, letter, operator,
 use Rattle.latex2mathml_trees.specs.Width.{width_text}
 use Rattle.latex2mathml_tokens.specs.declared.DisplayStyle.{DisplayStyle}
 use Rattle.latex2mathml_tokens.specs.declared.DisplayStyle.TheVariants.{Block, Inline}
-use Rattle.latex2mathml_tokens.specs.declared.attribute.Variant.{Variant}
-use Rattle.latex2mathml_tokens.specs.declared.attribute.Variant.TheVariants.{Italic}
+use Rattle.latex2mathml_tokens.specs.{declared.attribute.Variant.Variant, declared.attribute.Variant.TheVariants.Italic}
 
 -- a letter; italic is the browser's default
 abbrev pub letter_print : ℕ → Variant → List ℕ

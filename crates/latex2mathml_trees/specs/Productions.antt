@@ -1,13 +1,10 @@
 -- Trees that a rule of the grammar makes of its parts, if they are more than one node of the parts, and the texts of
 -- fences.
 use Rattle.std.specs.Prelude.{ℕ, ◌==◌, List, [], true, Option, Some, None, if◌then◌else◌, codes, ◌∷◌}
-use Rattle.std.specs.Char.{encode_utf8}
-use Rattle.std.specs.Str.{byte, bytes_eq}
-use Rattle.latex2mathml_tokens.specs.Tok.{Tok, Operator, Paren}
+use Rattle.std.specs.{Char.encode_utf8, Str.byte, Str.bytes_eq}
+use Rattle.latex2mathml_tokens.specs.{Tok.Tok, Tok.Operator, Tok.Paren, declared.DisplayStyle.DisplayStyle}
 use Rattle.latex2mathml_trees.specs.Tree.{Tree, Trees, operator, overset, underset, frac, row, fenced, stretched, other_operator, matrix, style, no_trees, more_trees, trees_of}
-use Rattle.latex2mathml_tokens.specs.declared.DisplayStyle.{DisplayStyle}
-use Rattle.latex2mathml_tokens.specs.declared.attribute.LineThickness.TheVariants.{Length}
-use Rattle.latex2mathml_tokens.specs.declared.attribute.ColumnAlign.{ColumnAlign}
+use Rattle.latex2mathml_tokens.specs.{declared.attribute.LineThickness.TheVariants.Length, declared.attribute.ColumnAlign.ColumnAlign}
 use Rattle.latex2mathml_tokens.specs.declared.attribute.ColumnAlign.TheVariants.{Center, Left}
 
 -- the members of a group as one tree: one member is itself, none or several are a row

@@ -1,7 +1,6 @@
 -- The width of a space, in ems, from its eighteenths: rounded to the nearest thousandth.
 use Rattle.std.specs.Prelude.{◌≡◌, ℕ, suc, ℤ, pos, negsuc, ◌+◌, ◌*◌, ◌/◌, ◌%◌, ◌<◌, List, [], ◌∷◌, ◌++◌, if◌then◌else◌, ◌==◌}
-use Rattle.std.specs.Fmt.{decimal}
-use Rattle.std.specs.Str.{byte}
+use Rattle.std.specs.{Fmt.decimal, Str.byte}
 
 -- the thousandths of an em in n eighteenths, rounded to the nearest
 abbrev pub thousandths : ℕ → ℕ

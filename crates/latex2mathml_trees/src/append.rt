@@ -1,8 +1,7 @@
 //! Markup that is appended to a text.
 ghost use Rattle.std.specs.Prelude.{◌≡◌, ◌++◌, OnOk, Some, string_bytes};
 ghost use Rattle.latex2mathml_tokens.specs.Escape.{content, content_char};
-ghost use Rattle.latex2mathml_trees.specs.Print.{print};
-ghost use Rattle.latex2mathml_trees.specs.Tree.{space, undefined};
+ghost use Rattle.latex2mathml_trees.specs.{Print.print, Tree.space, Tree.undefined};
 
 use crate::text::{needs_escape, write_escaped, write_undefined};
 use crate::width::write_space;
@@ -63,6 +62,7 @@ pub fn append_undefined(text: &str, out: &mut String) -> Result<(), AllocError>
 }
 
 /// Appends a character as contents to the text.
+#[tactic(auto, using(crate::proofs::Others::others))]
 pub fn append_content_char(c: char, text: &mut String) -> Result<(), AllocError>
     ensures { OnOk result (string_bytes text.new ≡ string_bytes text.old ++ content_char c) }
 {

@@ -1,8 +1,6 @@
 //! Texts in markup: as contents, as values of attributes, and marked as errors.
 ghost use Rattle.std.specs.Prelude.{◌≡◌, ◌++◌, codes};
-ghost use Rattle.std.specs.Char.{encode_utf8};
-ghost use Rattle.std.specs.Fmt.{WritesOnOk};
-ghost use Rattle.std.specs.List.{flat_map};
+ghost use Rattle.std.specs.{Char.encode_utf8, Fmt.WritesOnOk, List.flat_map};
 ghost use Rattle.latex2mathml_tokens.specs.Escape.{content, content_char, is_escaped, quoted, quoted_byte, value};
 ghost use Rattle.latex2mathml_trees.specs.Print.{error_print};
 
@@ -29,6 +27,7 @@ fn write_quoted<W: fmt::Write>(text: &str, f: &mut fmt::Formatter<W>) -> fmt::Re
     Ok(())
 }
 
+#[tactic(auto, using(crate::proofs::Others::others))]
 fn write_quoted_char<W: fmt::Write>(c: char, f: &mut fmt::Formatter<W>) -> fmt::Result
     ensures { WritesOnOk W.write_str_gives f.old result
         (content (flat_map quoted_byte (encode_utf8 c))) f.new }
@@ -67,6 +66,7 @@ pub(crate) fn write_escaped<W: fmt::Write>(text: &str, f: &mut fmt::Formatter<W>
 }
 
 /// Writes a character as contents.
+#[tactic(auto, using(crate::proofs::Others::others))]
 pub fn write_content_char<W: fmt::Write>(c: char, f: &mut fmt::Formatter<W>) -> fmt::Result
     ensures { WritesOnOk W.write_str_gives f.old result (content_char c) f.new }
 {
@@ -89,6 +89,7 @@ pub fn write_value<W: fmt::Write>(text: &str, f: &mut fmt::Formatter<W>) -> fmt:
     Ok(())
 }
 
+#[tactic(auto, using(crate::proofs::Others::others))]
 fn write_value_char<W: fmt::Write>(c: char, f: &mut fmt::Formatter<W>) -> fmt::Result
     ensures { WritesOnOk W.write_str_gives f.old result (value (encode_utf8 c)) f.new }
 {

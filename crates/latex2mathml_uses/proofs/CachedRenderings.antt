@@ -1,10 +1,7 @@
 -- A text has one rendering, and a map that is given renderings alone holds nothing else.
 use Rattle.std.proofs.Common.{◌≡◌, ℕ, Bool, true, false, cond, List, Option, Some, None, String, Bor, refl, sym, subst, string_bytes}
-use Rattle.std.specs.Prelude.{IfSome, option_map, option_copied}
-use Rattle.std.specs.Cmp.Lexicographic.{bytes_decides}
-use Rattle.std.specs.HashMap.{HashMap, get_by_text}
-use Rattle.std.specs.Map.{update}
-use Rattle.std.specs.Str.{bytes_eq}
+use Rattle.std.specs.{Prelude.IfSome, Prelude.option_map, Prelude.option_copied, Cmp.Lexicographic.bytes_decides}
+use Rattle.std.specs.{HashMap.HashMap, HashMap.get_by_text, Map.update, Str.bytes_eq}
 use Rattle.latex2mathml.specs.Formulas.{DisplayStyle, IsRendering, HasOneRendering}
 use Rattle.latex2mathml_uses.specs.Cached.{HoldsRenderings, IsOnlyRendering}
 

@@ -3,8 +3,7 @@ use Rattle.std.proofs.Common.{◌≢◌, ℕ, false, List, Option, Some, None, R
 use Rattle.std.specs.Prelude.{◌↔◌, IfOk, IfSome, String}
 use Rattle.latex2mathml.specs.Formulas.{DisplayStyle, HasOneRendering, IfRefused, IsFormulaRefusal, IsRendering, Refusal, refusal_of}
 use Rattle.latex2mathml.specs.declared.LatexError.{LatexError}
-use Rattle.latex2mathml_uses.specs.Cached.{IsOnlyRendering}
-use Rattle.latex2mathml_uses.specs.Checked.{HasRendering}
+use Rattle.latex2mathml_uses.specs.{Cached.IsOnlyRendering, Checked.HasRendering}
 use Rattle.latex2mathml_uses.proofs.CachedRenderings.{only_rendering}
 
 module _ (text : List ℕ) (display : DisplayStyle) (one : HasOneRendering text display) where

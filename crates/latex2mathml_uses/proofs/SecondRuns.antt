@@ -1,14 +1,9 @@
 -- What a second run of a build reads is a page without a dollar sign, so it changes nothing and refuses nothing.
 use Rattle.std.proofs.Common.{◌≡◌, ℕ, List, ◌++◌, Option, Some, None, Ok, Err, IsTrue, sym, ap, ◌∙◌, subst, append-nil}
-use Rattle.std.specs.Io.KnownBytes.{Consumes, IsAtEnd}
-use Rattle.std.specs.Prelude.{IfSome, IsUtf8}
-use Rattle.latex2mathml.specs.Documents.{IsRefusal}
-use Rattle.latex2mathml.specs.Dollars.{IsDollarFree}
-use Rattle.latex2mathml.specs.Inputs.{IsReadingOf, IsWholeText}
-use Rattle.latex2mathml.specs.Streams.{StreamState}
-use Rattle.latex2mathml.specs.declared.error.FileFault.{FileFault}
+use Rattle.std.specs.{Io.KnownBytes.Consumes, Io.KnownBytes.IsAtEnd, Prelude.IfSome, Prelude.IsUtf8}
+use Rattle.latex2mathml.specs.{Documents.IsRefusal, Dollars.IsDollarFree, Inputs.IsReadingOf, Inputs.IsWholeText, Streams.StreamState}
+use Rattle.latex2mathml.specs.{declared.error.FileFault.FileFault, declared.input.Reading.Reading}
 use Rattle.latex2mathml.specs.declared.error.FileFault.TheVariants.{List as Unlisted, Entry, TooDeep, Read, NotText, Refused, Create, Write}
-use Rattle.latex2mathml.specs.declared.input.Reading.{Reading}
 use Rattle.latex2mathml.specs.declared.input.Reading.TheVariants.{Changed, Unchanged}
 use Rattle.latex2mathml.specs.Formulas.{Refusal, refusal_of}
 use Rattle.latex2mathml_uses.specs.Builds.{IsFaultOf, page_text}

@@ -1,7 +1,6 @@
 -- What a build leaves of a document, or why it leaves nothing.
 use Rattle.std.specs.Prelude.{ℕ, List, IfSome, IsUtf8, string_bytes, ⊤}
-use Rattle.latex2mathml.specs.Documents.{IsRefusal}
-use Rattle.latex2mathml.specs.declared.error.FileFault.{FileFault}
+use Rattle.latex2mathml.specs.{Documents.IsRefusal, declared.error.FileFault.FileFault}
 use Rattle.latex2mathml.specs.declared.error.FileFault.TheVariants.{NotText, Read, Refused}
 use Rattle.latex2mathml.specs.declared.input.Reading.{Reading}
 use Rattle.latex2mathml.specs.declared.input.Reading.TheVariants.{Changed, Unchanged}

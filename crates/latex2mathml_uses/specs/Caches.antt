@@ -1,8 +1,7 @@
 -- What a cache holds.
 use Rattle.std.specs.Prelude.{ℕ, List, Option}
 use Rattle.latex2mathml.specs.Formulas.{DisplayStyle, Block, Inline}
-use Rattle.latex2mathml_uses.specs.Cached.{HoldsRenderings, text_at}
-use Rattle.latex2mathml_uses.specs.declared.cache.Cache.{Cache}
+use Rattle.latex2mathml_uses.specs.{Cached.HoldsRenderings, Cached.text_at, declared.cache.Cache.Cache}
 
 -- the markup that the cache holds for a text that is set so, where it holds one
 abbrev pub held_text : Cache → DisplayStyle → List ℕ → Option (List ℕ)

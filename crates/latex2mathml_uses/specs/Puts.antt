@@ -1,8 +1,7 @@
 -- What a writer took of a text that was not written completely.
 use Rattle.std.specs.Prelude.{ℕ, ◌<◌, List, Option, length, take}
 use Rattle.std.specs.Io.KnownBytes.{Appends}
-use Rattle.latex2mathml.specs.declared.error.FileFault.{FileFault}
-use Rattle.latex2mathml.specs.declared.error.FileFault.TheVariants.{Write}
+use Rattle.latex2mathml.specs.{declared.error.FileFault.FileFault, declared.error.FileFault.TheVariants.Write}
 
 -- the writer took the first bytes of the text, as many as the fault says and not all of them
 abbrev pub TakesStart : FileFault → List ℕ → Option (List ℕ) → Option (List ℕ) → Type 0

@@ -1,8 +1,7 @@
 -- What a page shows for a user-supplied formula.
 use Rattle.std.specs.Prelude.{◌≡◌, ◌⊎◌, ℕ, List, ◌++◌, codes}
-use Rattle.latex2mathml.specs.Print.{print}
+use Rattle.latex2mathml.specs.{Print.print, Tree.undefined}
 use Rattle.latex2mathml.specs.Formulas.{Refusal, refusal_text, IsFormulaRefusal, IsRendering, Inline}
-use Rattle.latex2mathml.specs.Tree.{undefined}
 
 -- a text that is no formula, marked as an error
 abbrev pub reason_print : List ℕ → List ℕ

@@ -1,9 +1,6 @@
 //! A build that may run again over its own output.
 ghost use Rattle.std.specs.Prelude.{◌≡◌, ℕ, List, Err, IfErr, IfOk, MatchOption, string_bytes};
-ghost use Rattle.latex2mathml.specs.Documents.{IsAnswer};
-ghost use Rattle.latex2mathml.specs.DocumentLaws.{IsOwnAnswer};
-ghost use Rattle.latex2mathml.specs.Dollars.{IsDollarFree};
-ghost use Rattle.latex2mathml.specs.Inputs.{IsReadingOf};
+ghost use Rattle.latex2mathml.specs.{Documents.IsAnswer, DocumentLaws.IsOwnAnswer, Dollars.IsDollarFree, Inputs.IsReadingOf};
 ghost use Rattle.latex2mathml.specs.Streams.{CanGoOn, Gives};
 ghost use Rattle.latex2mathml_uses.specs.Builds.{IsFaultOf, page_text};
 

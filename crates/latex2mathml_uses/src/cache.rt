@@ -1,8 +1,7 @@
 //! Renderings that are kept, so that a repeated formula is not converted again.
 ghost use Rattle.std.specs.Prelude.{◌≡◌, Some, IfOk, IfSome, option_map, string_bytes};
 ghost use Rattle.latex2mathml.specs.Formulas.{IfRefused, IsFormulaRefusal};
-ghost use Rattle.latex2mathml_uses.specs.Cached.{HoldsRenderings, IsOnlyRendering, text_at};
-ghost use Rattle.latex2mathml_uses.specs.Caches.{IsSound, held_text};
+ghost use Rattle.latex2mathml_uses.specs.{Cached.HoldsRenderings, Cached.IsOnlyRendering, Cached.text_at, Caches.IsSound, Caches.held_text};
 
 use latex2mathml::{DisplayStyle, LatexError, latex_to_mathml, laws};
 use std::alloc::Global;

@@ -1,8 +1,7 @@
 //! Formulas that are checked when they are written, and shown later.
 ghost use Rattle.std.specs.Prelude.{◌↔◌, IfOk, IsTrue, string_bytes};
 ghost use Rattle.latex2mathml.specs.Formulas.{IfRefused};
-ghost use Rattle.latex2mathml_uses.specs.Cached.{IsOnlyRendering};
-ghost use Rattle.latex2mathml_uses.specs.Checked.{HasRendering};
+ghost use Rattle.latex2mathml_uses.specs.{Cached.IsOnlyRendering, Checked.HasRendering};
 
 use latex2mathml::{DisplayStyle, LatexError, latex_to_mathml, laws};
 use std::alloc::{AllocError, Global};

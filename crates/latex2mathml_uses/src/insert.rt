@@ -1,9 +1,7 @@
 //! A page that grows at its end, and a document in a page.
 ghost use Rattle.std.specs.Prelude.{◌≡◌, ℕ, List, [], ◌++◌, IfOk, OnErr, OnOk, codes, string_bytes};
-ghost use Rattle.latex2mathml.specs.Documents.{IsAnswer, IsRefusal};
-ghost use Rattle.latex2mathml.specs.DocumentLaws.{HasElements};
-ghost use Rattle.latex2mathml.specs.Surroundings.{HasBalancedProse, HasPageProse};
-ghost use Rattle.latex2mathml.specs.Elements.{IsBalanced, IsPage};
+ghost use Rattle.latex2mathml.specs.{Documents.IsAnswer, Documents.IsRefusal, DocumentLaws.HasElements};
+ghost use Rattle.latex2mathml.specs.{Surroundings.HasBalancedProse, Surroundings.HasPageProse, Elements.IsBalanced, Elements.IsPage};
 ghost use Rattle.latex2mathml.specs.Formulas.{IfRefused, IsFormulaRefusal, IsRendering};
 
 use latex2mathml::{DisplayStyle, LatexError, latex_to_mathml, laws, replace};

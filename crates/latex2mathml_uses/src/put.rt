@@ -1,6 +1,5 @@
 //! A text written to a writer.
-ghost use Rattle.std.specs.Prelude.{IfErr, OnOk};
-ghost use Rattle.std.specs.Io.KnownBytes.{Appends};
+ghost use Rattle.std.specs.{Prelude.IfErr, Prelude.OnOk, Io.KnownBytes.Appends};
 ghost use Rattle.latex2mathml_uses.specs.Puts.{TakesStart};
 
 use latex2mathml::{FileFault, Stream, write_text};

@@ -2,8 +2,7 @@
 ghost use Rattle.std.specs.Prelude.{◌≡◌, ◌≢◌, ◌↔◌, Some, ℕ, List, IfOk, MatchOption};
 ghost use Rattle.latex2mathml.specs.Documents.{HasNoCut, IsAnswer, IsRefusal};
 ghost use Rattle.latex2mathml.specs.Formulas.{Refusal, IsFormulaRefusal, IsRendering, Inline};
-ghost use Rattle.latex2mathml_uses.specs.Mistakes.{mistake_of};
-ghost use Rattle.latex2mathml_uses.specs.declared.refusal.Mistake.TheVariants.{Dollars};
+ghost use Rattle.latex2mathml_uses.specs.{Mistakes.mistake_of, declared.refusal.Mistake.TheVariants.Dollars};
 
 use latex2mathml::{DisplayStyle, LatexError, latex_to_mathml, laws, replace};
 use std::alloc::{AllocError, Global};

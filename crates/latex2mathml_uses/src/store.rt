@@ -1,7 +1,6 @@
 //! Markup that is stored without the formulas that it was made of.
 ghost use Rattle.std.specs.Prelude.{◌≡◌, ◌++◌, IfOk, string_bytes};
-ghost use Rattle.latex2mathml.specs.Dollars.{IsDollarFree};
-ghost use Rattle.latex2mathml.specs.Elements.{IsPage};
+ghost use Rattle.latex2mathml.specs.{Dollars.IsDollarFree, Elements.IsPage};
 ghost use Rattle.latex2mathml_uses.specs.Stored.{IsStored};
 
 use latex2mathml::laws;

@@ -1,9 +1,7 @@
 //! Pages of sections that are converted once.
 ghost use Rattle.std.specs.Prelude.{◌≡◌, ◌==◌, ◌++◌, ◌↔◌, IsTrue, IfOk, string_bytes};
 ghost use Rattle.std.specs.List.{suffix_len};
-ghost use Rattle.latex2mathml.specs.Documents.{IsAnswer, IsRefusal};
-ghost use Rattle.latex2mathml.specs.DocumentLaws.{EndsInOddBackslashes};
-ghost use Rattle.latex2mathml.specs.Dollars.{backslash};
+ghost use Rattle.latex2mathml.specs.{Documents.IsAnswer, Documents.IsRefusal, DocumentLaws.EndsInOddBackslashes, Dollars.backslash};
 ghost use Rattle.latex2mathml.specs.Formulas.{IfRefused};
 ghost use Rattle.latex2mathml_uses.specs.Sections.{ShowsAnswer};
 

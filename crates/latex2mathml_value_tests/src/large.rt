@@ -82,6 +82,18 @@ fn beside(alloc: Global, is_compound: bool) -> Result<Node, AllocError> {
     }
 }
 
+/// Adds what may be beside a node, if something is.
+fn push_beside(
+    alloc: Global,
+    nodes: &mut Vec<Node>,
+    is_compound: Option<bool>,
+) -> Result<(), AllocError> {
+    if let Some(is_compound) = is_compound {
+        nodes.push(beside(alloc, is_compound)?)?;
+    }
+    Ok(())
+}
+
 /// The node between others of the list, which may be missing.
 fn between(
     alloc: Global,
@@ -90,13 +102,9 @@ fn between(
     after: Option<bool>,
 ) -> Result<Vec<Node>, AllocError> {
     let mut nodes = Vec::new(alloc);
-    if let Some(is_compound) = before {
-        nodes.push(beside(alloc, is_compound)?)?;
-    }
+    push_beside(alloc, &mut nodes, before)?;
     nodes.push(x)?;
-    if let Some(is_compound) = after {
-        nodes.push(beside(alloc, is_compound)?)?;
-    }
+    push_beside(alloc, &mut nodes, after)?;
     Ok(nodes)
 }
 
@@ -202,17 +210,20 @@ fn wide_rows(rt: HostRuntime) -> Result<(), Fail> {
 /// Around a page of memory, and past what a buffer or a limit would hold.
 const SIZES: [usize; 4] = [1, 4096, 4097, 8 << 20];
 
+fn is_copied(alloc: Global, token: &Token) -> Result<bool, AllocError> {
+    Ok(token.clone(alloc)? == *token)
+}
+
 /// `\z` is no command of the table.
 fn command_is_itself(alloc: Global, size: usize) -> Result<bool, AllocError> {
     let name = repeat(alloc, 'z', size)?;
     let token = Token::from_command(alloc, name.as_str())?;
-    let copy = token.clone(alloc)?;
-    Ok(copy == token && token == Token::Command(name))
+    let is_itself = matches!(&token, Token::Command(text) if *text == name);
+    Ok(is_itself && is_copied(alloc, &token)?)
 }
 
 fn number_is_copied(alloc: Global, size: usize) -> Result<bool, AllocError> {
-    let number = Token::Number(repeat(alloc, '7', size)?);
-    Ok(number.clone(alloc)? == number)
+    is_copied(alloc, &Token::Number(repeat(alloc, '7', size)?))
 }
 
 #[test]

@@ -1,8 +1,7 @@
 //! The files of the system as a site.
 ghost use Rattle.std.specs.Prelude.{◌≡◌, ◌<◌, ◌^◌, None, IfErr, IfOk, List, map, string_bytes};
 ghost use Rattle.std.specs.Iterator.{Drains, IsFinite, size};
-ghost use Rattle.latex2mathml.specs.Files.{IsReadingFault, IsWritingFault};
-ghost use Rattle.latex2mathml.specs.Entries.{names_of, unread_of};
+ghost use Rattle.latex2mathml.specs.{Files.IsReadingFault, Files.IsWritingFault, Entries.names_of, Entries.unread_of};
 
 use super::site::{Listing, PathKind, Site};
 use crate::error::FileFault;

@@ -1,6 +1,5 @@
 use Rattle.std.proofs.Common.{subst}
-use Rattle.latex2mathml_c.specs.Call.{IsLength}
-use Rattle.latex2mathml_c.specs.declared.Job.TheVariants.{Formula}
+use Rattle.latex2mathml_c.specs.{Call.IsLength, declared.Job.TheVariants.Formula}
 use Rattle.latex2mathml_c.proofs.Texts.{needed_length}
 use Rattle.latex2mathml_c.proofs.latex2mathml_formula.Goals as goal
 

@@ -1,18 +1,13 @@
 //! How the rule of each lexeme is begun.
 
 ghost use Rattle.std.specs.Prelude.{◌≡◌, ◌≢◌, ◌+◌, [], IfOk, IfSome, List, MatchOption, None, Some};
-ghost use Rattle.latex2mathml_formulas.specs.Frames.{with_limits};
+ghost use Rattle.latex2mathml_formulas.specs.{Frames.with_limits, Levels.Made, Openers.opens};
 ghost use Rattle.latex2mathml_formulas.specs.Grammar.{Read, a_root, core as a_core, gives, rule, sized, takes_token};
-ghost use Rattle.latex2mathml_formulas.specs.Levels.{Made};
-ghost use Rattle.latex2mathml_formulas.specs.Openers.{opens};
 ghost use Rattle.latex2mathml_formulas.specs.Steps.{Counted, Follows, GoesOnBy, HasTrees, Holds, IsStretched, level, to_do};
-ghost use Rattle.latex2mathml_trees.specs.Productions.{fence_of};
-ghost use Rattle.latex2mathml_trees.specs.Tree.{undefined};
+ghost use Rattle.latex2mathml_trees.specs.{Productions.fence_of, Tree.undefined};
 ghost use Rattle.latex2mathml_parts.specs.Forests.{trees_in};
 ghost use Rattle.latex2mathml_parts.specs.Parts.{arity, fence_text, put, top};
-ghost use Rattle.latex2mathml_tokens.specs.Lexemes.{lexeme_tok};
-ghost use Rattle.latex2mathml_tokens.specs.Names.{limit_text, size_text};
-ghost use Rattle.latex2mathml_tokens.specs.TokenText.{token_text};
+ghost use Rattle.latex2mathml_tokens.specs.{Lexemes.lexeme_tok, Names.limit_text, Names.size_text, TokenText.token_text};
 ghost use Rattle.latex2mathml_tokens.specs.declared.lexeme.Lexeme.{Lexeme};
 ghost use Rattle.latex2mathml_tokens.specs.Tok.{Tok, Begin, Left, Lim, Middle, OperatorName, Slashed, Text};
 

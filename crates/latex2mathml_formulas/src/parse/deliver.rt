@@ -5,14 +5,11 @@ ghost use Rattle.latex2mathml_formulas.specs.Frames.{after_first, tree_count, in
 ghost use Rattle.latex2mathml_formulas.specs.Grammar.{Read, after_fence_members, core as a_core, after_environment_members, stretched_or_refused, under_slash};
 ghost use Rattle.latex2mathml_formulas.specs.Levels.{Leads, Made, Accepts, end_token};
 ghost use Rattle.latex2mathml_formulas.specs.Steps.{Counted, Follows, GoesOnBy, HasTrees, Holds, last_tree_read, level, to_do, frame_weight};
-ghost use Rattle.latex2mathml_trees.specs.Productions.{stretched_operator};
-ghost use Rattle.latex2mathml_trees.specs.Tree.{Tree};
+ghost use Rattle.latex2mathml_trees.specs.{Productions.stretched_operator, Tree.Tree};
 ghost use Rattle.latex2mathml_parts.specs.Forests.{trees_in};
 ghost use Rattle.latex2mathml_parts.specs.Parts.{arity, fence_text, put, top, words_of};
-ghost use Rattle.latex2mathml_tokens.specs.Lexemes.{lexeme_tok};
-ghost use Rattle.latex2mathml_tokens.specs.Tok.{Tok};
-ghost use Rattle.latex2mathml_formulas.specs.declared.parse.frames.Due.{Due};
-ghost use Rattle.latex2mathml_formulas.specs.declared.parse.frames.GroupEnd.{GroupEnd};
+ghost use Rattle.latex2mathml_tokens.specs.{Lexemes.lexeme_tok, Tok.Tok};
+ghost use Rattle.latex2mathml_formulas.specs.{declared.parse.frames.Due.Due, declared.parse.frames.GroupEnd.GroupEnd};
 
 use crate::parse::begin::fence_of;
 use crate::parse::frames::{Frame, Group, Pair};

@@ -3,10 +3,8 @@
 //! A frame holds no tree. What was read for it are the last trees of the parser's parts.
 ghost use Rattle.std.specs.Prelude.{◌≡◌, ◌∷◌, ◌++◌, ◌+◌, ◌<◌, ◌≤◌, ◌↔◌, [], IsTrue, List, MatchBool, MatchOption, OnOk, max, sum_by, vec_len};
 ghost use Rattle.latex2mathml_formulas.specs.Frames.{awaits, end_of, innermost, one_of_pair, pair_sign, takes_script, two_of_pair, unfit};
-ghost use Rattle.latex2mathml_formulas.specs.Levels.{MayBegin, end_token};
-ghost use Rattle.latex2mathml_tokens.specs.Lexemes.{lexeme_tok};
-ghost use Rattle.latex2mathml_tokens.specs.Tok.{Tok, tok};
-ghost use Rattle.latex2mathml_formulas.specs.declared.parse.frames.GroupEnd.{GroupEnd};
+ghost use Rattle.latex2mathml_formulas.specs.{Levels.MayBegin, Levels.end_token, declared.parse.frames.GroupEnd.GroupEnd};
+ghost use Rattle.latex2mathml_tokens.specs.{Lexemes.lexeme_tok, Tok.Tok, Tok.tok};
 
 use crate::reader::mark::Sign;
 use latex2mathml_parts::kind::Kind;

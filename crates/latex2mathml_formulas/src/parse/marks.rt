@@ -2,8 +2,7 @@
 
 ghost use Rattle.std.specs.Prelude.{◌≡◌, ◌+◌, IfOk, List, Some};
 ghost use Rattle.latex2mathml_formulas.specs.Grammar.{core as a_core, first, prime, single as a_single};
-ghost use Rattle.latex2mathml_formulas.specs.Levels.{Made};
-ghost use Rattle.latex2mathml_formulas.specs.Marks.{sign_token};
+ghost use Rattle.latex2mathml_formulas.specs.{Levels.Made, Marks.sign_token};
 ghost use Rattle.latex2mathml_formulas.specs.Steps.{Counted, Follows, HasTrees, Holds, last_tree_read, level, to_do};
 ghost use Rattle.latex2mathml_tokens.specs.Tok.{Tok};
 

@@ -1,10 +1,8 @@
 //! A text, character by character and run by run.
 ghost use Rattle.std.specs.Prelude.{◌≡◌, ◌∷◌, ◌==◌, ◌++◌, ℕ, [], List, IfNone, IfSome, MatchOption};
-ghost use Rattle.std.specs.Char.{is_ascii};
-ghost use Rattle.std.specs.Str.{chars, encode_utf8_all, IsUtf8};
+ghost use Rattle.std.specs.{Char.is_ascii, Str.chars, Str.encode_utf8_all, Str.IsUtf8};
 ghost use Rattle.latex2mathml_formulas.specs.Characters;
-ghost use Rattle.latex2mathml_formulas.specs.Characters.{Stops, head};
-ghost use Rattle.latex2mathml_formulas.specs.Lexing.{in_class, IsLongestRun};
+ghost use Rattle.latex2mathml_formulas.specs.{Characters.Stops, Characters.head, Lexing.in_class, Lexing.IsLongestRun};
 
 /// The characters that make runs.
 #[derive(Debug, Clone, Copy)]

@@ -1,11 +1,9 @@
 //! The slice at the start of a text, and the lexeme that it is.
 ghost use Rattle.std.specs.Prelude.{◌≡◌, ◌≢◌, ◌≤◌, ◌∷◌, ◌||◌, [], Bool, false, not, IsFalse, Some, MatchOption};
-ghost use Rattle.std.specs.Char.{is_ascii_digit};
-ghost use Rattle.std.specs.Str.{byte, chars, IsUtf8};
-ghost use Rattle.latex2mathml_formulas.specs.Characters.{Begins, is_space};
+ghost use Rattle.std.specs.{Char.is_ascii_digit, Str.byte, Str.chars, Str.IsUtf8};
+ghost use Rattle.latex2mathml_formulas.specs.{Characters.Begins, Characters.is_space, Spelling.begins_longer, Spelling.character_token};
 ghost use Rattle.latex2mathml_formulas.specs.Lexing.{BeginsWith, BeginsWithName, BeginsWithNumber, IsStart};
 ghost use Rattle.latex2mathml_formulas.specs.Spelling;
-ghost use Rattle.latex2mathml_formulas.specs.Spelling.{begins_longer, character_token};
 ghost use Rattle.latex2mathml_tokens.specs.Lexemes.{lexeme_tok};
 
 use crate::reader::characters::{

@@ -1,7 +1,6 @@
 //! Dropping nodes of any depth.
 ghost use Rattle.std.specs.Prelude.{◌≡◌, ◌+◌, ◌<◌, IfSome, IsTrue};
-ghost use Rattle.latex2mathml_nodes.specs.Nodes.{tree, trees};
-ghost use Rattle.latex2mathml_nodes.specs.Chains.{hung, hung_in};
+ghost use Rattle.latex2mathml_nodes.specs.{Nodes.tree, Nodes.trees, Chains.hung, Chains.hung_in};
 ghost use Rattle.latex2mathml_trees.specs.Weight.{weight, weights};
 ghost use Rattle.latex2mathml_nodes.specs.Held.{weight_of_parts, chain_weight_of_parts};
 

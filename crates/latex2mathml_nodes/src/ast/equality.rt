@@ -1,8 +1,6 @@
 //! Equality of nodes.
 ghost use Rattle.std.specs.Prelude.{◌≡◌, ◌↔◌, IsTrue};
-ghost use Rattle.latex2mathml_nodes.specs.Discreteness.{same_tree, tree-discrete};
-ghost use Rattle.latex2mathml_nodes.specs.Layers.{within};
-ghost use Rattle.latex2mathml_nodes.specs.Nodes.{tree, trees};
+ghost use Rattle.latex2mathml_nodes.specs.{Discreteness.same_tree, Discreteness.tree-discrete, Layers.within, Nodes.tree, Nodes.trees};
 ghost use Rattle.latex2mathml_tokens.specs.Same.{same_laws};
 
 use crate::ast::Node;
@@ -26,10 +24,13 @@ impl PartialEq for Node {
 /// Two nodes are the same if they are of one kind, with the same values and the same nodes in them. No kind is compared
 /// with each of the others.
 #[cycle(same)]
+#[tactic(auto, using(crate::proofs::Layers::weighs))]
 fn same_contents(a: &Node, b: &Node) -> bool
     ensures { IsTrue result ↔ (tree a.now ≡ tree b.now) }
 {
-    a.kind() == b.kind() && a.value().is(b.value()) && same_inner(a.inner(), b.inner())
+    let (kind, value, inner) = a.layer();
+    let (other_kind, other_value, other_inner) = b.layer();
+    kind == other_kind && value.is(other_value) && same_inner(inner, other_inner)
 }
 
 #[cycle(same)]
@@ -48,6 +49,7 @@ fn same_inner(a: Inner, b: Inner) -> bool
 }
 
 #[cycle(same)]
+#[tactic(auto, using(crate::proofs::Chains::weights_at, crate::proofs::Members::same_lengths, crate::proofs::Members::same_at))]
 fn same_members(a: &[Node], b: &[Node]) -> bool
     ensures { IsTrue result ↔ (trees a.now ≡ trees b.now) }
 {

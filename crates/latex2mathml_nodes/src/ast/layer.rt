@@ -1,7 +1,6 @@
 //! The topmost layer of a node: its kind, the values in it, and the nodes in it.
 ghost use Rattle.std.specs.Prelude.{◌≡◌, ◌↔◌, IsTrue};
-ghost use Rattle.latex2mathml_nodes.specs.Layers.{kind_of, own, own_of, within, within_of};
-ghost use Rattle.latex2mathml_nodes.specs.Nodes.{tree};
+ghost use Rattle.latex2mathml_nodes.specs.{Layers.layer_of, Layers.own, Layers.within, Nodes.tree};
 
 use crate::ast::Node;
 use latex2mathml_tokens::DisplayStyle;
@@ -34,110 +33,51 @@ pub(crate) enum Inner<'a> {
 }
 
 impl Node {
-    /// A number for the kind of the node. A function with an argument is of a kind of its own, and so is a root with a
-    /// degree. It is no enum, because equality of 30 kinds would be proved pair by pair.
-    pub(crate) fn kind(&self) -> u8
-        ensures { result ≡ kind_of (tree self.now) }
+    /// A number for the kind of the node, what is in it besides nodes, and the nodes in it. A function with an argument is
+    /// of a kind of its own, and so is a root with a degree. The kind is no enum, because equality of 30 kinds would be
+    /// proved pair by pair.
+    pub(crate) fn layer(&self) -> (u8, Value<'_>, Inner<'_>)
+        ensures { layer_of (tree self.now) ≡ (result.0, own result.1, within result.2) }
     {
         match self {
-            Node::Number(_) => 0,
-            Node::Letter(_, _) => 1,
-            Node::Operator(_) => 2,
-            Node::Function(_, None) => 3,
-            Node::Function(_, Some(_)) => 4,
-            Node::Space(_) => 5,
-            Node::Subscript(_, _) => 6,
-            Node::Superscript(_, _) => 7,
-            Node::SubSup { .. } => 8,
-            Node::OverOp(_, _, _) => 9,
-            Node::UnderOp(_, _, _) => 10,
-            Node::Overset { .. } => 11,
-            Node::Underset { .. } => 12,
-            Node::Under(_, _) => 13,
-            Node::UnderOver { .. } => 14,
-            Node::Sqrt(Some(_), _) => 15,
-            Node::Sqrt(None, _) => 16,
-            Node::Frac(_, _, _) => 17,
-            Node::Row(_) => 18,
-            Node::Fenced { .. } => 19,
-            Node::StrechedOp(_, _) => 20,
-            Node::OtherOperator(_) => 21,
-            Node::SizedParen { .. } => 22,
-            Node::Text(_) => 23,
-            Node::Matrix(_, _) => 24,
-            Node::Ampersand => 25,
-            Node::NewLine => 26,
-            Node::Slashed(_) => 27,
-            Node::Style(_, _) => 28,
-            Node::Undefined(_) => 29,
-        }
-    }
-
-    /// What is in the node besides nodes.
-    pub(crate) fn value(&self) -> Value<'_>
-        ensures { own_of (tree self.now) ≡ own result }
-    {
-        match self {
-            Node::Number(text) => Value::Text(text),
-            Node::Function(name, _) => Value::Text(name),
-            Node::OtherOperator(text) => Value::Text(text),
-            Node::Text(text) => Value::Text(text),
-            Node::Undefined(text) => Value::Text(text),
-            Node::Fenced { opening, close, .. } => Value::Texts(opening, close),
-            Node::SizedParen { size, paren } => Value::Texts(size, paren),
-            Node::Letter(c, variant) => Value::Styled(*c, *variant),
-            Node::Operator(c) => Value::Sign(*c),
-            Node::Space(width) => Value::Width(*width),
-            Node::OverOp(c, accent, _) | Node::UnderOp(c, accent, _) => {
-                Value::Accented(*c, *accent)
-            }
-            Node::Frac(_, _, thickness) => Value::Line(*thickness),
-            Node::StrechedOp(is_stretchy, text) => Value::Stretching(*is_stretchy, text),
-            Node::Matrix(_, align) => Value::Columns(*align),
-            Node::Style(display, _) => Value::Display(*display),
-            Node::Subscript(_, _) | Node::Superscript(_, _) | Node::SubSup { .. } => Value::None,
-            Node::Overset { .. } | Node::Underset { .. } | Node::Under(_, _) => Value::None,
-            Node::UnderOver { .. } | Node::Sqrt(_, _) | Node::Row(_) => Value::None,
-            Node::Ampersand | Node::NewLine | Node::Slashed(_) => Value::None,
-        }
-    }
-
-    /// The nodes in the node.
-    pub(crate) fn inner(&self) -> Inner<'_>
-        ensures { within_of (tree self.now) ≡ within result }
-    {
-        match self {
-            Node::Number(_) | Node::Letter(_, _) | Node::Operator(_) | Node::Space(_) => {
-                Inner::None
-            }
-            Node::StrechedOp(_, _) | Node::OtherOperator(_) | Node::SizedParen { .. } => {
-                Inner::None
-            }
-            Node::Text(_) | Node::Ampersand | Node::NewLine | Node::Undefined(_) => Inner::None,
-            Node::Function(_, None) => Inner::None,
-            Node::Function(_, Some(x)) | Node::Sqrt(None, x) => Inner::One(x),
-            Node::OverOp(_, _, x) | Node::UnderOp(_, _, x) => Inner::One(x),
-            Node::Fenced { content: x, .. } | Node::Slashed(x) | Node::Style(_, x) => Inner::One(x),
-            Node::Subscript(x, y) | Node::Superscript(x, y) | Node::Under(x, y) => {
-                Inner::Two(x, y)
-            }
-            Node::Overset { over: x, target: y }
-            | Node::Underset {
-                under: x,
-                target: y,
-            } => Inner::Two(x, y),
-            Node::Sqrt(Some(x), y) | Node::Frac(x, y, _) => Inner::Two(x, y),
-            Node::SubSup {
-                target: x,
-                sub: y,
-                sup: z,
-            }
-            | Node::UnderOver {
+            Node::Number(text) => (0, Value::Text(text), Inner::None),
+            Node::Letter(c, variant) => (1, Value::Styled(*c, *variant), Inner::None),
+            Node::Operator(c) => (2, Value::Sign(*c), Inner::None),
+            Node::Function(name, None) => (3, Value::Text(name), Inner::None),
+            Node::Function(name, Some(x)) => (4, Value::Text(name), Inner::One(x)),
+            Node::Space(width) => (5, Value::Width(*width), Inner::None),
+            Node::Subscript(x, y) => (6, Value::None, Inner::Two(x, y)),
+            Node::Superscript(x, y) => (7, Value::None, Inner::Two(x, y)),
+            Node::SubSup { target, sub, sup } => (8, Value::None, Inner::Three(target, sub, sup)),
+            Node::OverOp(c, accent, x) => (9, Value::Accented(*c, *accent), Inner::One(x)),
+            Node::UnderOp(c, accent, x) => (10, Value::Accented(*c, *accent), Inner::One(x)),
+            Node::Overset { over, target } => (11, Value::None, Inner::Two(over, target)),
+            Node::Underset { under, target } => (12, Value::None, Inner::Two(under, target)),
+            Node::Under(x, y) => (13, Value::None, Inner::Two(x, y)),
+            Node::UnderOver {
                 target: x,
                 under: y,
                 over: z,
-            } => Inner::Three(x, y, z),
-            Node::Row(members) | Node::Matrix(members, _) => Inner::All(members),
+            } => (14, Value::None, Inner::Three(x, y, z)),
+            Node::Sqrt(Some(x), y) => (15, Value::None, Inner::Two(x, y)),
+            Node::Sqrt(None, x) => (16, Value::None, Inner::One(x)),
+            Node::Frac(x, y, thickness) => (17, Value::Line(*thickness), Inner::Two(x, y)),
+            Node::Row(members) => (18, Value::None, Inner::All(members)),
+            Node::Fenced {
+                opening,
+                close,
+                content,
+            } => (19, Value::Texts(opening, close), Inner::One(content)),
+            Node::StrechedOp(grows, text) => (20, Value::Stretching(*grows, text), Inner::None),
+            Node::OtherOperator(text) => (21, Value::Text(text), Inner::None),
+            Node::SizedParen { size, paren } => (22, Value::Texts(size, paren), Inner::None),
+            Node::Text(text) => (23, Value::Text(text), Inner::None),
+            Node::Matrix(members, align) => (24, Value::Columns(*align), Inner::All(members)),
+            Node::Ampersand => (25, Value::None, Inner::None),
+            Node::NewLine => (26, Value::None, Inner::None),
+            Node::Slashed(x) => (27, Value::None, Inner::One(x)),
+            Node::Style(display, x) => (28, Value::Display(*display), Inner::One(x)),
+            Node::Undefined(text) => (29, Value::Text(text), Inner::None),
         }
     }
 }

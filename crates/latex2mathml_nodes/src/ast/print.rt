@@ -2,8 +2,7 @@
 ghost use Rattle.std.specs.Prelude.{Some, ◌++◌, codes};
 ghost use Rattle.std.specs.Fmt.{WritesOnOk};
 ghost use Rattle.latex2mathml_nodes.specs.Nodes.{tree, trees};
-ghost use Rattle.latex2mathml_tokens.specs.Attributes.{accent_text, variant_text};
-ghost use Rattle.latex2mathml_tokens.specs.Escape.{content, content_char};
+ghost use Rattle.latex2mathml_tokens.specs.{Attributes.accent_text, Attributes.variant_text, Escape.content, Escape.content_char};
 ghost use Rattle.latex2mathml_trees.specs.Print.{member_print, members_print, print, prints};
 ghost use Rattle.latex2mathml_trees.specs.Tree.{applied, fenced, frac, matrix, row, sized_paren, slashed};
 

@@ -1,10 +1,8 @@
 //! Markup of parentheses and fences, as it is written.
 ghost use Rattle.std.specs.Prelude.{◌≡◌, ◌++◌, true, codes};
-ghost use Rattle.latex2mathml_trees.specs.Print.{print};
-ghost use Rattle.latex2mathml_trees.specs.Tree.{other_operator, stretched};
+ghost use Rattle.latex2mathml_trees.specs.{Print.print, Tree.other_operator, Tree.stretched};
 ghost use Rattle.latex2mathml_parts.specs.Parts.{fence_text};
-ghost use Rattle.latex2mathml_tokens.specs.Escape.{content};
-ghost use Rattle.latex2mathml_tokens.specs.Names.{paren_text};
+ghost use Rattle.latex2mathml_tokens.specs.{Escape.content, Names.paren_text};
 
 use latex2mathml_tokens::names::Paren;
 
@@ -20,13 +18,16 @@ pub(crate) struct Elements {
     pub(crate) closing: &'static str,
 }
 
+/// The elements of a parenthesis, by its text.
 macro_rules! elements {
-    ($text:literal) => {
-        Elements {
-            plain: concat!("<mo>", $text, "</mo>"),
-            stretched: concat!("<mo stretchy=\"true\">", $text, "</mo>"),
-            opening: concat!("<mrow><mo stretchy=\"true\" form=\"prefix\">", $text, "</mo>"),
-            closing: concat!("<mo stretchy=\"true\" form=\"postfix\">", $text, "</mo></mrow>"),
+    ($paren:ident, $($variant:ident => $text:literal,)*) => {
+        match $paren {
+            $(Paren::$variant => Elements {
+                plain: concat!("<mo>", $text, "</mo>"),
+                stretched: concat!("<mo stretchy=\"true\">", $text, "</mo>"),
+                opening: concat!("<mrow><mo stretchy=\"true\" form=\"prefix\">", $text, "</mo>"),
+                closing: concat!("<mo stretchy=\"true\" form=\"postfix\">", $text, "</mo></mrow>"),
+            },)*
         }
     };
 }
@@ -34,33 +35,19 @@ macro_rules! elements {
 impl Elements {
     /// The elements of this parenthesis. It is inlined, so that only the one that is used is looked up.
     #[inline(always)]
+    #[tactic(auto, unfolding(crate::proofs::Encoding::encode_utf8))]
     pub(crate) fn of(paren: Paren) -> Elements
         ensures plain { result.plain.now ≡ print (other_operator (paren_text paren)) }
         ensures stretched { result.stretched.now ≡ print (stretched true (paren_text paren)) }
         ensures opening { result.opening.now ≡ codes "<mrow><mo stretchy=\"true\" form=\"prefix\">" ++ (content (paren_text paren) ++ codes "</mo>") }
         ensures closing { result.closing.now ≡ codes "<mo stretchy=\"true\" form=\"postfix\">" ++ (content (paren_text paren) ++ codes "</mo></mrow>") }
     {
-        match paren {
-            Paren::LeftRound => elements!("("),
-            Paren::RightRound => elements!(")"),
-            Paren::LeftSquare => elements!("["),
-            Paren::RightSquare => elements!("]"),
-            Paren::Bar => elements!("|"),
-            Paren::Assign => elements!(":="),
-            Paren::LeftAngle => elements!("⟨"),
-            Paren::RightAngle => elements!("⟩"),
-            Paren::LeftBrace => elements!("{"),
-            Paren::RightBrace => elements!("}"),
-            Paren::DoubleBar => elements!("∥"),
-            Paren::LeftCeiling => elements!("⌈"),
-            Paren::RightCeiling => elements!("⌉"),
-            Paren::LeftFloor => elements!("⌊"),
-            Paren::RightFloor => elements!("⌋"),
-            Paren::LeftTortoise => elements!("⦗"),
-            Paren::RightTortoise => elements!("⦘"),
-            Paren::LeftDouble => elements!("⟦"),
-            Paren::RightDouble => elements!("⟧"),
-        }
+        elements!(paren,
+            LeftRound => "(", RightRound => ")", LeftSquare => "[", RightSquare => "]", Bar => "|",
+            Assign => ":=", LeftAngle => "⟨", RightAngle => "⟩", LeftBrace => "{", RightBrace => "}",
+            DoubleBar => "∥", LeftCeiling => "⌈", RightCeiling => "⌉", LeftFloor => "⌊", RightFloor => "⌋",
+            LeftTortoise => "⦗", RightTortoise => "⦘", LeftDouble => "⟦", RightDouble => "⟧",
+        )
     }
 }
 

@@ -1,9 +1,7 @@
 //! Groups of trees: rows and matrices.
 ghost use Rattle.std.specs.Prelude.{◌≡◌, ◌+◌, ◌<◌, ◌≤◌, ◌++◌, OnOk, length, reverse, string_bytes, sum_by, take, None};
-ghost use Rattle.latex2mathml_trees.specs.Print.{print};
-ghost use Rattle.latex2mathml_trees.specs.Tree.{trees_of};
-ghost use Rattle.latex2mathml_parts.specs.Forests.{IsPlace, tree_at, trees_at};
-ghost use Rattle.latex2mathml_parts.specs.Forms.{all_in, outer};
+ghost use Rattle.latex2mathml_trees.specs.{Print.print, Tree.trees_of};
+ghost use Rattle.latex2mathml_parts.specs.{Forests.IsPlace, Forests.tree_at, Forests.trees_at, Forms.all_in, Forms.outer};
 ghost use Rattle.latex2mathml_parts.specs.Groups.{group_close, group_open, member_in, members_in, tree_of_group};
 ghost use Rattle.latex2mathml_parts.specs.Shapes.{print_weight};
 ghost use Rattle.latex2mathml_parts.specs.Works.{AreIn, IsIn, Leaves, Writes, due, load, work_print, work_weight};
@@ -58,6 +56,7 @@ pub(crate) fn outer(style: Option<Variant>, own: Option<Variant>) -> Option<Vari
 
 impl Parts<'_> {
     /// Writes what stands before a group of so many trees, and puts them and what stands after them on the list.
+    #[tactic(auto, using(crate::proofs::Groups::group_weight, std::proofs::lemmas::Grind::common_steps))]
     pub(crate) fn write_group(
         &self,
         group: Group,
@@ -128,6 +127,7 @@ impl Parts<'_> {
     }
 
     /// Puts a work on the list.
+    #[tactic(auto, using(crate::proofs::Works::are_in_push))]
     pub(crate) fn push_work(&self, work: Work, works: &mut Vec<Work>) -> Result<(), AllocError>
         requires one { IsIn self.now work }
         requires inside { AreIn self.now works.old.items }

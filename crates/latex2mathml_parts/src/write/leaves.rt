@@ -2,20 +2,16 @@
 ghost use Rattle.std.specs.Prelude.{◌≡◌, ◌++◌, ℕ, List, [], IfOk, MatchBool, OnOk, codes, string_bytes};
 ghost use Rattle.latex2mathml_trees.specs.Print.{print};
 ghost use Rattle.latex2mathml_trees.specs.Tree.{Tree, letter, number, operator, sized_paren, slashed, space};
-ghost use Rattle.latex2mathml_parts.specs.Forms.{given, put_form};
-ghost use Rattle.latex2mathml_parts.specs.Parts.{arity, put, top};
-ghost use Rattle.latex2mathml_parts.specs.Shapes.{sign_print};
-ghost use Rattle.latex2mathml_tokens.specs.Escape.{content, content_char};
-ghost use Rattle.latex2mathml_tokens.specs.Names.{paren_text, size_text};
+ghost use Rattle.latex2mathml_parts.specs.{Forms.given, Forms.put_form, Parts.arity, Parts.put, Parts.top, Shapes.sign_print};
+ghost use Rattle.latex2mathml_tokens.specs.{Escape.content, Escape.content_char, Names.paren_text, Names.size_text};
 ghost use Rattle.latex2mathml_tokens.specs.declared.attribute.Variant.TheVariants.{Italic};
 
 use crate::form::Form;
 use crate::kind::Kind;
 use crate::write::fences::Elements;
-use crate::write::names::{function_markup, limit_markup};
 use crate::write::tables::{
-    command_operator_markup, digit_markup, greek_markup, letter_markup, letter_open,
-    operator_markup, size_open, space_markup,
+    command_operator_markup, digit_markup, function_markup, greek_markup, letter_markup,
+    letter_open, limit_markup, operator_markup, size_open, space_markup,
 };
 use latex2mathml_tokens::attribute::{Accent, Variant};
 use latex2mathml_tokens::names::{Paren, Size};
@@ -39,14 +35,7 @@ pub fn write_leaf(kind: Kind, out: &mut String) -> Result<(), AllocError>
         Kind::Function(name) => out.push_str(function_markup(name)),
         Kind::Limit(name) => out.push_str(limit_markup(name)),
         Kind::SizedParen(size, paren) => write_sized(size, paren, out),
-        Kind::Primed | Kind::Over(_, _) | Kind::Under(_, _) | Kind::Sqrt => unreachable!(),
-        Kind::Overbrace(_) | Kind::Underbrace(_) | Kind::LimitBelow(_) => unreachable!(),
-        Kind::LimitAbove(_) | Kind::LimitSub(_) | Kind::LimitSup(_) => unreachable!(),
-        Kind::LimitUnder(_) | Kind::Fenced(_, _) | Kind::Sub | Kind::Sup => unreachable!(),
-        Kind::Frac | Kind::Binom(_) | Kind::Overset | Kind::Underset => unreachable!(),
-        Kind::Root | Kind::OverbraceWith(_) | Kind::UnderbraceWith(_) => unreachable!(),
-        Kind::LimitsBelowAbove(_) | Kind::LimitsAboveBelow(_) => unreachable!(),
-        Kind::LimitsSubSup(_) | Kind::LimitsSupSub(_) => unreachable!(),
+        _ => unreachable!(),
     }
 }
 

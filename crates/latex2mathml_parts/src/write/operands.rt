@@ -2,8 +2,7 @@
 ghost use Rattle.std.specs.Prelude.{◌≡◌, ◌+◌, ◌<◌, ◌≤◌, ◌++◌, IfOk, OnOk, length, string_bytes, Option, Some};
 ghost use Rattle.latex2mathml_trees.specs.Print.{print};
 ghost use Rattle.latex2mathml_tokens.specs.declared.attribute.Variant.{Variant};
-ghost use Rattle.latex2mathml_parts.specs.Forests.{IsPlace, tree_at, trees_at};
-ghost use Rattle.latex2mathml_parts.specs.Forms.{in_style};
+ghost use Rattle.latex2mathml_parts.specs.{Forests.IsPlace, Forests.tree_at, Forests.trees_at, Forms.in_style};
 ghost use Rattle.latex2mathml_parts.specs.Parts.{arity, put, top};
 ghost use Rattle.latex2mathml_parts.specs.Shapes.{count_of, opening, operands_print, operands_weight, print_weight};
 ghost use Rattle.latex2mathml_parts.specs.Works.{AreIn, IsIn, Leaves, Writes, due, load, work_print, work_weight};
@@ -42,6 +41,7 @@ impl Parts<'_> {
 
     /// Puts operands and what stands after them on the list, but for the one that is next.
     #[inline(always)]
+    #[tactic(auto, using(crate::proofs::Styles::plain, std::proofs::lemmas::Grind::common_steps))]
     fn push_operands(
         &self,
         shape: Shape,

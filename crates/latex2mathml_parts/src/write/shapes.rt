@@ -1,21 +1,17 @@
 //! What stands around the operands of a part, by its kind.
 ghost use Rattle.std.specs.Prelude.{◌≡◌, ◌+◌, ◌<◌, ◌≤◌, ◌++◌, List, None, Option, Some};
-ghost use Rattle.latex2mathml_trees.specs.Print.{print};
-ghost use Rattle.latex2mathml_trees.specs.Tree.{Tree};
+ghost use Rattle.latex2mathml_trees.specs.{Print.print, Tree.Tree};
 ghost use Rattle.latex2mathml_tokens.specs.declared.attribute.Variant.{Variant};
-ghost use Rattle.latex2mathml_parts.specs.Forms.{in_style};
-ghost use Rattle.latex2mathml_parts.specs.Parts.{arity, put, top};
+ghost use Rattle.latex2mathml_parts.specs.{Forms.in_style, Parts.arity, Parts.put, Parts.top};
 ghost use Rattle.latex2mathml_parts.specs.Shapes.{count_of, opening, operands_print, operands_weight, print_weight};
-ghost use Rattle.latex2mathml_parts.specs.Works.{IsIn, work_print, work_weight};
-ghost use Rattle.latex2mathml_parts.specs.declared.work.Work.{Work};
-ghost use Rattle.latex2mathml_parts.specs.Forests.{Forest};
+ghost use Rattle.latex2mathml_parts.specs.{Works.IsIn, Works.work_print, Works.work_weight, declared.work.Work.Work, Forests.Forest};
 ghost use Rattle.latex2mathml_parts.specs.declared.write.shapes.Operands.{Operands};
 
 use crate::kind::Kind;
 use crate::work::Work;
 use crate::write::fences::{closing_markup, opening_markup};
-use crate::write::names::limited_markup;
-use crate::write::tables::{binomial_close, binomial_open};
+use crate::write::tables::limited_markup;
+use latex2mathml_tokens::DisplayStyle;
 
 /// The operands of a part, and their order in the markup.
 #[derive(Clone, Copy)]
@@ -39,6 +35,7 @@ pub(crate) struct Shape {
 }
 
 /// The shape of a part that has operands.
+#[tactic(auto, unfolding(crate::specs::Shapes::sign_print))]
 #[inline(always)]
 pub(crate) fn shape_of(kind: Kind) -> Shape
     requires { 0 < arity kind }
@@ -64,37 +61,38 @@ pub(crate) fn shape_of(kind: Kind) -> Shape
         Kind::Under(c, accent) => before_work("<munder>", Work::SignUnder(c, accent)),
         Kind::Overbrace(c) => before_work("<mover>", Work::BraceOver(c)),
         Kind::Underbrace(c) => before_work("<munder>", Work::BraceUnder(c)),
-        Kind::LimitBelow(c) => after_sign("<munder>", c, Operands::One, "</munder>"),
-        Kind::LimitAbove(c) => after_sign("<mover>", c, Operands::One, "</mover>"),
-        Kind::LimitSub(c) => after_sign("<msub>", c, Operands::One, "</msub>"),
-        Kind::LimitSup(c) => after_sign("<msup>", c, Operands::One, "</msup>"),
-        Kind::LimitsBelowAbove(c) => after_sign("<munderover>", c, Operands::Two, "</munderover>"),
-        Kind::LimitsAboveBelow(c) => after_sign(
-            "<munderover>",
-            c,
-            Operands::Swapped,
-            "</munderover>",
-        ),
-        Kind::LimitsSubSup(c) => after_sign("<msubsup>", c, Operands::Two, "</msubsup>"),
-        Kind::LimitsSupSub(c) => after_sign("<msubsup>", c, Operands::Swapped, "</msubsup>"),
+        Kind::LimitBelow(c) => signed("<munder>", c, Operands::One, "</munder>"),
+        Kind::LimitAbove(c) => signed("<mover>", c, Operands::One, "</mover>"),
+        Kind::LimitSub(c) => signed("<msub>", c, Operands::One, "</msub>"),
+        Kind::LimitSup(c) => signed("<msup>", c, Operands::One, "</msup>"),
+        Kind::LimitsBelowAbove(c) => signed("<munderover>", c, Operands::Two, "</munderover>"),
+        Kind::LimitsAboveBelow(c) => signed("<munderover>", c, Operands::Swapped, "</munderover>"),
+        Kind::LimitsSubSup(c) => signed("<msubsup>", c, Operands::Two, "</msubsup>"),
+        Kind::LimitsSupSub(c) => signed("<msubsup>", c, Operands::Swapped, "</msubsup>"),
         Kind::Sub => around("<msub>", Operands::Two, "</msub>"),
         Kind::Sup => around("<msup>", Operands::Two, "</msup>"),
         Kind::Frac => around("<mfrac>", Operands::Two, "</mfrac>"),
-        Kind::Binom(display) => {
-            around(
-                binomial_open(display),
-                Operands::Two,
-                binomial_close(display),
-            )
-        }
+        Kind::Binom(None) => around(
+            "<mrow><mo stretchy=\"true\" form=\"prefix\">(</mo><mfrac linethickness=\"0\">",
+            Operands::Two,
+            "</mfrac><mo stretchy=\"true\" form=\"postfix\">)</mo></mrow>",
+        ),
+        Kind::Binom(Some(DisplayStyle::Block)) => around(
+            "<mstyle displaystyle=\"true\"><mrow><mrow><mo stretchy=\"true\" form=\"prefix\">(</mo><mfrac linethickness=\"0\">",
+            Operands::Two,
+            "</mfrac><mo stretchy=\"true\" form=\"postfix\">)</mo></mrow></mrow></mstyle>",
+        ),
+        Kind::Binom(Some(DisplayStyle::Inline)) => around(
+            "<mstyle displaystyle=\"false\"><mrow><mrow><mo stretchy=\"true\" form=\"prefix\">(</mo><mfrac linethickness=\"0\">",
+            Operands::Two,
+            "</mfrac><mo stretchy=\"true\" form=\"postfix\">)</mo></mrow></mrow></mstyle>",
+        ),
         Kind::Overset => around("<mover>", Operands::Swapped, "</mover>"),
         Kind::Underset => around("<munder>", Operands::Swapped, "</munder>"),
         Kind::Root => around("<mroot>", Operands::Swapped, "</mroot>"),
         Kind::OverbraceWith(c) => around("<mover>", Operands::Labelled(c), "</mover></mover>"),
         Kind::UnderbraceWith(c) => around("<munder>", Operands::Labelled(c), "</munder></munder>"),
-        Kind::Number(_) | Kind::Letter(_, _) | Kind::Operator(_) | Kind::Paren(_) => unreachable!(),
-        Kind::Ampersand | Kind::NewLine | Kind::Space(_) | Kind::Function(_) => unreachable!(),
-        Kind::Limit(_) | Kind::SizedParen(_, _) => unreachable!(),
+        _ => unreachable!(),
     }
 }
 
@@ -113,7 +111,7 @@ fn around(before: &'static str, operands: Operands, after: &'static str) -> Shap
 
 /// The same, with an operator before the operands.
 #[inline(always)]
-fn after_sign(before: &'static str, sign: char, operands: Operands, after: &'static str) -> Shape
+fn signed(before: &'static str, sign: char, operands: Operands, after: &'static str) -> Shape
     ensures { result ≡ record { before = before.entry; sign = Some sign; operands = operands; after = Work.Markup after.entry } }
 {
     Shape {

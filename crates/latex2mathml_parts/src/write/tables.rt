@@ -1,76 +1,42 @@
-//! Markup of characters, as it is written.
+//! Markup of characters and names, as it is written.
 ghost use Rattle.std.specs.Prelude.{◌≡◌, ◌++◌, IfSome, codes};
 ghost use Rattle.latex2mathml_trees.specs.Print.{print};
-ghost use Rattle.latex2mathml_trees.specs.Tree.{letter, number, operator, space};
-ghost use Rattle.latex2mathml_tokens.specs.Attributes.{variant_text};
-ghost use Rattle.latex2mathml_tokens.specs.Escape.{content_char, value};
-ghost use Rattle.latex2mathml_tokens.specs.Names.{size_text};
-ghost use Rattle.latex2mathml_parts.specs.Shapes.{binomial_close, binomial_open};
+ghost use Rattle.latex2mathml_trees.specs.Tree.{function, letter, number, operator, space};
+ghost use Rattle.latex2mathml_tokens.specs.{Attributes.variant_text, Escape.content_char, Escape.value};
+ghost use Rattle.latex2mathml_tokens.specs.Names.{function_text, limit_text, size_text};
 ghost use Rattle.latex2mathml_tokens.specs.declared.attribute.Variant.TheVariants.{Italic};
 
-use latex2mathml_tokens::DisplayStyle;
 use latex2mathml_tokens::attribute::Variant;
-use latex2mathml_tokens::names::Size;
+use latex2mathml_tokens::names::{FunctionName, LimitName, Size};
+
+/// The element of a character between two texts, if it is one of these. Some stand there by another text.
+macro_rules! elements {
+    ($c:ident, $before:literal, $after:literal, $($char:literal)* $(; $escaped:literal => $text:literal)*) => {
+        match $c {
+            $($char => Some(concat!($before, $char, $after)),)*
+            $($escaped => Some(concat!($before, $text, $after)),)*
+            _ => None,
+        }
+    };
+}
+
+/// The text of a variant between two texts.
+macro_rules! texts {
+    ($value:ident, $before:literal, $after:literal, $of:ident, $($variant:ident => $text:literal,)*) => {
+        match $value {
+            $($of::$variant => concat!($before, $text, $after),)*
+        }
+    };
+}
 
 /// An italic letter that is ASCII.
 pub(crate) fn letter_markup(c: char) -> Option<&'static str>
     ensures { IfSome result (λ markup. markup.now ≡ print (letter c Italic)) }
 {
-    Some(match c {
-        'a' => "<mi>a</mi>",
-        'b' => "<mi>b</mi>",
-        'c' => "<mi>c</mi>",
-        'd' => "<mi>d</mi>",
-        'e' => "<mi>e</mi>",
-        'f' => "<mi>f</mi>",
-        'g' => "<mi>g</mi>",
-        'h' => "<mi>h</mi>",
-        'i' => "<mi>i</mi>",
-        'j' => "<mi>j</mi>",
-        'k' => "<mi>k</mi>",
-        'l' => "<mi>l</mi>",
-        'm' => "<mi>m</mi>",
-        'n' => "<mi>n</mi>",
-        'o' => "<mi>o</mi>",
-        'p' => "<mi>p</mi>",
-        'q' => "<mi>q</mi>",
-        'r' => "<mi>r</mi>",
-        's' => "<mi>s</mi>",
-        't' => "<mi>t</mi>",
-        'u' => "<mi>u</mi>",
-        'v' => "<mi>v</mi>",
-        'w' => "<mi>w</mi>",
-        'x' => "<mi>x</mi>",
-        'y' => "<mi>y</mi>",
-        'z' => "<mi>z</mi>",
-        'A' => "<mi>A</mi>",
-        'B' => "<mi>B</mi>",
-        'C' => "<mi>C</mi>",
-        'D' => "<mi>D</mi>",
-        'E' => "<mi>E</mi>",
-        'F' => "<mi>F</mi>",
-        'G' => "<mi>G</mi>",
-        'H' => "<mi>H</mi>",
-        'I' => "<mi>I</mi>",
-        'J' => "<mi>J</mi>",
-        'K' => "<mi>K</mi>",
-        'L' => "<mi>L</mi>",
-        'M' => "<mi>M</mi>",
-        'N' => "<mi>N</mi>",
-        'O' => "<mi>O</mi>",
-        'P' => "<mi>P</mi>",
-        'Q' => "<mi>Q</mi>",
-        'R' => "<mi>R</mi>",
-        'S' => "<mi>S</mi>",
-        'T' => "<mi>T</mi>",
-        'U' => "<mi>U</mi>",
-        'V' => "<mi>V</mi>",
-        'W' => "<mi>W</mi>",
-        'X' => "<mi>X</mi>",
-        'Y' => "<mi>Y</mi>",
-        'Z' => "<mi>Z</mi>",
-        _ => return None,
-    })
+    elements!(c, "<mi>", "</mi>",
+        'a' 'b' 'c' 'd' 'e' 'f' 'g' 'h' 'i' 'j' 'k' 'l' 'm' 'n' 'o' 'p' 'q' 'r' 's' 't' 'u' 'v' 'w' 'x' 'y' 'z'
+        'A' 'B' 'C' 'D' 'E' 'F' 'G' 'H' 'I' 'J' 'K' 'L' 'M' 'N' 'O' 'P' 'Q' 'R' 'S' 'T' 'U' 'V' 'W' 'X' 'Y' 'Z'
+    )
 }
 
 /// An italic letter that is Greek.
@@ -78,61 +44,19 @@ pub(crate) fn letter_markup(c: char) -> Option<&'static str>
 pub(crate) fn greek_markup(c: char) -> Option<&'static str>
     ensures { IfSome result (λ markup. markup.now ≡ print (letter c Italic)) }
 {
-    match c {
-        'α' => Some("<mi>α</mi>"),
-        'β' => Some("<mi>β</mi>"),
-        'γ' => Some("<mi>γ</mi>"),
-        'δ' => Some("<mi>δ</mi>"),
-        'ε' => Some("<mi>ε</mi>"),
-        'ζ' => Some("<mi>ζ</mi>"),
-        'η' => Some("<mi>η</mi>"),
-        'θ' => Some("<mi>θ</mi>"),
-        'ι' => Some("<mi>ι</mi>"),
-        'κ' => Some("<mi>κ</mi>"),
-        'λ' => Some("<mi>λ</mi>"),
-        'μ' => Some("<mi>μ</mi>"),
-        'ν' => Some("<mi>ν</mi>"),
-        'ξ' => Some("<mi>ξ</mi>"),
-        'ο' => Some("<mi>ο</mi>"),
-        'π' => Some("<mi>π</mi>"),
-        'ρ' => Some("<mi>ρ</mi>"),
-        'ς' => Some("<mi>ς</mi>"),
-        'σ' => Some("<mi>σ</mi>"),
-        'τ' => Some("<mi>τ</mi>"),
-        'υ' => Some("<mi>υ</mi>"),
-        'φ' => Some("<mi>φ</mi>"),
-        'χ' => Some("<mi>χ</mi>"),
-        'ψ' => Some("<mi>ψ</mi>"),
-        'ω' => Some("<mi>ω</mi>"),
-        'ϑ' => Some("<mi>ϑ</mi>"),
-        'ϕ' => Some("<mi>ϕ</mi>"),
-        'ϖ' => Some("<mi>ϖ</mi>"),
-        'ϱ' => Some("<mi>ϱ</mi>"),
-        'ϵ' => Some("<mi>ϵ</mi>"),
-        _ => None,
-    }
+    elements!(c, "<mi>", "</mi>",
+        'α' 'β' 'γ' 'δ' 'ε' 'ζ' 'η' 'θ' 'ι' 'κ' 'λ' 'μ' 'ν' 'ξ' 'ο' 'π' 'ρ' 'ς' 'σ' 'τ'
+        'υ' 'φ' 'χ' 'ψ' 'ω' 'ϑ' 'ϕ' 'ϖ' 'ϱ' 'ϵ'
+    )
 }
 
 /// An operator that is ASCII and has no command.
 pub(crate) fn operator_markup(c: char) -> Option<&'static str>
     ensures { IfSome result (λ markup. markup.now ≡ print (operator c)) }
 {
-    Some(match c {
-        '=' => "<mo>=</mo>",
-        '<' => "<mo>&lt;</mo>",
-        '>' => "<mo>&gt;</mo>",
-        '+' => "<mo>+</mo>",
-        '-' => "<mo>-</mo>",
-        '*' => "<mo>*</mo>",
-        '/' => "<mo>/</mo>",
-        ';' => "<mo>;</mo>",
-        ',' => "<mo>,</mo>",
-        '.' => "<mo>.</mo>",
-        '!' => "<mo>!</mo>",
-        '\'' => "<mo>'</mo>",
-        ':' => "<mo>:</mo>",
-        _ => return None,
-    })
+    elements!(c, "<mo>", "</mo>",
+        '=' '+' '-' '*' '/' ';' ',' '.' '!' '\'' ':'; '<' => "&lt;"; '>' => "&gt;"
+    )
 }
 
 /// An operator of a frequent command.
@@ -140,19 +64,7 @@ pub(crate) fn operator_markup(c: char) -> Option<&'static str>
 pub(crate) fn command_operator_markup(c: char) -> Option<&'static str>
     ensures { IfSome result (λ markup. markup.now ≡ codes "<mo>" ++ (content_char c ++ codes "</mo>")) }
 {
-    match c {
-        '±' => Some("<mo>±</mo>"),
-        '·' => Some("<mo>·</mo>"),
-        '×' => Some("<mo>×</mo>"),
-        '→' => Some("<mo>→</mo>"),
-        '∈' => Some("<mo>∈</mo>"),
-        '−' => Some("<mo>−</mo>"),
-        '∗' => Some("<mo>∗</mo>"),
-        '≠' => Some("<mo>≠</mo>"),
-        '≤' => Some("<mo>≤</mo>"),
-        '≥' => Some("<mo>≥</mo>"),
-        _ => None,
-    }
+    elements!(c, "<mo>", "</mo>", '±' '·' '×' '→' '∈' '−' '∗' '≠' '≤' '≥')
 }
 
 /// A number of one digit.
@@ -176,23 +88,18 @@ pub(crate) fn digit_markup(digits: &[u8]) -> Option<&'static str>
 }
 
 /// A space of a width that a command has.
+#[tactic(auto, unfolding(crate::proofs::Encoding::digits))]
 pub(crate) fn space_markup(width: i32) -> Option<&'static str>
     ensures { IfSome result (λ markup. markup.now ≡ print (space width)) }
 {
-    if width == 3 {
-        Some("<mspace width=\"0.167em\"/>")
-    } else if width == 4 {
-        Some("<mspace width=\"0.222em\"/>")
-    } else if width == 5 {
-        Some("<mspace width=\"0.278em\"/>")
-    } else if width == 18 {
-        Some("<mspace width=\"1em\"/>")
-    } else if width == 36 {
-        Some("<mspace width=\"2em\"/>")
-    } else if width == -3 {
-        Some("<mspace width=\"-0.167em\"/>")
-    } else {
-        None
+    match width {
+        3 => Some("<mspace width=\"0.167em\"/>"),
+        4 => Some("<mspace width=\"0.222em\"/>"),
+        5 => Some("<mspace width=\"0.278em\"/>"),
+        18 => Some("<mspace width=\"1em\"/>"),
+        36 => Some("<mspace width=\"2em\"/>"),
+        -3 => Some("<mspace width=\"-0.167em\"/>"),
+        _ => None,
     }
 }
 
@@ -200,22 +107,13 @@ pub(crate) fn space_markup(width: i32) -> Option<&'static str>
 pub(crate) fn letter_open(variant: Variant) -> &'static str
     ensures { result.now ≡ codes "<mi mathvariant=\"" ++ (variant_text variant ++ codes "\">") }
 {
-    match variant {
-        Variant::Normal => "<mi mathvariant=\"normal\">",
-        Variant::Italic => "<mi mathvariant=\"italic\">",
-        Variant::Bold => "<mi mathvariant=\"bold\">",
-        Variant::BoldItalic => "<mi mathvariant=\"bold-italic\">",
-        Variant::DoubleStruck => "<mi mathvariant=\"double-struck\">",
-        Variant::BoldFraktur => "<mi mathvariant=\"bold-fraktur\">",
-        Variant::Script => "<mi mathvariant=\"script\">",
-        Variant::BoldScript => "<mi mathvariant=\"bold-script\">",
-        Variant::Fraktur => "<mi mathvariant=\"fraktur\">",
-        Variant::SansSerif => "<mi mathvariant=\"sans-serif\">",
-        Variant::BoldSansSerif => "<mi mathvariant=\"bold-sans-serif\">",
-        Variant::SansSerifItalic => "<mi mathvariant=\"sans-serif-italic\">",
-        Variant::SansSerifBoldItalic => "<mi mathvariant=\"sans-serif-bold-italic\">",
-        Variant::Monospace => "<mi mathvariant=\"monospace\">",
-    }
+    texts!(variant, "<mi mathvariant=\"", "\">", Variant,
+        Normal => "normal", Italic => "italic", Bold => "bold", BoldItalic => "bold-italic",
+        DoubleStruck => "double-struck", BoldFraktur => "bold-fraktur", Script => "script",
+        BoldScript => "bold-script", Fraktur => "fraktur", SansSerif => "sans-serif",
+        BoldSansSerif => "bold-sans-serif", SansSerifItalic => "sans-serif-italic",
+        SansSerifBoldItalic => "sans-serif-bold-italic", Monospace => "monospace",
+    )
 }
 
 /// The tag before a parenthesis of this size.
@@ -231,25 +129,39 @@ pub(crate) fn size_open(size: Size) -> &'static str
     }
 }
 
-/// What stands before the two numbers of a binomial coefficient.
-pub(crate) fn binomial_open(display: Option<DisplayStyle>) -> &'static str
-    ensures { result.now ≡ binomial_open display }
+/// The name of a function.
+#[tactic(auto, unfolding(crate::proofs::Encoding::encode_utf8))]
+pub(crate) fn function_markup(name: FunctionName) -> &'static str
+    ensures { result.now ≡ print (function (function_text name)) }
 {
-    match display {
-        None => "<mrow><mo stretchy=\"true\" form=\"prefix\">(</mo><mfrac linethickness=\"0\">",
-        Some(DisplayStyle::Block) =>
-            "<mstyle displaystyle=\"true\"><mrow><mrow><mo stretchy=\"true\" form=\"prefix\">(</mo><mfrac linethickness=\"0\">",
-        Some(DisplayStyle::Inline) =>
-            "<mstyle displaystyle=\"false\"><mrow><mrow><mo stretchy=\"true\" form=\"prefix\">(</mo><mfrac linethickness=\"0\">",
-    }
+    texts!(name, "<mi>", "</mi>", FunctionName,
+        Arccos => "arccos", Arcsin => "arcsin", Arctan => "arctan", Arg => "arg", Cos => "cos", Cosh => "cosh",
+        Cot => "cot", Coth => "coth", Csc => "csc", Det => "det", Dim => "dim", Erf => "erf", Erfc => "erfc",
+        Exp => "exp", Ker => "ker", Ln => "ln", Log => "log", Sec => "sec", Sin => "sin", Sinh => "sinh",
+        Tan => "tan", Tanh => "tanh", WeierstrassP => "℘",
+    )
 }
 
-/// What stands after the two numbers of a binomial coefficient.
-pub(crate) fn binomial_close(display: Option<DisplayStyle>) -> &'static str
-    ensures { result.now ≡ binomial_close display }
+/// The names of functions that take a limit, between two texts.
+macro_rules! limits {
+    ($name:ident, $before:literal, $after:literal) => {
+        texts!($name, $before, $after, LimitName,
+            Lim => "lim", LimInf => "lim inf", LimSup => "lim sup", Min => "min", Max => "max", Inf => "inf",
+            Sup => "sup",
+        )
+    };
+}
+
+/// The name of a function that takes a limit.
+pub(crate) fn limit_markup(name: LimitName) -> &'static str
+    ensures { result.now ≡ print (function (limit_text name)) }
 {
-    match display {
-        None => "</mfrac><mo stretchy=\"true\" form=\"postfix\">)</mo></mrow>",
-        Some(_) => "</mfrac><mo stretchy=\"true\" form=\"postfix\">)</mo></mrow></mrow></mstyle>",
-    }
+    limits!(name, "<mi>", "</mi>")
+}
+
+/// The same, and what stands before it where it has a limit.
+pub(crate) fn limited_markup(name: LimitName) -> &'static str
+    ensures { result.now ≡ codes "<munder>" ++ print (function (limit_text name)) }
+{
+    limits!(name, "<munder><mi>", "</mi>")
 }

@@ -1,7 +1,6 @@
 //! Where the entries of the command table stand whose names begin with a byte.
 ghost use Rattle.std.specs.Prelude.{◌≡◌, ◌<◌, IsTrue, length};
-ghost use Rattle.latex2mathml_tokens.specs.Commands.{command_entries};
-ghost use Rattle.latex2mathml_tokens.specs.Index.{divides, stand_between};
+ghost use Rattle.latex2mathml_tokens.specs.{Commands.command_entries, Index.divides, Index.stand_between};
 
 /// Returns two places of the table: each entry whose name begins with this byte stands from the first on and before the
 /// second. Where no name begins so, both are the same.

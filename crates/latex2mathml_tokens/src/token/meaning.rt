@@ -1,9 +1,7 @@
 //! What an entry of the command table stands for, without allocated memory. An entry holds no text but its name. Enums
 //! name the other texts, because a table with two texts per entry is too large for the prover.
 ghost use Rattle.std.specs.Prelude.{◌≡◌};
-ghost use Rattle.latex2mathml_tokens.specs.Entries.{bare_token, meaning_token};
-ghost use Rattle.latex2mathml_tokens.specs.Lexemes.{lexeme_tok};
-ghost use Rattle.latex2mathml_tokens.specs.Tok.{tok};
+ghost use Rattle.latex2mathml_tokens.specs.{Entries.bare_token, Entries.meaning_token, Lexemes.lexeme_tok, Tok.tok};
 
 use crate::DisplayStyle;
 use crate::attribute::{Accent, Variant};

@@ -1,11 +1,7 @@
 //! The look-up in the command table.
 ghost use Rattle.std.specs.Prelude.{◌≡◌, ◌+◌, ◌<◌, ◌≤◌, ◌^◌, map, get_or, length, MatchOption, IsTrue, Some, None};
-ghost use Rattle.std.specs.List.{AllPass};
-ghost use Rattle.std.specs.Ordering.{nat_cmp};
-ghost use Rattle.std.specs.Cmp.Lexicographic.{slice_cmp};
-ghost use Rattle.latex2mathml_tokens.specs.Commands.{command_entries, entry_token};
-ghost use Rattle.latex2mathml_tokens.specs.Ordered.{ascending};
-ghost use Rattle.latex2mathml_tokens.specs.Entries.{entry_of};
+ghost use Rattle.std.specs.{List.AllPass, Ordering.nat_cmp, Cmp.Lexicographic.slice_cmp};
+ghost use Rattle.latex2mathml_tokens.specs.{Commands.command_entries, Commands.entry_token, Ordered.ascending, Entries.entry_of};
 ghost use Rattle.latex2mathml_tokens.specs.Keys.{has_key, is_key};
 
 use crate::token::index::places;

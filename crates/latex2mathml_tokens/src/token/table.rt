@@ -1,9 +1,7 @@
 //! The command table.
 ghost use Rattle.std.specs.Prelude.{◌≡◌, IsTrue, map};
 ghost use Rattle.std.specs.List.{list_all};
-ghost use Rattle.latex2mathml_tokens.specs.Commands.{command_entries};
-ghost use Rattle.latex2mathml_tokens.specs.Entries.{entry_of};
-ghost use Rattle.latex2mathml_tokens.specs.Keys.{has_key};
+ghost use Rattle.latex2mathml_tokens.specs.{Commands.command_entries, Entries.entry_of, Keys.has_key};
 
 use crate::DisplayStyle;
 use crate::attribute::Variant;

@@ -1,9 +1,6 @@
 //! The text of a token, as refusals and marked errors name it.
-ghost use Rattle.std.specs.Prelude.{Some};
-ghost use Rattle.std.specs.Char.{encode_utf8};
-ghost use Rattle.std.specs.List.{flat_map};
-ghost use Rattle.latex2mathml_tokens.specs.Escape.{quoted, quoted_byte, quoted_char};
-ghost use Rattle.latex2mathml_tokens.specs.Tok.{tok};
+ghost use Rattle.std.specs.{Prelude.Some, Char.encode_utf8, List.flat_map};
+ghost use Rattle.latex2mathml_tokens.specs.{Escape.quoted, Escape.quoted_byte, Escape.quoted_char, Tok.tok};
 ghost use Rattle.latex2mathml_tokens.specs.TokenText.{accent_name, token_text, variant_name};
 
 use crate::DisplayStyle;

@@ -1,6 +1,5 @@
 use Rattle.std.proofs.Common.{List}
-use Rattle.latex2mathml.specs.Documents.{Piece}
-use Rattle.latex2mathml.specs.Pieces.{IsFront}
+use Rattle.latex2mathml.specs.{Documents.Piece, Pieces.IsFront}
 use Rattle.latex2mathml.proofs.document.check_cut.Given as goal
 
 abbrev pub invariant-loop-piece : goal.invariant-loop-piece

@@ -1,6 +1,5 @@
-use Rattle.std.proofs.Common.{inl, inr, arith}
+use Rattle.std.proofs.{Common.inl, Common.inr, Common.arith, lemmas.Str.Pattern.strip_prefix_char}
 use Rattle.std.specs.Prelude.{Some, None}
-use Rattle.std.proofs.lemmas.Str.Pattern.{strip_prefix_char}
 use Rattle.latex2mathml.proofs.Cuts.{no_display, no_inline, begins_with_prose, if_none, strip_two, nothing_in}
 use Rattle.latex2mathml.proofs.document.first_piece.Goals as goal
 

@@ -1,5 +1,4 @@
-use Rattle.std.proofs.Common.{arith}
-use Rattle.std.proofs.lemmas.Str.Pattern.{ends_char}
+use Rattle.std.proofs.{Common.arith, lemmas.Str.Pattern.ends_char}
 use Rattle.latex2mathml.specs.Documents.{whole}
 use Rattle.latex2mathml_formulas.specs.Dollars.{backslash}
 use Rattle.latex2mathml.proofs.PlainTexts.{ends_whole, unended}

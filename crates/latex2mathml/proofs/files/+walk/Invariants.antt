@@ -1,6 +1,5 @@
 use Rattle.std.proofs.Common.{◌≡◌, ◌++◌, ◌-◌, List, take}
-use Rattle.latex2mathml.specs.Files.{Answer, Answered, ListsEach}
-use Rattle.latex2mathml.specs.declared.files.Unconverted.{Unconverted}
+use Rattle.latex2mathml.specs.{Files.Answer, Files.Answered, Files.ListsEach, declared.files.Unconverted.Unconverted}
 use Rattle.latex2mathml.proofs.files.+walk.Given as goal
 
 abbrev pub decreases-walk : goal.decreases-walk

@@ -1,8 +1,6 @@
 -- so many entries were added
 use Rattle.std.proofs.Common.{◌≡◌, ◌++◌, List, All, length}
-use Rattle.latex2mathml.specs.Files.{IsListed}
-use Rattle.latex2mathml.specs.declared.error.FileFault.TheVariants.{Entry}
-use Rattle.latex2mathml.specs.declared.files.Unconverted.{Unconverted}
+use Rattle.latex2mathml.specs.{Files.IsListed, declared.error.FileFault.TheVariants.Entry, declared.files.Unconverted.Unconverted}
 use Rattle.latex2mathml.proofs.files.add_unread.Given as goal
 
 abbrev pub invariant-loop-entry : goal.invariant-loop-entry

@@ -1,9 +1,5 @@
-use Rattle.latex2mathml.proofs.Cuts.{one_cut_lem}
-use Rattle.latex2mathml.proofs.Joining.{joined}
-use Rattle.latex2mathml.proofs.MathPieces.{elements}
-use Rattle.latex2mathml.proofs.Outcomes.{for_dollars, one_outcome}
-use Rattle.latex2mathml.proofs.Repeating.{repeated}
-use Rattle.latex2mathml.proofs.Surrounding.{balanced_answer, page_answer}
+use Rattle.latex2mathml.proofs.{Cuts.one_cut_lem, Joining.joined, MathPieces.elements, Outcomes.for_dollars, Outcomes.one_outcome}
+use Rattle.latex2mathml.proofs.{Repeating.repeated, Surrounding.balanced_answer, Surrounding.page_answer}
 use Rattle.latex2mathml.proofs.laws.answers.Goals as goal
 
 pub returns : goal.returns

@@ -1,6 +1,5 @@
 use Rattle.std.specs.Str.{chars}
-use Rattle.latex2mathml_formulas.proofs.OneList.{has_one_list}
-use Rattle.latex2mathml_formulas.proofs.OneReading.{has_one_reading}
+use Rattle.latex2mathml_formulas.proofs.{OneList.has_one_list, Total.has_one_reading}
 use Rattle.latex2mathml_formulas.proofs.laws.one_reading.Goals as goal
 
 pub returns : goal.returns

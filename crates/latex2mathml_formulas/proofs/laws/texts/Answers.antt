@@ -1,5 +1,4 @@
-use Rattle.latex2mathml_formulas.proofs.OneList.{has_one_list}
-use Rattle.latex2mathml_formulas.proofs.OneReading.{has_one_reading}
+use Rattle.latex2mathml_formulas.proofs.{OneList.has_one_list, Total.has_one_reading}
 use Rattle.latex2mathml_formulas.proofs.WhiteSpace.{has_places, space_changes_nothing}
 use Rattle.latex2mathml_formulas.proofs.laws.texts.Goals as goal
 

@@ -1,5 +1,4 @@
-use Rattle.std.specs.Fmt.{HasWritten, IsPlainFormatter}
-use Rattle.std.specs.List.{flat_map}
+use Rattle.std.specs.{Fmt.HasWritten, Fmt.IsPlainFormatter, List.flat_map}
 use Rattle.latex2mathml_tokens.specs.Escape.{content_char}
 use Rattle.latex2mathml_trees.proofs.text.write_escaped.Given as goal
 

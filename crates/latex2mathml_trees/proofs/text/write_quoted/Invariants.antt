@@ -1,6 +1,4 @@
-use Rattle.std.specs.Char.{encode_utf8}
-use Rattle.std.specs.Fmt.{HasWritten, IsPlainFormatter}
-use Rattle.std.specs.List.{flat_map}
+use Rattle.std.specs.{Char.encode_utf8, Fmt.HasWritten, Fmt.IsPlainFormatter, List.flat_map}
 use Rattle.latex2mathml_tokens.specs.Escape.{content, quoted_byte}
 use Rattle.latex2mathml_trees.proofs.text.write_quoted.Given as goal
 

@@ -1,26 +1,18 @@
-use Rattle.std.proofs.Common.{◌/◌, ◌%◌, ◌∷◌, ◌++◌, ap, arith, rules}
-use Rattle.std.specs.Fmt.{decimal}
-use Rattle.std.proofs.Output.{has_written_append, has_written_of_eq}
-use Rattle.latex2mathml_trees.proofs.Widths.{three_after_point, two_after_point, one_after_point}
+use Rattle.std.proofs.{Common.refl, Common.arith, Output.has_written_append, Output.has_written_of_eq}
+use Rattle.latex2mathml_trees.proofs.Widths.{three_digits_left, two_digits_left, one_digit_left}
 use Rattle.latex2mathml_trees.proofs.width.write_thousandths.Goals as goal
 
 pub returns-then-c-ne0 : goal.returns-then-c-ne0
 returns-then-c-ne0 g c = λ plain ok.
-    let t = c.args.number in
-    let n = t % 1000 in
-    has_written_of_eq _ _ _ _ _ (ap (λ l. decimal (t / 1000) ++ l) (three_after_point n (omega arith)))
-    (has_written_append _ _ (decimal (t / 1000)) c.write.new.self (46 ∷ (decimal (n / 100 % 10) ++ (decimal (n / 10 % 10) ++ decimal (n % 10)))) _ (search rules) (search rules))
+    let whole = c.in_ok-write.ensures.writes plain refl in
+    has_written_of_eq _ _ _ _ _ (three_digits_left c.args.number (omega arith)) (has_written_append _ _ _ _ _ _ whole (c.write-then-c-ne0.ensures.writes whole.plain ok))
 
 pub returns-then-b-ne0 : goal.returns-then-b-ne0
 returns-then-b-ne0 g c = λ plain ok.
-    let t = c.args.number in
-    let n = t % 1000 in
-    has_written_of_eq _ _ _ _ _ (ap (λ l. decimal (t / 1000) ++ l) (two_after_point n (omega arith) (omega arith)))
-    (has_written_append _ _ (decimal (t / 1000)) c.write.new.self (46 ∷ (decimal (n / 100 % 10) ++ decimal (n / 10 % 10))) _ (search rules) (search rules))
+    let whole = c.in_ok-write.ensures.writes plain refl in
+    has_written_of_eq _ _ _ _ _ (two_digits_left c.args.number (omega arith) (omega arith)) (has_written_append _ _ _ _ _ _ whole (c.write-then-b-ne0.ensures.writes whole.plain ok))
 
 pub returns-then-a-ne0 : goal.returns-then-a-ne0
 returns-then-a-ne0 g c = λ plain ok.
-    let t = c.args.number in
-    let n = t % 1000 in
-    has_written_of_eq _ _ _ _ _ (ap (λ l. decimal (t / 1000) ++ l) (one_after_point n (omega arith) (omega arith) (omega arith)))
-    (has_written_append _ _ (decimal (t / 1000)) c.write.new.self (46 ∷ decimal (n / 100 % 10)) _ (search rules) (search rules))
+    let whole = c.in_ok-write.ensures.writes plain refl in
+    has_written_of_eq _ _ _ _ _ (one_digit_left c.args.number (omega arith) (omega arith) (omega arith)) (has_written_append _ _ _ _ _ _ whole (c.write-then-a-ne0.ensures.writes whole.plain ok))

@@ -1,5 +1,4 @@
-use Rattle.std.proofs.Common.{Some}
-use Rattle.std.proofs.lemmas.Str.{IsUtf8-string_bytes}
+use Rattle.std.proofs.{Common.Some, lemmas.Str.IsUtf8-string_bytes}
 use Rattle.std.specs.Prelude.{IsUtf8}
 use Rattle.latex2mathml.specs.Dollars.{IsDollarFree}
 use Rattle.latex2mathml_uses.proofs.SecondRuns.{page_free, refuses_nothing}

@@ -1,6 +1,5 @@
 use Rattle.std.proofs.Common.{[]}
-use Rattle.latex2mathml.proofs.Cuts.{nothing_made}
-use Rattle.latex2mathml.proofs.Given.{up_to}
+use Rattle.latex2mathml.proofs.{Cuts.nothing_made, Given.up_to}
 use Rattle.latex2mathml.proofs.document.Pieces.new.Goals as goal
 
 pub returns-clause-so_far : goal.returns-clause-so_far

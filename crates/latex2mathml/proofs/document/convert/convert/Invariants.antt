@@ -1,7 +1,6 @@
 -- The text is the answer of the pieces given so far.
 use Rattle.std.proofs.Common.{List, string_bytes}
-use Rattle.latex2mathml.specs.Pieces.{IsFront}
-use Rattle.latex2mathml.specs.Documents.{Piece, PiecesAnswer}
+use Rattle.latex2mathml.specs.{Pieces.IsFront, Documents.Piece, Documents.PiecesAnswer}
 use Rattle.latex2mathml.proofs.document.convert.convert.Given as goal
 
 abbrev pub invariant-loop-piece : goal.invariant-loop-piece

@@ -1,18 +1,12 @@
-use Rattle.std.proofs.Common.{refl, arith}
-use Rattle.latex2mathml_formulas.specs.Grammar.{core}
-use Rattle.latex2mathml_formulas.specs.Steps.{level}
-use Rattle.latex2mathml_tokens.specs.declared.lexeme.Lexeme.TheVariants as lexeme
-use Rattle.latex2mathml_formulas.proofs.Beginning.{bare_at, of_lexeme}
-use Rattle.latex2mathml_formulas.proofs.Levels.{given_at}
-use Rattle.latex2mathml_formulas.proofs.Progress.{GoesOn-trans}
-use Rattle.latex2mathml_formulas.proofs.Stepping.{follows_within}
+use Rattle.std.proofs.Common.{arith}
+use Rattle.latex2mathml_formulas.specs.Grammar.{rule_gives}
+use Rattle.latex2mathml_formulas.proofs.{Progress.GoesOn-trans, Stepping.follows_within}
 use Rattle.latex2mathml_formulas.proofs.parse.Parser.begin.Goals as goal
 
 pub returns-in-EOF-clause-holds : goal.returns-in-EOF-clause-holds
 returns-in-EOF-clause-holds c = λ input k.
-    c.error.ensures.holds input
-    (given_at (level 0 input c.stretch.new.self) core _ _ _ (bare_at c.in_ok-begun.begun lexeme.EOF c.in-EOF.is refl)
-    (c.in_ok-begun.ensures.holds input (of_lexeme (level 0 input c.middles.self) _ _ _ c.in-Middle.is (c.middles.invariant.holds input k))))
+    let begun = rw c.in-Middle.is at (c.middles.invariant.holds input k) in
+    c.error.ensures.holds input (rw c.in-EOF.is ((rw c.in-EOF.is at (c.in_ok-begun.ensures.holds input begun)) _ rule_gives))
 
 pub returns : goal.returns
 returns c =

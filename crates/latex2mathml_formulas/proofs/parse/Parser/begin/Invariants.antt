@@ -1,11 +1,8 @@
 -- What begins now leads to what the first lexeme leads to.
 use Rattle.std.proofs.Common.{◌≤◌, ◌+◌, List, length}
-use Rattle.latex2mathml_formulas.specs.Grammar.{rule}
-use Rattle.latex2mathml_formulas.specs.Openers.{opens}
-use Rattle.latex2mathml_formulas.specs.Steps.{GoesOnBy, HasTrees, to_do}
+use Rattle.latex2mathml_formulas.specs.{Grammar.rule, Openers.opens, Steps.GoesOnBy, Steps.HasTrees, Steps.to_do}
 use Rattle.latex2mathml_formulas.specs.Unread.{GoesOn, OpensFor}
-use Rattle.latex2mathml_tokens.specs.Lexemes.{lexeme_tok}
-use Rattle.latex2mathml_tokens.specs.Tok.{Tok}
+use Rattle.latex2mathml_tokens.specs.{Lexemes.lexeme_tok, Tok.Tok}
 use Rattle.latex2mathml_formulas.proofs.parse.Parser.begin.Given as goal
 
 abbrev pub invariant-middles : goal.invariant-middles

@@ -1,58 +1,46 @@
-use Rattle.std.proofs.Common.{◌≡◌, ◌≤◌, ◌-◌, ◌+◌, ap, arith, drop, length, sym, ◌∙◌}
-use Rattle.latex2mathml_formulas.specs.Frames.{unfit}
-use Rattle.latex2mathml_parts.specs.Forests.{trees_in}
-use Rattle.latex2mathml_parts.specs.Parts.{arity}
-use Rattle.latex2mathml_formulas.specs.declared.parse.frames.Frame.TheVariants.{Single, Slashed, Stretch}
-use Rattle.latex2mathml_formulas.proofs.Combining.{as_frame, first_read, member_read, script_read, styled_read}
-use Rattle.latex2mathml_formulas.proofs.Delivering.{last_operand_read, waits_last}
-use Rattle.latex2mathml_formulas.proofs.parse.Parser.deliver.Goals.{in-Operand, in-Operand-2}
+use Rattle.std.proofs.Common.{arith, drop, ◌∙◌}
+use Rattle.latex2mathml_formulas.specs.{Frames.inside, Frames.script, Grammar.Read, Grammar.rule_gives}
+use Rattle.latex2mathml_parts.specs.{Forests.trees_in, Parts.top}
+use Rattle.latex2mathml_formulas.proofs.Combining.{drop_from_one, first_read, last_read, member_read}
+use Rattle.latex2mathml_formulas.proofs.{Levels.node_due, parse.Parser.deliver.Goals.in-Operand, parse.Parser.deliver.Goals.in-Operand-2}
 use Rattle.latex2mathml_formulas.proofs.parse.Parser.deliver.Goals as goal
 
 pub returns-in-Members-clause-holds : goal.returns-in-Members-clause-holds
 returns-in-Members-clause-holds c = λ input k.
-    let ts = trees_in c.args.self.now.parts in
+    let p = c.args.self.now in
     let enough = c.requires.trees in
-    let some : 1 ≤ length ts = omega (arith, enough) in
-    c.put_back.ensures.holds input (member_read input c.args.self.now.frames.stack.items c.args.frame c.in-Members.group c.in-Members.count ts _ c.in-Members.is some k)
+    c.put_back.ensures.holds input (member_read input p.frames.stack.items c.in-Members.group c.in-Members.count (trees_in p.parts) _ (omega arith) (rw c.in-Members.is at k))
 
 pub returns-in-Operand-clause-holds : goal.returns-in-Operand-clause-holds
 returns-in-Operand-clause-holds c = λ input k.
-    let fs = c.args.self.now.frames.stack.items in
-    let ts = trees_in c.args.self.now.parts in
-    let enough = c.requires.trees in
-    let some : 1 ≤ length ts = omega (arith, enough) in
+    let p = c.args.self.now in
     c.combine.ensures.holds input
-    (last_operand_read input fs c.args.frame _ ts _
-    (elim c.in-Operand-1.branch [ in-Operand w ↦ waits_last _ _ _ w.kind-is w.in-Operand.is | in-Operand-2 w ↦ waits_last _ _ _ w.kind-is w.in-Operand.is ])
-    c.requires.fit some k)
+    (elim c.in-Operand-1.branch [
+      | in-Operand w ↦ rw w.kind-is (last_read input p.frames.stack.items _ _ (trees_in p.parts) _ w.in-Operand.is c.requires.fit k)
+      | in-Operand-2 w ↦ rw w.kind-is (last_read input p.frames.stack.items _ _ (trees_in p.parts) _ w.in-Operand.is c.requires.fit k)
+    ])
 
 pub returns-in-First-clause-holds : goal.returns-in-First-clause-holds
 returns-in-First-clause-holds c = λ input k.
-    let ts = trees_in c.args.self.now.parts in
-    let kind = c.in-First.kind in
-    let enough = c.requires.trees in
-    let some : 1 ≤ length ts = omega (arith, enough) in
-    let fits : (2 - arity kind) + (arity kind - 2) ≡ 0 = sym (ap unfit c.in-First.is) ∙ c.requires.fit in
-    let two : arity kind ≡ 2 = omega (arith, fits) in
-    c.put_back-in-First.ensures.holds input (first_read input c.args.self.now.frames.stack.items c.args.frame kind ts _ c.in-First.is two some k)
+    let p = c.args.self.now in
+    c.put_back-in-First.ensures.holds input (first_read input p.frames.stack.items c.in-First.kind (trees_in p.parts) (rw c.in-First.is at c.requires.fit) (rw c.in-First.is at k))
 
 pub returns-in-Style-clause-holds : goal.returns-in-Style-clause-holds
-returns-in-Style-clause-holds c = λ input k.
-    styled_read input c.args.self.now.frames.stack.items c.args.frame c.in-Style.variant (trees_in c.args.self.now.parts) _ _ c.in-Style.is c.give_style.ensures k
+returns-in-Style-clause-holds c = λ input k. rw c.give_style.ensures ((rw c.in-Style.is at k) _ rule_gives)
 
 pub returns-in-Single-clause-holds : goal.returns-in-Single-clause-holds
-returns-in-Single-clause-holds c = λ input k.
-    c.after_first.ensures.holds input (as_frame input c.args.self.now.frames.stack.items c.args.frame (Single c.in-Single.pair) (drop 1 (trees_in c.args.self.now.parts)) _ c.in-Single.is k)
+returns-in-Single-clause-holds c = λ input k. c.after_first.ensures.holds input (rw c.in-Single.is at k)
 
 pub returns-in-Slashed-clause-holds : goal.returns-in-Slashed-clause-holds
-returns-in-Slashed-clause-holds c = λ input k.
-    c.end_slash.ensures.holds input (as_frame input c.args.self.now.frames.stack.items c.args.frame Slashed (drop 1 (trees_in c.args.self.now.parts)) _ c.in-Slashed.is k)
+returns-in-Slashed-clause-holds c = λ input k. c.end_slash.ensures.holds input (rw c.in-Slashed.is at k)
 
 pub returns-in-Stretch-clause-holds : goal.returns-in-Stretch-clause-holds
-returns-in-Stretch-clause-holds c = λ input k.
-    c.end_stretch.ensures.holds input (as_frame input c.args.self.now.frames.stack.items c.args.frame (Stretch c.in-Stretch.got) (drop 1 (trees_in c.args.self.now.parts)) _ c.in-Stretch.is k)
+returns-in-Stretch-clause-holds c = λ input k. c.end_stretch.ensures.holds input (rw c.in-Stretch.is at k)
 
 pub returns-in_ok-put-in-Script-clause-holds : goal.returns-in_ok-put-in-Script-clause-holds
 returns-in_ok-put-in-Script-clause-holds c = λ input k.
-    let ts = trees_in c.args.self.now.parts in
-    script_read input c.args.self.now.frames.stack.items c.args.frame c.in-Script.sign ts _ _ c.in-Script.is (c.in_ok-put-in-Script.ensures ∙ c.script.ensures.trees ts) k
+    let p = c.args.self.now in
+    let ts = trees_in p.parts in
+    let x = script c.in-Script.sign (top (drop 1 ts)) (top ts) in
+    rw (c.in_ok-put-in-Script.ensures ∙ c.script.ensures.trees ts, drop_from_one 2 ts (omega arith))
+    (node_due (inside input p.frames.stack.items (drop 1 (drop 1 ts))) (Read x p.reader.list) ((rw c.in-Script.is at k) _ rule_gives))

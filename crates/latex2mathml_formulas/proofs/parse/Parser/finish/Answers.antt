@@ -1,14 +1,5 @@
-use Rattle.std.proofs.Common.{subst}
-use Rattle.latex2mathml_formulas.specs.Steps.{Holds}
-use Rattle.latex2mathml_formulas.proofs.Stepping.{counted_none, counted_on}
+use Rattle.latex2mathml_formulas.proofs.Stepping.{counted_on}
 use Rattle.latex2mathml_formulas.proofs.parse.Parser.finish.Goals as goal
-
-pub steps-init : goal.steps-init
-steps-init c = record {
-  trees = c.requires;
-  holds = λ input k. k;
-  counted = counted_none _;
-}
 
 pub steps-preserved : goal.steps-preserved
 steps-preserved c = record {
@@ -18,7 +9,7 @@ steps-preserved c = record {
 }
 
 pub returns-in-End-clause-node : goal.returns-in-End-clause-node
-returns-in-End-clause-node c = λ input k. subst (λ s. Holds input c.steps.self s) c.in-End.is (c.steps.invariant.holds input k)
+returns-in-End-clause-node c = λ input k. rw c.in-End.is at (c.steps.invariant.holds input k)
 
 pub returns-in-Refused-clause-node : goal.returns-in-Refused-clause-node
-returns-in-Refused-clause-node c = λ input k. subst (λ s. Holds input c.steps.self s) c.in-Refused.is (c.steps.invariant.holds input k)
+returns-in-Refused-clause-node c = λ input k. rw c.in-Refused.is at (c.steps.invariant.holds input k)

@@ -1,12 +1,10 @@
 use Rattle.std.proofs.Common.{◌≡◌, ◌∷◌, ◌+◌, length, sum_by, ap, ◌∙◌, arith}
 use Rattle.std.proofs.lemmas.List.Sums.{sum_by_push}
-use Rattle.latex2mathml_formulas.specs.Frames.{tree_count}
-use Rattle.latex2mathml_formulas.specs.Steps.{frame_weight}
+use Rattle.latex2mathml_formulas.specs.{Frames.tree_count, Steps.frame_weight}
 use Rattle.latex2mathml_parts.specs.Forests.{trees_in}
 use Rattle.latex2mathml_tokens.specs.Lexemes.{lexeme_tok}
 use Rattle.latex2mathml_formulas.specs.declared.parse.frames.Frame.TheVariants as frame
-use Rattle.latex2mathml_formulas.proofs.Beginning.{stood, stretch_begun}
-use Rattle.latex2mathml_formulas.proofs.Progress.{OpensFor-one, rest-shorter}
+use Rattle.latex2mathml_formulas.proofs.{Beginning.stood, Beginning.stretch_begun, Progress.OpensFor-one, Progress.rest-shorter}
 use Rattle.latex2mathml_formulas.proofs.parse.Parser.stretch.Goals as goal
 
 pub returns-clause-holds : goal.returns-clause-holds
@@ -21,12 +19,9 @@ returns-clause-taken c =
     let got = c.take-got.result in
     let to = c.take-got.new.self in
     let shorter = rest-shorter p.reader to c.take-got.ensures.list in
-    let room = p.frames.covered in
-    let most = c.open.ensures.greatest in
     let on = c.in_ok-open.ensures.stack in
     let heavier : sum_by frame_weight c.open.new.self.stack.items ≡ sum_by frame_weight fs + 2 = ap (sum_by frame_weight) on ∙ sum_by_push frame_weight fs (frame.Stretch got) in
     let holding : sum_by tree_count c.open.new.self.stack.items ≡ sum_by tree_count fs + 0 = ap (sum_by tree_count) on ∙ sum_by_push tree_count fs (frame.Stretch got) in
-    let enough = c.requires in
     record {
       trees = omega arith;
       more = λ h.

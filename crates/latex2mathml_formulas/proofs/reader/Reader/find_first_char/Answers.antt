@@ -1,7 +1,6 @@
 use Rattle.std.proofs.Common.{◌∙◌, ap}
 use Rattle.latex2mathml_formulas.specs.Unread.{unread_in}
-use Rattle.latex2mathml_formulas.proofs.Sights.{seen, nothing_seen}
-use Rattle.latex2mathml_formulas.proofs.Starts.{same_slices}
+use Rattle.latex2mathml_formulas.proofs.{Sights.seen, Sights.nothing_seen, Starts.same_slices}
 use Rattle.latex2mathml_formulas.proofs.reader.Reader.find_first_char.Goals as goal
 
 pub returns-in_default-clause-sight : goal.returns-in_default-clause-sight

@@ -1,5 +1,4 @@
-use Rattle.latex2mathml_formulas.proofs.Sights.{seen}
-use Rattle.latex2mathml_formulas.proofs.Starts.{none_of_nothing, starts_here}
+use Rattle.latex2mathml_formulas.proofs.{Sights.seen, Starts.none_of_nothing, Starts.starts_here}
 use Rattle.latex2mathml_formulas.proofs.reader.Reader.first_char.Goals as goal
 
 pub returns-then-is_empty-clause-sight : goal.returns-then-is_empty-clause-sight

@@ -1,6 +1,5 @@
 use Rattle.std.proofs.Common.{refl, arith, ap, sym, ◌∙◌}
-use Rattle.latex2mathml_formulas.specs.Grammar.{first_or_end}
-use Rattle.latex2mathml_formulas.specs.Marks.{rest_of}
+use Rattle.latex2mathml_formulas.specs.{Grammar.first_or_end, Marks.rest_of}
 use Rattle.latex2mathml_formulas.proofs.Starts.{counts_taken, first_taken, none_of_nothing, rest_taken, taken_character}
 use Rattle.latex2mathml_formulas.proofs.reader.Reader.take.Goals as goal
 

@@ -1,7 +1,5 @@
 use Rattle.std.proofs.Common.{◌+◌, false, arith, refl, ap, sym, ◌∙◌}
-use Rattle.latex2mathml_formulas.specs.Grammar.{first_or_end}
-use Rattle.latex2mathml_formulas.specs.Marks.{rest_of}
-use Rattle.latex2mathml_formulas.specs.Unread.{token_list}
+use Rattle.latex2mathml_formulas.specs.{Grammar.first_or_end, Marks.rest_of, Unread.token_list}
 use Rattle.latex2mathml_formulas.proofs.Sights.{no_end_begun}
 use Rattle.latex2mathml_formulas.proofs.Starts.{counts_taken, first_taken, fits_comparisons, fits_tokens, none_left, rest_taken, taken_command, taken_uncounted}
 use Rattle.latex2mathml_formulas.proofs.reader.Reader.take_any.Goals as goal
@@ -24,28 +22,24 @@ invariant_of-self c =
     let taken = taken_command _ _ _ _ _ c.in-Some.c _ _ _ _ c.find_start-start.ensures.start (rw c.in-Some.is at c.find_start-start.ensures.first) c.if-c-eq92.true (c.command-compared.ensures.lexeme _) c.takes_digit-self-inside.ensures c.command-compared.ensures.at_least c.command-compared.ensures.at_most in
     (c.command-compared.ensures.utf8, fits_tokens _ _ _ _ _ _ _ taken c.self.invariant.1, rw c.from.ensures (fits_comparisons _ _ _ _ _ _ _ taken c.self.invariant.2))
 
-pub returns-then-c-eq92-clause-token : goal.returns-then-c-eq92-clause-token
-returns-then-c-eq92-clause-token c = rw (← c.self.view_is) (first_taken _ _ _ _ _ _ (taken_command _ _ _ _ _ c.in-Some.c _ _ _ _ c.find_start-start.ensures.start (rw c.in-Some.is at c.find_start-start.ensures.first) c.if-c-eq92.true (c.command-compared.ensures.lexeme _) c.takes_digit-self-inside.ensures c.command-compared.ensures.at_least c.command-compared.ensures.at_most))
-
-pub returns-then-c-eq92-clause-list : goal.returns-then-c-eq92-clause-list
-returns-then-c-eq92-clause-list c = rw (← c.self.view_is) (rest_taken _ _ _ _ _ _ (taken_command _ _ _ _ _ c.in-Some.c _ _ _ _ c.find_start-start.ensures.start (rw c.in-Some.is at c.find_start-start.ensures.first) c.if-c-eq92.true (c.command-compared.ensures.lexeme _) c.takes_digit-self-inside.ensures c.command-compared.ensures.at_least c.command-compared.ensures.at_most))
-
-pub returns-then-c-eq92-clause-ended : goal.returns-then-c-eq92-clause-ended
-returns-then-c-eq92-clause-ended c = λ e. absurd (no_end_begun _ _ _ _ (c.command-compared.ensures.lexeme false) e)
-
-pub returns-then-c-eq92-clause-counts : goal.returns-then-c-eq92-clause-counts
-returns-then-c-eq92-clause-counts c = rw (← c.self.view_is) (counts_taken _ _ _ _ _ _ _ _ _ _ (taken_command _ _ _ _ _ c.in-Some.c _ _ _ _ c.find_start-start.ensures.start (rw c.in-Some.is at c.find_start-start.ensures.first) c.if-c-eq92.true (c.command-compared.ensures.lexeme _) c.takes_digit-self-inside.ensures c.command-compared.ensures.at_least c.command-compared.ensures.at_most) refl (ap (λ k. c.self.inside.comparisons + k) c.from.ensures))
+pub returns-then-c-eq92 : goal.returns-then-c-eq92
+returns-then-c-eq92 c =
+    let taken = taken_command _ _ _ _ _ c.in-Some.c _ _ _ _ c.find_start-start.ensures.start (rw c.in-Some.is at c.find_start-start.ensures.first) c.if-c-eq92.true (c.command-compared.ensures.lexeme _) c.takes_digit-self-inside.ensures c.command-compared.ensures.at_least c.command-compared.ensures.at_most in
+    record {
+      token = rw (← c.self.view_is) (first_taken _ _ _ _ _ _ taken);
+      list = rw (← c.self.view_is) (rest_taken _ _ _ _ _ _ taken);
+      ended = λ e. absurd (no_end_begun _ _ _ _ (c.command-compared.ensures.lexeme false) e);
+      counts = rw (← c.self.view_is) (counts_taken _ _ _ _ _ _ _ _ _ _ taken refl (ap (λ k. c.self.inside.comparisons + k) c.from.ensures));
+    }
 
 -- any other slice
 
-pub returns-clause-token : goal.returns-clause-token
-returns-clause-token c = rw (← c.self.view_is) (first_taken _ _ _ _ _ _ (taken_uncounted _ _ _ _ c.in-Some.c _ _ _ c.find_start-start.ensures.start (rw c.in-Some.is at c.find_start-start.ensures.first) c.if-c-eq92.false c.slice_at.ensures.lexeme c.slice_at.ensures.no_digit))
-
-pub returns-clause-list : goal.returns-clause-list
-returns-clause-list c = rw (← c.self.view_is) (rest_taken _ _ _ _ _ _ (taken_uncounted _ _ _ _ c.in-Some.c _ _ _ c.find_start-start.ensures.start (rw c.in-Some.is at c.find_start-start.ensures.first) c.if-c-eq92.false c.slice_at.ensures.lexeme c.slice_at.ensures.no_digit))
-
-pub returns-clause-ended : goal.returns-clause-ended
-returns-clause-ended c = λ e. absurd (no_end_begun _ _ _ _ c.slice_at.ensures.lexeme e)
-
-pub returns-clause-counts : goal.returns-clause-counts
-returns-clause-counts c = rw (← c.self.view_is) (counts_taken _ _ _ _ _ _ _ _ _ c.self.inside.comparisons (taken_uncounted _ _ _ _ c.in-Some.c _ _ _ c.find_start-start.ensures.start (rw c.in-Some.is at c.find_start-start.ensures.first) c.if-c-eq92.false c.slice_at.ensures.lexeme c.slice_at.ensures.no_digit) refl (omega arith))
+pub returns : goal.returns
+returns c =
+    let taken = taken_uncounted _ _ _ _ c.in-Some.c _ _ _ c.find_start-start.ensures.start (rw c.in-Some.is at c.find_start-start.ensures.first) c.if-c-eq92.false c.slice_at.ensures.lexeme c.slice_at.ensures.no_digit in
+    record {
+      token = rw (← c.self.view_is) (first_taken _ _ _ _ _ _ taken);
+      list = rw (← c.self.view_is) (rest_taken _ _ _ _ _ _ taken);
+      ended = λ e. absurd (no_end_begun _ _ _ _ c.slice_at.ensures.lexeme e);
+      counts = rw (← c.self.view_is) (counts_taken _ _ _ _ _ _ _ _ _ c.self.inside.comparisons taken refl (omega arith));
+    }

@@ -1,8 +1,7 @@
 use Rattle.std.proofs.Common.{◌≡◌, ℕ, List, ◌++◌, length}
 use denote.Shadow.{shadow}
 use denote.Text.{Utf8}
-use Rattle.std.specs.List.{AllPass}
-use Rattle.std.specs.Str.{chars}
+use Rattle.std.specs.{List.AllPass, Str.chars}
 use Rattle.latex2mathml_formulas.specs.Lexing.{in_class}
 use Rattle.latex2mathml_formulas.proofs.reader.characters.skip_run.Given as goal
 

@@ -1,8 +1,6 @@
 -- What is left of the current node and of the chain.
 use Rattle.std.proofs.Common.{◌+◌}
-use Rattle.latex2mathml_nodes.specs.Held.{weight_of_parts}
-use Rattle.latex2mathml_nodes.specs.Nodes.{tree}
-use Rattle.latex2mathml_nodes.specs.Chains.{hung}
+use Rattle.latex2mathml_nodes.specs.{Held.weight_of_parts, Nodes.tree, Chains.hung}
 use Rattle.latex2mathml_nodes.proofs.ast.dismantle.dismantle.Given as goal
 
 abbrev pub decreases-parts : goal.decreases-parts

@@ -1,7 +1,6 @@
 use Rattle.std.proofs.Common.{arith, rules, ◌<◌, ◌≡◌, ◌++◌, ◌∷◌, [], length}
 use Rattle.latex2mathml_nodes.proofs.Chains.{hung_in-push}
-use Rattle.latex2mathml_nodes.specs.declared.ast.Node.{Row, the_lemmas}
-use Rattle.latex2mathml_nodes.specs.Nodes.{tree, trees}
+use Rattle.latex2mathml_nodes.specs.{declared.ast.Node.Row, declared.ast.Node.the_lemmas, Nodes.tree, Nodes.trees}
 use Rattle.latex2mathml_trees.specs.Tree.{row}
 use Rattle.latex2mathml_nodes.proofs.ast.dismantle.last_of_all.Goals as goal
 

@@ -1,7 +1,6 @@
 -- What hangs on the members that are left is no more than hung on all of them.
 use Rattle.std.proofs.Common.{◌≤◌, length}
-use Rattle.latex2mathml_nodes.specs.Nodes.{trees}
-use Rattle.latex2mathml_nodes.specs.Chains.{hung_in}
+use Rattle.latex2mathml_nodes.specs.{Nodes.trees, Chains.hung_in}
 use Rattle.latex2mathml_nodes.proofs.ast.dismantle.last_of_all.Given as goal
 
 abbrev pub invariant-members : goal.invariant-members

@@ -1,9 +1,7 @@
 use Rattle.std.proofs.Common.{◌≡◌, ◌∙◌, ap, arith, rules}
 use Rattle.std.specs.Box.{with_value}
-use Rattle.latex2mathml_nodes.specs.declared.ast.Node.{Subscript, the_lemmas}
-use Rattle.latex2mathml_nodes.specs.Nodes.{tree}
-use Rattle.latex2mathml_trees.specs.Tree.{subscript}
-use Rattle.latex2mathml_trees.specs.Weight.{weight}
+use Rattle.latex2mathml_nodes.specs.{declared.ast.Node.Subscript, declared.ast.Node.the_lemmas, Nodes.tree}
+use Rattle.latex2mathml_trees.specs.{Tree.subscript, Weight.weight}
 use Rattle.latex2mathml_nodes.proofs.ast.dismantle.of_two.Goals as goal
 
 pub returns : goal.returns

@@ -1,7 +1,6 @@
 -- The members before the index are the same; and how much is in what each function has still to compare.
 use Rattle.std.proofs.Common.{◌≡◌, ◌+◌, ◌*◌, length, take}
-use Rattle.latex2mathml_nodes.specs.Layers.{weight_within, within}
-use Rattle.latex2mathml_nodes.specs.Nodes.{tree, trees}
+use Rattle.latex2mathml_nodes.specs.{Layers.weight_within, Layers.within, Nodes.tree, Nodes.trees}
 use Rattle.latex2mathml_trees.specs.Weight.{weight, weights}
 use Rattle.latex2mathml_nodes.proofs.ast.equality.+same.Given as goal
 

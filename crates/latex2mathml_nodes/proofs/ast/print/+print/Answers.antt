@@ -1,7 +1,6 @@
 use Rattle.std.proofs.Common.{◌<◌, rules, refl, append_assoc}
 use Rattle.std.proofs.Output.{has_written_append, has_written_of_eq}
-use Rattle.latex2mathml_nodes.proofs.Chains.{weights-at}
-use Rattle.latex2mathml_nodes.proofs.Prints.{prints-more, members-more}
+use Rattle.latex2mathml_nodes.proofs.{Chains.weights_at, Prints.prints-more, Prints.members-more}
 use Rattle.latex2mathml_nodes.specs.Nodes.{tree, trees}
 use Rattle.latex2mathml_trees.specs.Weight.{weight, weights}
 use Rattle.latex2mathml_nodes.proofs.ast.print.+print.Goals as goal
@@ -24,10 +23,10 @@ write_applied-returns g t c = λ plain ok.
 
 pub write_all-write_node-requires : goal.write_all-write_node-requires
 write_all-write_node-requires g t c =
-    let lighter : weight (tree c.node-item.result) < weights (trees c.args.nodes.now) = weights-at c.args.nodes.now c.loop-node.node-index c.node-item.result c.loop-node-test.true c.node-item.is in
+    let lighter : weight (tree c.node-item.result) < weights (trees c.args.nodes.now) = weights_at c.args.nodes.now c.loop-node.node-index c.node-item.result c.loop-node-test.true c.node-item.is in
     search (rules, lighter)
 
 pub write_members-write_member-requires : goal.write_members-write_member-requires
 write_members-write_member-requires g t c =
-    let lighter : weight (tree c.node-item.result) < weights (trees c.args.members.now) = weights-at c.args.members.now c.loop-node.node-index c.node-item.result c.loop-node-test.true c.node-item.is in
+    let lighter : weight (tree c.node-item.result) < weights (trees c.args.members.now) = weights_at c.args.members.now c.loop-node.node-index c.node-item.result c.loop-node-test.true c.node-item.is in
     search (rules, lighter)

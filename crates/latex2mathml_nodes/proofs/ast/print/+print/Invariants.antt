@@ -1,9 +1,8 @@
 -- The prints of the nodes so far are written; and how much is in what each function has still to print.
 use Rattle.std.proofs.Common.{take, ◌+◌, ◌*◌}
 use Rattle.std.specs.Fmt.{HasWritten, IsPlainFormatter}
-use Rattle.latex2mathml_trees.specs.Print.{members_print, prints}
+use Rattle.latex2mathml_trees.specs.{Print.members_print, Print.prints, Weight.weight, Weight.weights}
 use Rattle.latex2mathml_nodes.specs.Nodes.{tree, trees}
-use Rattle.latex2mathml_trees.specs.Weight.{weight, weights}
 use Rattle.latex2mathml_nodes.proofs.ast.print.+print.Given as goal
 
 abbrev pub invariant-write_all-loop-node : goal.invariant-write_all-loop-node

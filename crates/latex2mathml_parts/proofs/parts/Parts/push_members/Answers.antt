@@ -1,8 +1,5 @@
 use Rattle.std.proofs.Common.{◌≡◌, suc, ◌-◌, ◌≤◌, ◌++◌, arith, ap, take, length, reverse, ◌∙◌, sum_by, subst}
-use Rattle.latex2mathml_parts.specs.Groups.{member_in, members_in}
-use Rattle.latex2mathml_parts.specs.Shapes.{print_weight}
-use Rattle.latex2mathml_parts.specs.Forests.{trees_at}
-use Rattle.latex2mathml_parts.specs.Works.{due}
+use Rattle.latex2mathml_parts.specs.{Groups.member_in, Groups.members_in, Shapes.print_weight, Forests.trees_at, Works.due}
 use Rattle.latex2mathml_parts.proofs.Works.{length_step, members_step, weight_step}
 use Rattle.latex2mathml_parts.proofs.parts.Parts.push_members.Goals as goal
 

@@ -1,8 +1,5 @@
 use Rattle.std.proofs.Common.{◌≡◌, ◌+◌, ◌++◌, ◌≤◌, length, reverse, sum_by, take}
-use Rattle.latex2mathml_parts.specs.Groups.{members_in}
-use Rattle.latex2mathml_parts.specs.Shapes.{print_weight}
-use Rattle.latex2mathml_parts.specs.Forests.{trees_at}
-use Rattle.latex2mathml_parts.specs.Works.{AreIn, due, load}
+use Rattle.latex2mathml_parts.specs.{Groups.members_in, Shapes.print_weight, Forests.trees_at, Works.AreIn, Works.due, Works.load}
 use Rattle.latex2mathml_parts.proofs.parts.Parts.push_members.Given as goal
 
 abbrev pub invariant-members : goal.invariant-members

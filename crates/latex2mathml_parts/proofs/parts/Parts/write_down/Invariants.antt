@@ -1,8 +1,6 @@
 use Rattle.std.proofs.Common.{◌+◌, string_bytes}
 use Rattle.latex2mathml_trees.specs.Print.{print}
-use Rattle.latex2mathml_parts.specs.Forms.{in_style}
-use Rattle.latex2mathml_parts.specs.Shapes.{print_weight}
-use Rattle.latex2mathml_parts.specs.Forests.{tree_at}
+use Rattle.latex2mathml_parts.specs.{Forms.in_style, Shapes.print_weight, Forests.tree_at}
 use Rattle.latex2mathml_parts.specs.Works.{Leaves, Writes, load, next_weight}
 use Rattle.latex2mathml_parts.proofs.parts.Parts.write_down.Given as goal
 

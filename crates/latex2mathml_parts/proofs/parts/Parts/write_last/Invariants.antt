@@ -1,8 +1,6 @@
 use Rattle.std.proofs.Common.{◌≡◌, ◌++◌, string_bytes}
 use Rattle.latex2mathml_trees.specs.Print.{print}
-use Rattle.latex2mathml_parts.specs.Forests.{trees_in}
-use Rattle.latex2mathml_parts.specs.Parts.{top}
-use Rattle.latex2mathml_parts.specs.Works.{AreIn, due, load}
+use Rattle.latex2mathml_parts.specs.{Forests.trees_in, Parts.top, Works.AreIn, Works.due, Works.load}
 use Rattle.latex2mathml_parts.proofs.parts.Parts.write_last.Given as goal
 
 abbrev pub invariant-works : goal.invariant-works

@@ -1,15 +1,8 @@
-use Rattle.std.proofs.Common.{◌++◌, ap, string_bytes, codes, ◌∙◌}
-use Rattle.latex2mathml_tokens.specs.Escape.{content, value}
-use Rattle.latex2mathml_tokens.specs.Names.{size_text}
-use Rattle.latex2mathml_parts.proofs.Works.{sized_opened}
+use Rattle.std.proofs.Common.{◌≡◌, ℕ, List, ◌++◌, append_assoc, codes}
 use Rattle.latex2mathml_parts.proofs.write.leaves.write_sized.Goals as goal
 
+opened : (old a v b c rest : List ℕ) → old ++ ((a ++ (v ++ (b ++ (v ++ c)))) ++ rest) ≡ old ++ (a ++ (v ++ (b ++ (v ++ (c ++ rest)))))
+opened old a v b c rest = simp append_assoc
+
 pub returns : goal.returns
-returns c =
-    let v = value (size_text c.args.size) in
-    let opening = codes "<mrow><mo maxsize=\"" ++ (v ++ (codes "\" minsize=\"" ++ (v ++ codes "\">"))) in
-    c.in_ok-write_text.ensures
-    ∙ ap (λ l. string_bytes c.args.out.now ++ l)
-    (ap (λ l. l ++ (content c.text.result.now ++ codes "</mo></mrow>")) c.size_open.ensures
-    ∙ ap (λ t. opening ++ (content t ++ codes "</mo></mrow>")) c.text.ensures
-    ∙ sized_opened (codes "<mrow><mo maxsize=\"") v (codes "\" minsize=\"") (codes "\">") _)
+returns c = rw (c.in_ok-write_text.ensures, c.size_open.ensures, c.text.ensures) (opened _ (codes "<mrow><mo maxsize=\"") _ (codes "\" minsize=\"") (codes "\">") _)

@@ -1,21 +1,29 @@
-use Rattle.std.proofs.Common.{◌++◌, ap, drop, ◌∙◌}
-use Rattle.latex2mathml_trees.specs.Print.{print}
+use Rattle.std.proofs.Common.{drop, refl}
+use Rattle.std.specs.Char.{encode_utf8}
 use Rattle.latex2mathml_parts.specs.Parts.{top}
-use Rattle.latex2mathml_parts.specs.Shapes.{binomial_open}
-use Rattle.latex2mathml_parts.proofs.Markups.{binomial_plain, binomial_print, overbraced_print, primed_print, underbraced_print}
+use Rattle.latex2mathml_parts.proofs.Markups.{block_print, coefficient_print, inline_print, overbraced_print, underbraced_print}
 use Rattle.latex2mathml_parts.proofs.write.shapes.shape_of.Goals as goal
 
 pub returns-in-Primed-clause-print : goal.returns-in-Primed-clause-print
-returns-in-Primed-clause-print c = rw (c.around.ensures, c.in-Primed.is) (λ f style ts. primed_print (top ts))
+unfolding encode_utf8
+returns-in-Primed-clause-print c = rw (c.around.ensures, c.in-Primed.is) (λ f style ts. refl)
 
-pub returns-in-Binom-clause-print : goal.returns-in-Binom-clause-print
-returns-in-Binom-clause-print c =
-    let d = c.in-Binom.display in
-    rw (c.around-in-Binom.ensures, c.in-Binom.is)
-    (λ f style ts.
-    ap (λ l. l ++ (print (top (drop 1 ts)) ++ (print (top ts) ++ c.binomial_close.result.now))) c.binomial_open.ensures
-    ∙ ap (λ l. binomial_open d ++ (print (top (drop 1 ts)) ++ (print (top ts) ++ l))) c.binomial_close.ensures
-    ∙ binomial_print d (top (drop 1 ts)) (top ts) ∙ binomial_plain style d (top (drop 1 ts)) (top ts))
+pub returns-in-Binom-None-clause-print : goal.returns-in-Binom-None-clause-print
+returns-in-Binom-None-clause-print c =
+    let none = rw c.in-Binom-None.is at c.in-Binom-None.field-0-is in
+    rw (c.around-in-Binom-None.ensures, c.in-Binom-None.is, none) (λ f style ts. coefficient_print (top (drop 1 ts)) (top ts))
+
+pub returns-in-Binom-Some-Block-clause-print : goal.returns-in-Binom-Some-Block-clause-print
+returns-in-Binom-Some-Block-clause-print c =
+    let some = rw c.in-Binom-Some-Block.is at c.in-Binom-Some-Block.field-0-is in
+    let block = rw (c.in-Binom-Some-Block.is, some) at c.in-Binom-Some-Block.field-0-0-is in
+    rw (c.around-in-Binom-Some-Block.ensures, c.in-Binom-Some-Block.is, some, block) (λ f style ts. block_print (top (drop 1 ts)) (top ts))
+
+pub returns-in-Binom-Some-Inline-clause-print : goal.returns-in-Binom-Some-Inline-clause-print
+returns-in-Binom-Some-Inline-clause-print c =
+    let some = rw c.in-Binom-Some-Inline.is at c.in-Binom-Some-Inline.field-0-is in
+    let inline = rw (c.in-Binom-Some-Inline.is, some) at c.in-Binom-Some-Inline.field-0-0-is in
+    rw (c.around-in-Binom-Some-Inline.ensures, c.in-Binom-Some-Inline.is, some, inline) (λ f style ts. inline_print (top (drop 1 ts)) (top ts))
 
 pub returns-in-OverbraceWith-clause-print : goal.returns-in-OverbraceWith-clause-print
 returns-in-OverbraceWith-clause-print c = rw (c.around-in-OverbraceWith.ensures, c.in-OverbraceWith.is) (λ f style ts. overbraced_print c.in-OverbraceWith.c (top ts) (top (drop 1 ts)))

@@ -1,5 +1,4 @@
-use Rattle.std.proofs.Common.{sym, ap}
-use Rattle.std.proofs.Output.{has_written_of_eq}
+use Rattle.std.proofs.{Common.sym, Common.ap, Output.has_written_of_eq}
 use Rattle.latex2mathml_tokens.specs.Refusal.{error_text, refusal_of}
 use Rattle.latex2mathml_tokens.proofs.error.LatexErrorDisplay.fmt.Goals as goal
 

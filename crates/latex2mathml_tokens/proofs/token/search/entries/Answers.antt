@@ -1,6 +1,5 @@
 use Rattle.std.proofs.Common.{arith, ap, length, map, ◌≡◌}
-use Rattle.std.proofs.lemmas.List.{length-map}
-use Rattle.std.proofs.lemmas.List.Sums.{AllPass-from_list_all}
+use Rattle.std.proofs.{lemmas.List.length-map, lemmas.List.Sums.AllPass-from_list_all}
 use Rattle.latex2mathml_tokens.specs.Entries.{entry_of}
 use Rattle.latex2mathml_tokens.proofs.Order.{ascending-command_entries, length-command_entries}
 use Rattle.latex2mathml_tokens.proofs.token.search.entries.Goals as goal

@@ -1,16 +1,11 @@
 use Rattle.std.proofs.Common.{◌≡◌, true, false, ap, sym, ◌∙◌, refl}
-use Rattle.std.specs.Prelude.{codes}
-use Rattle.std.specs.Str.{bytes_eq}
+use Rattle.std.specs.{Prelude.codes, Str.bytes_eq}
 use lib.Utf8.{encode}
-use Rattle.latex2mathml_formulas.specs.Levels.{end_token}
-use Rattle.latex2mathml_tokens.specs.Lexemes.{lexeme_tok}
-use Rattle.latex2mathml_tokens.specs.Names.{paren_text}
+use Rattle.latex2mathml_formulas.specs.{Levels.end_token, declared.parse.frames.GroupEnd.GroupEnd}
+use Rattle.latex2mathml_tokens.specs.{Lexemes.lexeme_tok, Names.paren_text, declared.lexeme.Lexeme.Lexeme, declared.names.Paren.Paren}
 use Rattle.latex2mathml_tokens.specs.Tok.{Paren as paren_tok}
-use Rattle.latex2mathml_tokens.specs.declared.lexeme.Lexeme.{Lexeme}
 use Rattle.latex2mathml_tokens.specs.declared.lexeme.Lexeme.TheVariants as lexeme
-use Rattle.latex2mathml_tokens.specs.declared.names.Paren.{Paren}
 use Rattle.latex2mathml_tokens.specs.declared.names.Paren.TheVariants as paren
-use Rattle.latex2mathml_formulas.specs.declared.parse.frames.GroupEnd.{GroupEnd}
 use Rattle.latex2mathml_formulas.specs.declared.parse.frames.GroupEnd.TheVariants as group_end
 use Rattle.latex2mathml_formulas.proofs.parse.frames.GroupEnd.is.Goals as goal
 

@@ -1,7 +1,5 @@
 -- The characters so far are written, each with its backslash where it takes one.
-use Rattle.std.specs.Char.{encode_utf8}
-use Rattle.std.specs.Fmt.{HasWritten, IsPlainFormatter}
-use Rattle.std.specs.List.{flat_map}
+use Rattle.std.specs.{Char.encode_utf8, Fmt.HasWritten, Fmt.IsPlainFormatter, List.flat_map}
 use Rattle.latex2mathml_tokens.specs.Escape.{quoted_byte}
 use Rattle.latex2mathml_tokens.proofs.token.text.QuotedDisplay.fmt.Given as goal
 

@@ -1,5 +1,4 @@
-use Rattle.std.proofs.Common.{sym, arith}
-use Rattle.std.proofs.Output.{has_written_of_eq}
+use Rattle.std.proofs.{Common.sym, Common.arith, Output.has_written_of_eq}
 use Rattle.latex2mathml_tokens.proofs.Escapes.{quoted_char-other}
 use Rattle.latex2mathml_tokens.proofs.token.text.QuotedPartDisplay.fmt.Goals as goal
 
