@@ -19,6 +19,8 @@ from tests.steps import Copy, Library, Proofs, WrongBodies
 from tests.support import BUILD_NOTHING, ROOT, RUN, scratch
 from tools.progress import Screen, Stopwatch, clock
 
+PROGRAM = "latex2mathml_app"
+
 
 @contextlib.contextmanager
 def prove(screen):
@@ -30,7 +32,7 @@ def prove(screen):
             proofs = Proofs(copy, [library, wrong_bodies])
             proofs.do(screen)
             library.do(screen)
-            yield [proofs, library, wrong_bodies]
+            yield proofs, library, wrong_bodies
             wrong_bodies.do(screen)
 
 
@@ -48,12 +50,14 @@ def try_everything(screen, tries_modules=True):
         screen.say("    nothing else is tried, since `rt ci` would refuse these sources, or cases would not run")
         return [sources], []
     modules, failures = [], []
-    with prove(screen) as steps:
-        if tries_modules:
+    with prove(screen) as (proofs, library, wrong_bodies):
+        if tries_modules and PROGRAM in proofs.proved and not library.counts.failed:
             # from here on, the tests use only what was proved and built
             os.environ[BUILD_NOTHING] = "1"
             modules, failures = try_modules(every_name(), screen)
-    return [sources, *steps, *modules], failures
+        elif tries_modules:
+            screen.say("    the tests in Python are not tried, since the program or the library for C is not built")
+    return [sources, proofs, library, wrong_bodies, *modules], failures
 
 
 def main(words):

@@ -1,4 +1,5 @@
 """The harness counts each case, shows what failed, and ends cases that do not end."""
+import contextlib
 import io
 import os
 import shutil
@@ -6,10 +7,12 @@ import time
 import unittest
 import unittest.mock
 
+from tests import __main__ as harness
 from tests import cases, samples
 from tests.modules import Module, Runs, classes_of, name_of
 from tests.results import Counts, Result, SKIP_NOTHING
-from tests.steps import Command, Copy, Library, Proofs, WrongBodies, crates_below
+from tests.sources import Sources
+from tests.steps import Command, Copy, Library, Proofs, Step, WrongBodies, crates_below
 from tests.support import ROOT, Case, run, scratch
 from tools.progress import Screen, clock
 
@@ -273,6 +276,35 @@ class Proving(unittest.TestCase):
         proofs = self.prove()
         self.assertGreater(self.wrong_bodies.spent, 0.1)
         self.assertLess(proofs.spent, self.wrong_bodies.spent)
+
+
+class Run(unittest.TestCase):
+    """A whole run, with steps that prove nothing."""
+
+    def run_with(self, found=Counts(passed=1), proved=("latex2mathml_app",), library=Counts(passed=1)):
+        """What the steps count, and how often the modules are tried."""
+        def prove(screen):
+            steps = [Step(name) for name in ("proofs", "library", "wrong bodies")]
+            steps[0].proved = set(proved)
+            steps[1].counts = library
+            return contextlib.nullcontext(steps)
+
+        look = unittest.mock.patch.object(Sources, "run", lambda step, screen, watch: step.counts.add(found))
+        modules = unittest.mock.patch.object(harness, "try_modules", return_value=([], []))
+        environment = unittest.mock.patch.dict(os.environ)
+        with look, environment, unittest.mock.patch.object(harness, "prove", prove), modules as tried:
+            steps, _ = harness.try_everything(Screen(io.StringIO()))
+        return [step.counts for step in steps], tried.call_count
+
+    def test_all_is_tried(self):
+        self.assertEqual(self.run_with(), ([Counts(passed=1), Counts(), Counts(passed=1), Counts()], 1))
+
+    def test_nothing_is_proved_where_the_sources_are_refused(self):
+        self.assertEqual(self.run_with(found=Counts(failed=1)), ([Counts(failed=1)], 0))
+
+    def test_no_module_is_tried_where_nothing_is_built(self):
+        self.assertEqual(self.run_with(proved=())[1], 0)
+        self.assertEqual(self.run_with(library=Counts(failed=1))[1], 0)
 
 
 class Test(Case):

@@ -1,10 +1,9 @@
-"""The first step of `./test` finds a crate that is not in its layout and a name that is defined twice, and then ends the run."""
+"""The first step of `./test` finds a crate that is not in its layout and a name that is defined twice."""
 import io
 import os
 import unittest
 import unittest.mock
 
-from tests import __main__ as harness
 from tests.results import Counts
 from tests.sources import Sources, names_defined_twice
 from tests.support import scratch
@@ -61,12 +60,3 @@ class Layout(unittest.TestCase):
         counts, shown = self.look(LEAVES_ALL)
         self.assertEqual(counts, Counts(passed=1, failed=1))
         self.assertIn("FAILED: tests/test_one.py: defined twice: A.test_x\n", shown)
-
-
-class Run(unittest.TestCase):
-    def test_nothing_is_proved_after_a_failure(self):
-        failed = unittest.mock.patch.object(Sources, "run", lambda step, screen, watch: step.counts.add(Counts(failed=1)))
-        proved = unittest.mock.patch.object(harness, "prove", side_effect=AssertionError("it is proved"))
-        with failed, proved:
-            steps, _ = harness.try_everything(Screen(io.StringIO()))
-        self.assertEqual([step.counts for step in steps], [Counts(failed=1)])
