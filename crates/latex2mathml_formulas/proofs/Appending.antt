@@ -7,7 +7,7 @@ use Rattle.latex2mathml_trees.specs.{Print.print, Print.prints, Tree.Tree, Tree.
 use Rattle.std.specs.Prelude.{IfSome}
 use Rattle.latex2mathml_tokens.specs.{Refusal.Refusal, Refusal.refusal_of, declared.error.LatexError.LatexError, Tok.Tok}
 use Rattle.latex2mathml_formulas.specs.declared.reader.mark.Mark.{Mark}
-use Rattle.latex2mathml_formulas.proofs.{Levels.gives_read, Levels.lone_node, Stacks.token_begun, Total.some_taken}
+use Rattle.latex2mathml_formulas.proofs.{Levels.lone_node, Stacks.token_begun, Total.some_taken}
 
 -- the outcome of a formula of which these trees were read first
 abbrev pub behind : List Tree → Outcome (List Tree) → Outcome (List Tree)
@@ -106,12 +106,7 @@ pub node_begun : (input to : List Tok) (fs : List Frame) (ts : List Tree) (t : T
 node_begun input to fs ts t none same =
     subst (λ hs. RuleLeads (rule t) (Made core (inside input hs ts)) to) (sym none) (token_begun input [] ts input to t tt same (λ o d. d))
 
--- a token without parts
-pub leaf_begun : (input place to : List Tok) (fs : List Frame) (ts : List Tree) (t : Tok) (x : Tree) → fs ≡ [] → input ≡ t ∷ place → to ≡ place → rule t ≡ gives x → Made core (inside input fs ts) (Read x to)
-leaf_begun input place to fs ts t x none same kept is =
-    subst (λ l. Made core (inside input fs ts) (Read x l)) (sym kept) (node_begun input place fs ts t none same _ (gives_read (rule t) x place is))
-
--- .. after which no mark stands
+-- a token without parts, after which no mark stands
 pub leaf_read : (input place to : List Tok) (t : Tok) (x : Tree) (mark : Option Mark) → input ≡ t ∷ place → to ≡ place → rule t ≡ gives x → mark ≡ None → MarkStands mark (first place) → Reads node input (Read x to)
 leaf_read input place to t x mark same kept is none stands =
     let no_mark = subst (λ m. MarkStands m (first place)) none stands in

@@ -1,11 +1,12 @@
 -- Trees that are made of the last trees, and where they lead.
-use Rattle.std.proofs.Common.{◌≡◌, ◌⊎◌, inl, inr, ℕ, suc, ◌+◌, ◌-◌, ◌≤◌, List, [], ◌∷◌, ◌++◌, length, drop, take, reverse, refl, sym, ap, ◌∙◌, arith, add-one, append_assoc, append-nil}
+use Rattle.std.proofs.Common.{◌≡◌, ℕ, suc, ◌+◌, ◌-◌, ◌≤◌, List, [], ◌∷◌, ◌++◌, length, drop, take, reverse, refl, sym, ap, ◌∙◌, arith, add-one, append_assoc, append-nil}
 use Rattle.std.proofs.{lemmas.List.reverse-append, Math.Seq.drop-nil}
-use Rattle.latex2mathml_formulas.specs.Frames.{after_members, end_of, innermost, inside, one_of_pair, standing_of, tree_count, two_of_pair, unfit, within}
-use Rattle.latex2mathml_formulas.specs.Grammar.{core, of_one, Read, group_ends, rule_gives}
+use Rattle.latex2mathml_formulas.specs.Frames.{after_members, end_of, innermost, inside, one_of_pair, standing_of, tree_count, two_of_pair, within}
+use Rattle.latex2mathml_formulas.specs.Grammar.{core, gives, Read, group_ends}
 use Rattle.latex2mathml_formulas.specs.Levels.{Accepts, end_token, Leads, Made, remaining, RuleLeads}
+use Rattle.latex2mathml_formulas.specs.{Steps.GoesOnBy, Steps.GoesOnIn, Steps.last_tree_read, declared.parse.Parser.Parser}
 use Rattle.latex2mathml_trees.specs.Tree.{Tree}
-use Rattle.latex2mathml_parts.specs.{Parts.arity, Parts.put, Parts.top, declared.kind.Kind.Kind}
+use Rattle.latex2mathml_parts.specs.{Forests.trees_in, Parts.arity, Parts.put, Parts.top, declared.kind.Kind.Kind}
 use Rattle.latex2mathml_parts.specs.declared.kind.Kind.TheVariants as kind
 use Rattle.latex2mathml_tokens.specs.Tok.{Tok}
 use Rattle.latex2mathml_formulas.specs.declared.parse.frames.Due.TheVariants as due
@@ -33,21 +34,15 @@ drop_from_one n (t ∷ ts) h =
     let same : n ≡ suc (n - 1) = omega arith in
     ap (λ m. drop m (t ∷ ts)) same
 
--- the last operand of a part is read, be it a core or a single
-pub last_read : (input : List Tok) (fs : List Frame) (f : Frame) (k : Kind) (ts : List Tree) (place : List Tok) → (f ≡ frame.Operand k) ⊎ (f ≡ frame.Last k) → unfit f ≡ 0 → Accepts (within input fs f (drop 1 ts)) (Read (top ts) place) → Made core (inside input fs (drop (arity k) ts)) (Read (top (put k ts)) place)
-last_read input fs f k ts place h fits m = rw (last_operand k ts, drop_from_one (arity k) ts (some h)) (given h)
-  where
-    some : (f ≡ frame.Operand k) ⊎ (f ≡ frame.Last k) → 1 ≤ arity k
-    some (inl e) = let none = rw e at fits in omega arith
-    some (inr e) = let none = rw e at fits in omega arith
-
-    given : (f ≡ frame.Operand k) ⊎ (f ≡ frame.Last k) → Made core (inside input fs (drop (arity k - 1) (drop 1 ts))) (Read (top (put k (top ts ∷ drop 1 ts))) place)
-    given (inl e) = (rw e at m) _ rule_gives
-    given (inr e) = (rw e at m) _ rule_gives
+-- the last operand of a part is read
+pub last_read : (input : List Tok) (p : Parser) (k : Kind) → 1 - arity k ≡ 0 → Accepts (within input p.frames.stack.items (frame.Operand k) (drop 1 (trees_in p.parts))) (last_tree_read p) → GoesOnBy (gives (top (put k (trees_in p.parts)))) (arity k) input p
+last_read input p k fits m =
+    let some : 1 ≤ arity k = omega arith in
+    rw (last_operand k (trees_in p.parts), drop_from_one (arity k) (trees_in p.parts) some) m
 
 -- the first of two operands is read, and the second is due
-pub first_read : (input : List Tok) (fs : List Frame) (k : Kind) (ts : List Tree) {place : List Tok} → (2 - arity k) + (arity k - 2) ≡ 0 → RuleLeads (of_one (λ y. top (put k (y ∷ top ts ∷ drop 1 ts)))) (Made core (inside input fs (drop 1 ts))) place → RuleLeads (of_one (λ y. top (put k (y ∷ ts)))) (Made core (inside input fs (drop (arity k - 1) ts))) place
-first_read input fs k ts fits m =
+pub first_read : (input : List Tok) (p : Parser) (k : Kind) → (2 - arity k) + (arity k - 2) ≡ 0 → Accepts (within input p.frames.stack.items (frame.First k) (drop 1 (trees_in p.parts))) (last_tree_read p) → GoesOnIn (frame.Operand k) input p
+first_read input p k fits m =
     let two : arity k ≡ 2 = omega arith in
     rw two (simp (← first_operand) at m)
 
@@ -73,9 +68,9 @@ one_more : (g : Group) (n : ℕ) (t : Tree) (ts xs : List Tree) → after_member
 one_more g n t ts xs = rw (add-one, reverse-append (t ∷ []) (take n ts), append_assoc)
 
 -- one more member is read
-pub member_read : (input : List Tok) (fs : List Frame) (g : Group) (n : ℕ) (ts : List Tree) (place : List Tok) → 1 ≤ length ts → Accepts (within input fs (frame.Members g n) (drop 1 ts)) (Read (top ts) place) → RuleLeads (remaining (standing_of (frame.Members g (n + 1)) ts)) (Made core (inside input fs (drop (tree_count (frame.Members g (n + 1))) ts))) place
-member_read input fs g n [] place h m = absurd (omega arith)
-member_read input fs g n (t ∷ ts) place h m = rw (below_member g n t ts) (group_grown (one_more g n t ts) m)
+pub member_read : (input : List Tok) (fs : List Frame) (g : Group) (n : ℕ) (ts : List Tree) {place : List Tok} → 1 ≤ length ts → Accepts (within input fs (frame.Members g n) (drop 1 ts)) (Read (top ts) place) → RuleLeads (remaining (standing_of (frame.Members g (n + 1)) ts)) (Made core (inside input fs (drop (tree_count (frame.Members g (n + 1))) ts))) place
+member_read input fs g n [] h m = absurd (omega arith)
+member_read input fs g n (t ∷ ts) h m = rw (below_member g n t ts) (group_grown (one_more g n t ts) m)
 
 -- the end of the innermost group is taken
 pub group_closed : (input : List Tok) (fs gs : List Frame) (g : Group) (n : ℕ) (end : GroupEnd) (ts : List Tree) (place : List Tok) → gs ≡ fs ++ frame.Members g n ∷ [] → innermost gs ≡ due.Member end → Leads (inside input gs ts) (end_token end ∷ place) → RuleLeads (after_members g (drop n ts) (reverse (take n ts))) (Made core (inside input fs (drop (tree_count (frame.Members g n)) ts))) place

@@ -1,5 +1,6 @@
 -- The steps of the parser: what holds between two of them, what is counted, and how much is left to do.
-use Rattle.std.specs.Prelude.{◌≡◌, Bool, true, false, ℕ, ◌+◌, ◌*◌, ◌<◌, ◌≤◌, List, [], ◌++◌, drop, length, sum_by, IfSome}
+use Rattle.std.specs.Prelude.{◌≡◌, Bool, true, false, ℕ, ◌+◌, ◌*◌, ◌<◌, ◌≤◌, List, [], ◌++◌, drop, length, sum_by, IfOk, IfSome, Result}
+use Rattle.std.specs.declared.alloc.AllocError.{AllocError}
 use Rattle.latex2mathml_formulas.specs.Frames.{tree_count, innermost, inside, sort_made, standing_of}
 use Rattle.latex2mathml_formulas.specs.Grammar.{core, node, Outcome, Read, Reads, Refused, Rule}
 use Rattle.latex2mathml_formulas.specs.Levels.{Leads, Level, Made, RuleLeads, Accepts, remaining}
@@ -89,6 +90,11 @@ pub record Counted (n : ℕ) (old new : Parser) : Type 0 where
 pub record Follows (bound : ℕ) (p : Parser) (s : State) : Type 0 where
   pub trees : HasTrees (trees_of_state s) p
   pub falls : work p s < bound
+
+-- A step, whatever its answer is: what it counts, with n frames more, and that at most this much more is left to do after it.
+pub record IsStep (n more : ℕ) (old new : Parser) (answer : Result State AllocError) : Type 0 where
+  pub counted : Counted n old new
+  pub follows : IfOk answer (Follows (to_do old + more) new)
 
 -- The frame of a stretched operator was opened, and this lexeme was taken after `\middle`. A frame may be opened for it, if
 -- it is not the end.

@@ -99,7 +99,7 @@ fn append_node<'a>(
         }
         Some(_) => {
             parser.parts.make_room(&mut parser.works)?;
-            let state = parser.leaf(leaf)?;
+            let state = parser.put(leaf)?;
             append_rest(parser, state, markup)
         }
     }

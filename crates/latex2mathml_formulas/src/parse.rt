@@ -2,10 +2,10 @@
 //! tokens that were left before it.
 ghost use Rattle.std.specs.Prelude.{◌≡◌, ◌≢◌, ◌+◌, ◌<◌, [], false, IfOk, IfSome, List, vec_len};
 ghost use Rattle.std.specs.Str.{chars};
-ghost use Rattle.latex2mathml_formulas.specs.{Counts.backslashes, Cutting.slices_of, Frames.awaits, Frames.tree_count, Frames.unfit};
+ghost use Rattle.latex2mathml_formulas.specs.{Counts.backslashes, Cutting.slices_of, Frames.awaits, Frames.innermost, Frames.tree_count, Frames.unfit};
 ghost use Rattle.latex2mathml_formulas.specs.Grammar.{Reads, Refused, node as a_node};
 ghost use Rattle.latex2mathml_formulas.specs.{Levels.Leads, Unread.token_list};
-ghost use Rattle.latex2mathml_formulas.specs.Steps.{Counted, Follows, GoesOnIn, HasTrees, Holds, end_of, level, trees_of_state, state_weight, to_do, frame_weight, work};
+ghost use Rattle.latex2mathml_formulas.specs.Steps.{Counted, GoesOnIn, HasTrees, Holds, IsStep, end_of, level, trees_of_state, state_weight, frame_weight};
 ghost use Rattle.latex2mathml_tokens.specs.{Lexemes.lexeme_tok, Refusal.MissingParensethis, Refusal.refusal_of, Tok.Tok, Tok.tok};
 
 pub(crate) mod begin;
@@ -117,8 +117,7 @@ impl<'a> Parser<'a> {
         requires going_on { (state ≢ State.End) × (state ≢ State.Refused) }
         requires trees { HasTrees (trees_of_state state) self.old }
         ensures holds { (input : List Tok) → Holds input self.old state → IfOk result (Holds input self.new) }
-        ensures counted { Counted 0 self.old self.new }
-        ensures follows { IfOk result (Follows (work self.old state) self.new) }
+        ensures step { IsStep 0 (state_weight state (innermost self.old.frames.stack.items)) self.old self.new result }
     {
         match state {
             State::Next => self.next(),
@@ -132,8 +131,7 @@ impl<'a> Parser<'a> {
     fn next(&mut self) -> Result<State, AllocError>
         requires { HasTrees 0 self.old }
         ensures holds { (input : List Tok) → Holds input self.old State.Next → IfOk result (Holds input self.new) }
-        ensures counted { Counted 0 self.old self.new }
-        ensures follows { IfOk result (Follows (work self.old State.Next) self.new) }
+        ensures step { IsStep 0 (state_weight State.Next (innermost self.old.frames.stack.items)) self.old self.new result }
     {
         let lexeme = self.reader.take();
         if let Lexeme::EOF = lexeme {
@@ -150,8 +148,7 @@ impl<'a> Parser<'a> {
         requires { HasTrees 0 self.old }
         ensures holds { (input : List Tok) → Leads (level 0 input self.old) [] → self.old.reader.list ≡ []
             → IfOk result (Holds input self.new) }
-        ensures counted { Counted 0 self.old self.new }
-        ensures follows { IfOk result (Follows (work self.old State.Next) self.new) }
+        ensures step { IsStep 0 (state_weight State.Next (innermost self.old.frames.stack.items)) self.old self.new result }
     {
         if let Due::Member(end) = self.frames.due() {
             return Ok(self.refuse(LatexError::UnexpectedToken {
@@ -180,8 +177,7 @@ impl<'a> Parser<'a> {
         ensures holds { (input : List Tok)
             → Reads a_node input (Refused (MissingParensethis (tok location) (lexeme_tok got.entry)))
             → IfOk result (Holds input self.new) }
-        ensures counted { Counted 0 self.old self.new }
-        ensures follows { IfOk result (Follows (to_do self.old + 1) self.new) }
+        ensures step { IsStep 0 1 self.old self.new result }
     {
         let got = got.token(self.alloc)?;
         Ok(self.refuse(LatexError::MissingParensethis { location, got }))
@@ -193,8 +189,7 @@ impl<'a> Parser<'a> {
         requires fit { unfit frame ≡ 0 }
         requires trees { HasTrees (tree_count frame) self.old }
         ensures holds { (input : List Tok) → GoesOnIn frame.entry input self.old → IfOk result (Holds input self.new) }
-        ensures counted { Counted 1 self.old self.new }
-        ensures follows { IfOk result (Follows (to_do self.old + frame_weight frame.entry + 6) self.new) }
+        ensures step { IsStep 1 (frame_weight frame.entry + 6) self.old self.new result }
     {
         self.frames.open(frame)?;
         Ok(State::Next)
@@ -207,8 +202,7 @@ impl<'a> Parser<'a> {
         requires trees { HasTrees (tree_count frame) self.old }
         requires room { vec_len self.old.frames.stack < self.old.frames.greatest }
         ensures holds { (input : List Tok) → GoesOnIn frame.entry input self.old → IfOk result (Holds input self.new) }
-        ensures counted { Counted 0 self.old self.new }
-        ensures follows { IfOk result (Follows (to_do self.old + frame_weight frame.entry + state_weight State.Next (awaits frame.entry) + 1) self.new) }
+        ensures step { IsStep 0 (frame_weight frame.entry + state_weight State.Next (awaits frame.entry) + 1) self.old self.new result }
     {
         self.frames.put_back(frame)?;
         Ok(State::Next)

@@ -1,13 +1,13 @@
 //! How the rule of each lexeme is begun.
 
-ghost use Rattle.std.specs.Prelude.{◌≡◌, ◌≢◌, ◌+◌, [], IfOk, IfSome, List, MatchOption, None, Some};
-ghost use Rattle.latex2mathml_formulas.specs.{Frames.with_limits, Levels.Made, Openers.opens};
-ghost use Rattle.latex2mathml_formulas.specs.Grammar.{Read, a_root, core as a_core, gives, rule, sized, takes_token};
-ghost use Rattle.latex2mathml_formulas.specs.Steps.{Counted, Follows, GoesOnBy, HasTrees, Holds, IsStretched, level, to_do};
-ghost use Rattle.latex2mathml_trees.specs.{Productions.fence_of, Tree.undefined};
+ghost use Rattle.std.specs.Prelude.{◌≡◌, ◌≢◌, IfOk, IfSome, List, MatchOption, None, Some};
+ghost use Rattle.latex2mathml_formulas.specs.{Frames.with_limits, Openers.opens};
+ghost use Rattle.latex2mathml_formulas.specs.Grammar.{a_root, error_rule, gives, rule, sized, takes_token};
+ghost use Rattle.latex2mathml_formulas.specs.Steps.{Counted, GoesOnBy, HasTrees, Holds, IsStep, IsStretched};
+ghost use Rattle.latex2mathml_trees.specs.{Productions.fence_of, Tree.Tree};
 ghost use Rattle.latex2mathml_parts.specs.Forests.{trees_in};
 ghost use Rattle.latex2mathml_parts.specs.Parts.{arity, fence_text, put, top};
-ghost use Rattle.latex2mathml_tokens.specs.{Lexemes.lexeme_tok, Names.limit_text, Names.size_text, TokenText.token_text};
+ghost use Rattle.latex2mathml_tokens.specs.{Lexemes.lexeme_tok, Names.limit_text, Names.size_text};
 ghost use Rattle.latex2mathml_tokens.specs.declared.lexeme.Lexeme.{Lexeme};
 ghost use Rattle.latex2mathml_tokens.specs.Tok.{Tok, Begin, Left, Lim, Middle, OperatorName, Slashed, Text};
 
@@ -28,11 +28,10 @@ impl<'a> Parser<'a> {
     pub(crate) fn begin_any(&mut self, lexeme: Lexeme<'a>) -> Result<State, AllocError>
         requires { HasTrees 0 self.old }
         ensures holds { (input : List Tok) → GoesOnBy (rule (lexeme_tok lexeme.entry)) 0 input self.old → IfOk result (Holds input self.new) }
-        ensures counted { Counted (opens (lexeme_tok lexeme.entry)) self.old self.new }
-        ensures follows { IfOk result (Follows (to_do self.old + 13) self.new) }
+        ensures step { IsStep (opens (lexeme_tok lexeme.entry)) 13 self.old self.new result }
     {
         match symbol(lexeme) {
-            Some(leaf) => self.leaf(leaf),
+            Some(leaf) => self.put(leaf),
             None => self.begin(lexeme),
         }
     }
@@ -42,8 +41,7 @@ impl<'a> Parser<'a> {
     pub(crate) fn begin(&mut self, lexeme: Lexeme<'a>) -> Result<State, AllocError>
         requires { HasTrees 0 self.old }
         ensures holds { (input : List Tok) → GoesOnBy (rule (lexeme_tok lexeme.entry)) 0 input self.old → IfOk result (Holds input self.new) }
-        ensures counted { Counted (opens (lexeme_tok lexeme.entry)) self.old self.new }
-        ensures follows { IfOk result (Follows (to_do self.old + 13) self.new) }
+        ensures step { IsStep (opens (lexeme_tok lexeme.entry)) 13 self.old self.new result }
     {
         let mut begun = lexeme;
         'middles: while let Lexeme::Middle = begun {
@@ -73,8 +71,7 @@ impl<'a> Parser<'a> {
         requires other { lexeme ≢ Lexeme.Middle }
         requires trees { HasTrees 0 self.old }
         ensures holds { (input : List Tok) → GoesOnBy (rule (lexeme_tok lexeme.entry)) 0 input self.old → IfOk result (Holds input self.new) }
-        ensures counted { Counted (opens (lexeme_tok lexeme.entry)) self.old self.new }
-        ensures follows { IfOk result (Follows (to_do self.old + 13) self.new) }
+        ensures step { IsStep (opens (lexeme_tok lexeme.entry)) 13 self.old self.new result }
     {
         match lexeme {
             Lexeme::LBrace => self.open(Frame::Members(Group::Brace, 0)),
@@ -106,14 +103,14 @@ impl<'a> Parser<'a> {
             Lexeme::Left => self.open_fence(),
             Lexeme::Middle => unreachable!(),
             Lexeme::Begin => self.begin_environment(),
-            Lexeme::Number(digits) => self.leaf(Kind::Number(digits)),
-            Lexeme::Letter(c, variant) => self.leaf(Kind::Letter(c, variant)),
-            Lexeme::Operator(c) => self.leaf(Kind::Operator(c)),
-            Lexeme::Paren(paren) => self.leaf(Kind::Paren(paren)),
-            Lexeme::Ampersand => self.leaf(Kind::Ampersand),
-            Lexeme::Space(width) => self.leaf(Kind::Space(width)),
-            Lexeme::Function(name) => self.leaf(Kind::Function(name)),
-            Lexeme::NewLine => self.leaf(Kind::NewLine),
+            Lexeme::Number(digits) => self.put(Kind::Number(digits)),
+            Lexeme::Letter(c, variant) => self.put(Kind::Letter(c, variant)),
+            Lexeme::Operator(c) => self.put(Kind::Operator(c)),
+            Lexeme::Paren(paren) => self.put(Kind::Paren(paren)),
+            Lexeme::Ampersand => self.put(Kind::Ampersand),
+            Lexeme::Space(width) => self.put(Kind::Space(width)),
+            Lexeme::Function(name) => self.put(Kind::Function(name)),
+            Lexeme::NewLine => self.put(Kind::NewLine),
             Lexeme::Illegal(_)
             | Lexeme::EOF
             | Lexeme::End
@@ -125,26 +122,11 @@ impl<'a> Parser<'a> {
         }
     }
 
-    /// Puts a part without operands.
-    pub(crate) fn leaf(&mut self, kind: Kind<'a>) -> Result<State, AllocError>
-        requires plain { arity kind ≡ 0 }
-        requires trees { HasTrees 0 self.old }
-        ensures holds { (input : List Tok) → Made a_core (level 0 input self.old) (Read (top (put kind.entry [])) self.old.reader.list) → IfOk result (Holds input self.new) }
-        ensures counted { Counted 0 self.old self.new }
-        ensures follows { IfOk result (Follows (to_do self.old + 5) self.new) }
-    {
-        self.parts.put(kind)?;
-        Ok(State::Core)
-    }
-
     /// Puts a lexeme that has no meaning where it stands. It is marked as an error.
     pub(crate) fn error(&mut self, lexeme: Lexeme<'a>) -> Result<State, AllocError>
         requires { HasTrees 0 self.old }
-        ensures holds { (input : List Tok)
-            → Made a_core (level 0 input self.old) (Read (undefined (token_text (lexeme_tok lexeme.entry))) self.old.reader.list)
-            → IfOk result (Holds input self.new) }
-        ensures counted { Counted 0 self.old self.new }
-        ensures follows { IfOk result (Follows (to_do self.old + 5) self.new) }
+        ensures holds { (input : List Tok) → GoesOnBy (error_rule (lexeme_tok lexeme.entry)) 0 input self.old → IfOk result (Holds input self.new) }
+        ensures step { IsStep 0 5 self.old self.new result }
     {
         self.parts.put_error(lexeme)?;
         Ok(State::Core)
@@ -154,8 +136,7 @@ impl<'a> Parser<'a> {
     fn root(&mut self) -> Result<State, AllocError>
         requires { HasTrees 0 self.old }
         ensures holds { (input : List Tok) → GoesOnBy a_root 0 input self.old → IfOk result (Holds input self.new) }
-        ensures counted { Counted 1 self.old self.new }
-        ensures follows { IfOk result (Follows (to_do self.old + 13) self.new) }
+        ensures step { IsStep 1 13 self.old self.new result }
     {
         if self.reader.take_bracket() {
             return self.open(Frame::Members(Group::Degree, 0));
@@ -167,8 +148,7 @@ impl<'a> Parser<'a> {
     fn limits(&mut self, operator: char, below: Pair, above: Pair) -> Result<State, AllocError>
         requires { HasTrees 0 self.old }
         ensures holds { (input : List Tok) → GoesOnBy (with_limits operator below above (trees_in self.old.parts)) 0 input self.old → IfOk result (Holds input self.new) }
-        ensures counted { Counted 1 self.old self.new }
-        ensures follows { IfOk result (Follows (to_do self.old + 13) self.new) }
+        ensures step { IsStep 1 13 self.old self.new result }
     {
         if self.reader.take_if(Sign::Sub) {
             return self.open(Frame::Single(below));
@@ -176,31 +156,29 @@ impl<'a> Parser<'a> {
         if self.reader.take_if(Sign::Sup) {
             return self.open(Frame::Single(above));
         }
-        self.leaf(Kind::Operator(operator))
+        self.put(Kind::Operator(operator))
     }
 
     /// The name of a function, with a limit under it if the sign stands next.
     fn limit(&mut self, name: LimitName) -> Result<State, AllocError>
         requires { HasTrees 0 self.old }
         ensures holds { (input : List Tok) → GoesOnBy (rule (Lim (limit_text name))) 0 input self.old → IfOk result (Holds input self.new) }
-        ensures counted { Counted 1 self.old self.new }
-        ensures follows { IfOk result (Follows (to_do self.old + 13) self.new) }
+        ensures step { IsStep 1 13 self.old self.new result }
     {
         if self.reader.take_if(Sign::Sub) {
             return self.open(Frame::Last(Kind::LimitUnder(name)));
         }
-        self.leaf(Kind::Limit(name))
+        self.put(Kind::Limit(name))
     }
 
     /// A parenthesis of this size. It must stand next.
     fn size_paren(&mut self, size: Size) -> Result<State, AllocError>
         requires { HasTrees 0 self.old }
         ensures holds { (input : List Tok) → GoesOnBy (takes_token (sized (size_text size))) 0 input self.old → IfOk result (Holds input self.new) }
-        ensures counted { Counted 0 self.old self.new }
-        ensures follows { IfOk result (Follows (to_do self.old + 13) self.new) }
+        ensures step { IsStep 0 13 self.old self.new result }
     {
         match self.reader.take() {
-            Lexeme::Paren(paren) => self.leaf(Kind::SizedParen(size, paren)),
+            Lexeme::Paren(paren) => self.put(Kind::SizedParen(size, paren)),
             got => {
                 let got = got.token(self.alloc)?;
                 Ok(self.refuse(LatexError::UnexpectedToken {
@@ -215,8 +193,7 @@ impl<'a> Parser<'a> {
     fn words(&mut self) -> Result<State, AllocError>
         requires { HasTrees 0 self.old }
         ensures holds { (input : List Tok) → GoesOnBy (rule Text) 0 input self.old → IfOk result (Holds input self.new) }
-        ensures counted { Counted 0 self.old self.new }
-        ensures follows { IfOk result (Follows (to_do self.old + 13) self.new) }
+        ensures step { IsStep 0 13 self.old self.new result }
     {
         let text = self.reader.name(self.alloc)?;
         self.parts.put_words(text)?;
@@ -227,8 +204,7 @@ impl<'a> Parser<'a> {
     fn function(&mut self) -> Result<State, AllocError>
         requires { HasTrees 0 self.old }
         ensures holds { (input : List Tok) → GoesOnBy (rule OperatorName) 0 input self.old → IfOk result (Holds input self.new) }
-        ensures counted { Counted 0 self.old self.new }
-        ensures follows { IfOk result (Follows (to_do self.old + 13) self.new) }
+        ensures step { IsStep 0 13 self.old self.new result }
     {
         let name = self.reader.name(self.alloc)?;
         self.parts.put_function(name)?;
@@ -239,8 +215,7 @@ impl<'a> Parser<'a> {
     fn slash(&mut self) -> Result<State, AllocError>
         requires { HasTrees 0 self.old }
         ensures holds { (input : List Tok) → GoesOnBy (rule Slashed) 0 input self.old → IfOk result (Holds input self.new) }
-        ensures counted { Counted 1 self.old self.new }
-        ensures follows { IfOk result (Follows (to_do self.old + 13) self.new) }
+        ensures step { IsStep 1 13 self.old self.new result }
     {
         self.reader.skip();
         self.open(Frame::Slashed)
@@ -250,8 +225,7 @@ impl<'a> Parser<'a> {
     fn open_fence(&mut self) -> Result<State, AllocError>
         requires { HasTrees 0 self.old }
         ensures holds { (input : List Tok) → GoesOnBy (rule Left) 0 input self.old → IfOk result (Holds input self.new) }
-        ensures counted { Counted 1 self.old self.new }
-        ensures follows { IfOk result (Follows (to_do self.old + 13) self.new) }
+        ensures step { IsStep 1 13 self.old self.new result }
     {
         let got = self.reader.take();
         let Some(opening) = fence_of(got) else {
@@ -264,8 +238,7 @@ impl<'a> Parser<'a> {
     fn begin_environment(&mut self) -> Result<State, AllocError>
         requires { HasTrees 0 self.old }
         ensures holds { (input : List Tok) → GoesOnBy (rule Begin) 0 input self.old → IfOk result (Holds input self.new) }
-        ensures counted { Counted 1 self.old self.new }
-        ensures follows { IfOk result (Follows (to_do self.old + 13) self.new) }
+        ensures step { IsStep 1 13 self.old self.new result }
     {
         let name = self.reader.name(self.alloc)?;
         self.parts.put_words(name)?;
@@ -287,7 +260,7 @@ pub(crate) fn fence_of(lexeme: Lexeme) -> Option<Option<Paren>>
 
 /// What a lexeme of the most frequent kinds makes, which are cores by themselves.
 pub(crate) fn symbol(lexeme: Lexeme<'_>) -> Option<Kind<'_>>
-    ensures { IfSome result (λ kind. (arity kind ≡ 0) × (rule (lexeme_tok lexeme.entry) ≡ gives (top (put kind [])))) }
+    ensures { IfSome result (λ kind. (arity kind ≡ 0) × ((ts : List Tree) → rule (lexeme_tok lexeme.entry) ≡ gives (top (put kind ts)))) }
 {
     match lexeme {
         Lexeme::Number(digits) => Some(Kind::Number(digits)),

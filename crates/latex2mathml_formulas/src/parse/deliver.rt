@@ -2,9 +2,9 @@
 
 ghost use Rattle.std.specs.Prelude.{◌≡◌, ◌∷◌, ◌+◌, ◌<◌, IfOk, List, drop, reverse, take, vec_len};
 ghost use Rattle.latex2mathml_formulas.specs.Frames.{after_first, tree_count, innermost, script, unfit, within};
-ghost use Rattle.latex2mathml_formulas.specs.Grammar.{Read, after_fence_members, core as a_core, after_environment_members, stretched_or_refused, under_slash};
-ghost use Rattle.latex2mathml_formulas.specs.Levels.{Leads, Made, Accepts, end_token};
-ghost use Rattle.latex2mathml_formulas.specs.Steps.{Counted, Follows, GoesOnBy, HasTrees, Holds, last_tree_read, level, to_do, frame_weight};
+ghost use Rattle.latex2mathml_formulas.specs.Grammar.{after_fence_members, after_environment_members, gives, stretched_or_refused, under_slash};
+ghost use Rattle.latex2mathml_formulas.specs.Levels.{Leads, Accepts, end_token};
+ghost use Rattle.latex2mathml_formulas.specs.Steps.{GoesOnBy, HasTrees, Holds, IsStep, last_tree_read, level, frame_weight};
 ghost use Rattle.latex2mathml_trees.specs.{Productions.stretched_operator, Tree.Tree};
 ghost use Rattle.latex2mathml_parts.specs.Forests.{trees_in};
 ghost use Rattle.latex2mathml_parts.specs.Parts.{arity, fence_text, put, top, words_of};
@@ -26,9 +26,8 @@ impl<'a> Parser<'a> {
     /// Gives the innermost frame the part that it waits for. Without frames the part is a node of the formula.
     pub(crate) fn after_part(&mut self) -> Result<State, AllocError>
         requires { HasTrees 1 self.old }
-        ensures holds { (input : List Tok) → Accepts (level 1 input self.old) (last_tree_read self.old) → IfOk result (Holds input self.new) }
-        ensures counted { Counted 0 self.old self.new }
-        ensures follows { IfOk result (Follows (to_do self.old + 3) self.new) }
+        ensures holds { (input : List Tok) → Holds input self.old State.Part → IfOk result (Holds input self.new) }
+        ensures step { IsStep 0 3 self.old self.new result }
     {
         let Some(frame) = self.frames.pop() else {
             return Ok(State::End);
@@ -42,8 +41,7 @@ impl<'a> Parser<'a> {
         requires trees { HasTrees (tree_count frame + 1) self.old }
         requires room { vec_len self.old.frames.stack < self.old.frames.greatest }
         ensures holds { (input : List Tok) → Accepts (within input self.old.frames.stack.items frame.entry (drop 1 (trees_in self.old.parts))) (last_tree_read self.old) → IfOk result (Holds input self.new) }
-        ensures counted { Counted 0 self.old self.new }
-        ensures follows { IfOk result (Follows (to_do self.old + frame_weight frame.entry + 3) self.new) }
+        ensures step { IsStep 0 (frame_weight frame.entry + 3) self.old self.new result }
     {
         match frame {
             Frame::Members(group, count) => {
@@ -51,7 +49,8 @@ impl<'a> Parser<'a> {
                 let _ = self.parts.len();
                 self.put_back(Frame::Members(group, count + 1))
             }
-            Frame::Operand(kind) | Frame::Last(kind) => self.combine(kind),
+            Frame::Operand(kind) => self.put(kind),
+            Frame::Last(kind) => self.put(kind),
             Frame::First(kind) => self.put_back(Frame::Operand(kind)),
             Frame::Style(variant) => {
                 self.parts.give_style(variant);
@@ -67,12 +66,11 @@ impl<'a> Parser<'a> {
         }
     }
 
-    /// Puts a part after its operands.
-    fn combine(&mut self, kind: Kind<'a>) -> Result<State, AllocError>
+    /// Puts a part after its operands, if it has any.
+    pub(crate) fn put(&mut self, kind: Kind<'a>) -> Result<State, AllocError>
         requires { HasTrees (arity kind) self.old }
-        ensures holds { (input : List Tok) → Made a_core (level (arity kind.entry) input self.old) (Read (top (put kind.entry (trees_in self.old.parts))) self.old.reader.list) → IfOk result (Holds input self.new) }
-        ensures counted { Counted 0 self.old self.new }
-        ensures follows { IfOk result (Follows (to_do self.old + 5) self.new) }
+        ensures holds { (input : List Tok) → GoesOnBy (gives (top (put kind.entry (trees_in self.old.parts)))) (arity kind.entry) input self.old → IfOk result (Holds input self.new) }
+        ensures step { IsStep 0 5 self.old self.new result }
     {
         self.parts.put(kind)?;
         Ok(State::Core)
@@ -83,21 +81,19 @@ impl<'a> Parser<'a> {
         requires trees { HasTrees 1 self.old }
         requires room { vec_len self.old.frames.stack < self.old.frames.greatest }
         ensures holds { (input : List Tok) → GoesOnBy (after_first pair (drop 1 (trees_in self.old.parts)) (top (trees_in self.old.parts))) 1 input self.old → IfOk result (Holds input self.new) }
-        ensures counted { Counted 0 self.old self.new }
-        ensures follows { IfOk result (Follows (to_do self.old + 5) self.new) }
+        ensures step { IsStep 0 5 self.old self.new result }
     {
         if self.reader.take_if(pair.sign()) {
             return self.put_back(Frame::Last(pair.two()));
         }
-        self.combine(pair.one())
+        self.put(pair.one())
     }
 
     /// Strikes the last tree through. The lexeme after it is skipped.
     fn end_slash(&mut self) -> Result<State, AllocError>
         requires { HasTrees 1 self.old }
         ensures holds { (input : List Tok) → GoesOnBy (under_slash (top (trees_in self.old.parts))) 1 input self.old → IfOk result (Holds input self.new) }
-        ensures counted { Counted 0 self.old self.new }
-        ensures follows { IfOk result (Follows (to_do self.old + 5) self.new) }
+        ensures step { IsStep 0 5 self.old self.new result }
     {
         self.reader.skip();
         self.parts.slash()?;
@@ -108,8 +104,7 @@ impl<'a> Parser<'a> {
     fn end_stretch(&mut self, got: Lexeme<'a>) -> Result<State, AllocError>
         requires { HasTrees 1 self.old }
         ensures holds { (input : List Tok) → GoesOnBy (stretched_or_refused (lexeme_tok got.entry) (stretched_operator (top (trees_in self.old.parts)))) 1 input self.old → IfOk result (Holds input self.new) }
-        ensures counted { Counted 0 self.old self.new }
-        ensures follows { IfOk result (Follows (to_do self.old + 5) self.new) }
+        ensures step { IsStep 0 5 self.old self.new result }
     {
         if self.parts.stretch() {
             return Ok(State::Core);
@@ -123,8 +118,7 @@ impl<'a> Parser<'a> {
         requires trees { HasTrees 0 self.old }
         ensures holds { (input : List Tok) (end : GroupEnd) → innermost self.old.frames.stack.items ≡ Due.Member end
             → Leads (level 0 input self.old) (end_token end ∷ self.old.reader.list) → IfOk result (Holds input self.new) }
-        ensures counted { Counted 0 self.old self.new }
-        ensures follows { IfOk result (Follows (to_do self.old + 16) self.new) }
+        ensures step { IsStep 0 16 self.old self.new result }
     {
         let Some(Frame::Members(group, count)) = self.frames.pop() else {
             unreachable!()
@@ -147,23 +141,21 @@ impl<'a> Parser<'a> {
     fn close_fence(&mut self, opening: Option<Paren>, count: usize) -> Result<State, AllocError>
         requires { HasTrees count self.old }
         ensures holds { (input : List Tok) → GoesOnBy (after_fence_members (fence_text opening) (reverse (take count (trees_in self.old.parts)))) count input self.old → IfOk result (Holds input self.new) }
-        ensures counted { Counted 0 self.old self.new }
-        ensures follows { IfOk result (Follows (to_do self.old + 5) self.new) }
+        ensures step { IsStep 0 5 self.old self.new result }
     {
         let got = self.reader.take();
         let Some(closing) = fence_of(got) else {
             return self.refuse_fence(Token::Right, got);
         };
         self.parts.group(count)?;
-        self.combine(Kind::Fenced(opening, closing))
+        self.put(Kind::Fenced(opening, closing))
     }
 
     /// Ends an environment whose members were read.
     fn end_environment(&mut self, count: usize) -> Result<State, AllocError>
         requires { HasTrees (count + 1) self.old }
         ensures holds { (input : List Tok) → GoesOnBy (after_environment_members (words_of (top (drop count (trees_in self.old.parts)))) (reverse (take count (trees_in self.old.parts)))) (count + 1) input self.old → IfOk result (Holds input self.new) }
-        ensures counted { Counted 0 self.old self.new }
-        ensures follows { IfOk result (Follows (to_do self.old + 5) self.new) }
+        ensures step { IsStep 0 5 self.old self.new result }
     {
         self.reader.skip_name();
         if self.parts.environment(count)? {

@@ -1,9 +1,9 @@
 //! Primes and scripts, which go on with what stands before them.
 
-ghost use Rattle.std.specs.Prelude.{◌≡◌, ◌+◌, IfOk, List, Some};
-ghost use Rattle.latex2mathml_formulas.specs.Grammar.{core as a_core, first, prime, single as a_single};
+ghost use Rattle.std.specs.Prelude.{◌≡◌, IfOk, List, Some};
+ghost use Rattle.latex2mathml_formulas.specs.Grammar.{first, prime, single as a_single};
 ghost use Rattle.latex2mathml_formulas.specs.{Levels.Made, Marks.sign_token};
-ghost use Rattle.latex2mathml_formulas.specs.Steps.{Counted, Follows, HasTrees, Holds, last_tree_read, level, to_do};
+ghost use Rattle.latex2mathml_formulas.specs.Steps.{HasTrees, Holds, IsStep, last_tree_read, level};
 ghost use Rattle.latex2mathml_tokens.specs.Tok.{Tok};
 
 use crate::parse::frames::{Due, Frame};
@@ -16,9 +16,8 @@ impl<'a> Parser<'a> {
     /// Goes on after a core, with a prime or a script if one follows.
     pub(crate) fn after_core(&mut self) -> Result<State, AllocError>
         requires { HasTrees 1 self.old }
-        ensures holds { (input : List Tok) → Made a_core (level 1 input self.old) (last_tree_read self.old) → IfOk result (Holds input self.new) }
-        ensures counted { Counted 0 self.old self.new }
-        ensures follows { IfOk result (Follows (to_do self.old + 4) self.new) }
+        ensures holds { (input : List Tok) → Holds input self.old State.Core → IfOk result (Holds input self.new) }
+        ensures step { IsStep 0 4 self.old self.new result }
     {
         let Some(mark) = self.reader.mark() else {
             return self.after_part();
@@ -33,9 +32,8 @@ impl<'a> Parser<'a> {
     fn after_prime(&mut self) -> Result<State, AllocError>
         requires prime { first self.old.reader.list ≡ Some prime }
         requires trees { HasTrees 1 self.old }
-        ensures holds { (input : List Tok) → Made a_core (level 1 input self.old) (last_tree_read self.old) → IfOk result (Holds input self.new) }
-        ensures counted { Counted 0 self.old self.new }
-        ensures follows { IfOk result (Follows (to_do self.old + 4) self.new) }
+        ensures holds { (input : List Tok) → Holds input self.old State.Core → IfOk result (Holds input self.new) }
+        ensures step { IsStep 0 4 self.old self.new result }
     {
         if let Due::Core = self.frames.due() {
             return Ok(State::Part);
@@ -49,8 +47,7 @@ impl<'a> Parser<'a> {
     fn after_single(&mut self) -> Result<State, AllocError>
         requires { HasTrees 1 self.old }
         ensures holds { (input : List Tok) → Made a_single (level 1 input self.old) (last_tree_read self.old) → IfOk result (Holds input self.new) }
-        ensures counted { Counted 0 self.old self.new }
-        ensures follows { IfOk result (Follows (to_do self.old + 4) self.new) }
+        ensures step { IsStep 0 4 self.old self.new result }
     {
         let Some(mark) = self.reader.mark() else {
             return Ok(State::Part);
@@ -66,8 +63,7 @@ impl<'a> Parser<'a> {
         requires sign { first self.old.reader.list ≡ Some (sign_token sign) }
         requires trees { HasTrees 1 self.old }
         ensures holds { (input : List Tok) → Made a_single (level 1 input self.old) (last_tree_read self.old) → IfOk result (Holds input self.new) }
-        ensures counted { Counted 0 self.old self.new }
-        ensures follows { IfOk result (Follows (to_do self.old + 4) self.new) }
+        ensures step { IsStep 0 4 self.old self.new result }
     {
         if !self.frames.due().takes_script() {
             return Ok(State::Part);

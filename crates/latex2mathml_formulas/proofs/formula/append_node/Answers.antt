@@ -1,6 +1,7 @@
+use Rattle.std.proofs.Common.{[]}
 use Rattle.latex2mathml_parts.specs.Forests.{trees_in}
 use Rattle.latex2mathml_tokens.specs.Lexemes.{lexeme_tok}
-use Rattle.latex2mathml_formulas.proofs.Appending.{leaf_begun, leaf_read, node_begun}
+use Rattle.latex2mathml_formulas.proofs.Appending.{leaf_read, node_begun}
 use Rattle.latex2mathml_formulas.proofs.formula.append_node.Goals as goal
 
 pub returns-in_default-clause-node : goal.returns-in_default-clause-node
@@ -9,11 +10,11 @@ returns-in_default-clause-node c = λ input e.
 
 pub returns-in_ok-write_leaf-in-None-clause-node : goal.returns-in_ok-write_leaf-in-None-clause-node
 returns-in_ok-write_leaf-in-None-clause-node c = λ input e.
-    (c.requires, (_, leaf_read input c.args.parser.now.reader.list c.mark.new.self.list (lexeme_tok c.args.lexeme) _ c.mark.result e c.mark.ensures.list c.in-Some.ensures.1 c.in-None.is c.mark.ensures.mark, c.in_ok-write_leaf-in-None.ensures))
+    (c.requires, (_, leaf_read input c.args.parser.now.reader.list c.mark.new.self.list (lexeme_tok c.args.lexeme) _ c.mark.result e c.mark.ensures.list (c.in-Some.ensures.1 []) c.in-None.is c.mark.ensures.mark, c.in_ok-write_leaf-in-None.ensures))
 
 pub returns-in_ok-state-in-Some-mark-clause-node : goal.returns-in_ok-state-in-Some-mark-clause-node
 returns-in_ok-state-in-Some-mark-clause-node c = λ input e.
-    let p = c.args.parser.now in
+    let ts = trees_in c.make_room-in-Some-mark.new.self in
     c.append_rest-in-Some-mark.ensures.node input
     (c.in_ok-state-in-Some-mark.ensures.holds input
-    (leaf_begun input p.reader.list c.mark.new.self.list p.frames.stack.items (trees_in c.make_room-in-Some-mark.new.self) (lexeme_tok c.args.lexeme) _ c.requires e c.mark.ensures.list c.in-Some.ensures.1))
+    (rw (c.in-Some.ensures.0, c.mark.ensures.list, ← c.in-Some.ensures.1 ts) (node_begun input _ _ ts (lexeme_tok c.args.lexeme) c.requires e)))

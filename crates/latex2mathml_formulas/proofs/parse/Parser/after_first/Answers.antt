@@ -1,4 +1,3 @@
-use Rattle.latex2mathml_formulas.specs.Grammar.{rule_gives}
 use Rattle.latex2mathml_parts.specs.Forests.{trees_in}
 use Rattle.latex2mathml_formulas.proofs.Combining.{arity_of_one, arity_of_two, first_operand, last_operand}
 use Rattle.latex2mathml_formulas.proofs.Levels.{signed, unsigned}
@@ -12,5 +11,5 @@ returns-then-take_if-clause-holds c = λ input k.
 pub returns-clause-holds : goal.returns-clause-holds
 returns-clause-holds c = λ input k.
     let absent = rw (c.if-take_if.false, c.sign.ensures) at c.take_if.ensures.list in
-    c.combine.ensures.holds input
-    (rw (c.one.ensures, arity_of_one c.args.pair, last_operand _ (trees_in c.args.self.now.parts)) (unsigned absent k _ rule_gives))
+    c.put.ensures.holds input
+    (rw (c.one.ensures, arity_of_one c.args.pair, last_operand _ (trees_in c.args.self.now.parts)) (unsigned absent k))

@@ -1,5 +1,4 @@
 use Rattle.std.proofs.Common.{sym, ◌∙◌}
-use Rattle.latex2mathml_formulas.specs.Grammar.{rule_gives}
 use Rattle.latex2mathml_parts.specs.Forests.{trees_in}
 use Rattle.latex2mathml_formulas.proofs.Stacks.{group_open, nothing_begun}
 use Rattle.latex2mathml_formulas.proofs.parse.Parser.at_end.Goals as goal
@@ -12,4 +11,4 @@ returns-in-Member-clause-holds c = λ input k none.
 pub returns-clause-holds : goal.returns-clause-holds
 returns-clause-holds c = λ input k none.
     let p = c.args.self.now in
-    c.error.ensures.holds input (rw none (nothing_begun input p.frames.stack.items (trees_in p.parts) c.due.result c.due.ensures c.in_default.not-Member k _ rule_gives))
+    c.error.ensures.holds input (rw none (nothing_begun input p.frames.stack.items (trees_in p.parts) c.due.result c.due.ensures c.in_default.not-Member k))

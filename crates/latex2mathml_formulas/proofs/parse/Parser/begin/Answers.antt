@@ -1,22 +1,23 @@
 use Rattle.std.proofs.Common.{arith}
-use Rattle.latex2mathml_formulas.specs.Grammar.{rule_gives}
 use Rattle.latex2mathml_formulas.proofs.{Progress.GoesOn-trans, Stepping.follows_within}
 use Rattle.latex2mathml_formulas.proofs.parse.Parser.begin.Goals as goal
 
 pub returns-in-EOF-clause-holds : goal.returns-in-EOF-clause-holds
 returns-in-EOF-clause-holds c = λ input k.
     let begun = rw c.in-Middle.is at (c.middles.invariant.holds input k) in
-    c.error.ensures.holds input (rw c.in-EOF.is ((rw c.in-EOF.is at (c.in_ok-begun.ensures.holds input begun)) _ rule_gives))
+    c.error.ensures.holds input (rw c.in-EOF.is (rw c.in-EOF.is at (c.in_ok-begun.ensures.holds input begun)))
 
 pub returns : goal.returns
 returns c =
     let i = c.middles.invariant in
-    let d = c.begin_rule.ensures.counted in
+    let d = c.begin_rule.ensures.step.counted in
     record {
       holds = λ input k. c.begin_rule.ensures.holds input (i.holds input k);
-      counted = record {
-        counts = GoesOn-trans _ _ _ i.counts d.counts;
-        frames = record { taken = omega arith; openers = omega arith };
+      step = record {
+        counted = record {
+          counts = GoesOn-trans _ _ _ i.counts d.counts;
+          frames = record { taken = omega arith; openers = omega arith };
+        };
+        follows = follows_within c.begin_rule.result c.begin_rule.new.self _ _ (omega arith) c.begin_rule.ensures.step.follows;
       };
-      follows = follows_within c.begin_rule.result c.begin_rule.new.self _ _ (omega arith) c.begin_rule.ensures.follows;
     }

@@ -1,7 +1,7 @@
 use Rattle.std.proofs.Common.{◌≡◌, arith, rules, w32}
 use Rattle.std.proofs.lemmas.Int.{to_z-of_z}
 use mir.Val.{of_z, to_z}
-use Rattle.latex2mathml_formulas.specs.Grammar.{error_rule, rule, rule_gives}
+use Rattle.latex2mathml_formulas.specs.Grammar.{error_rule, rule}
 use Rattle.latex2mathml_tokens.specs.Lexemes.{lexeme_tok}
 use Rattle.latex2mathml_formulas.proofs.parse.Parser.begin_rule.Goals as goal
 
@@ -66,33 +66,33 @@ pub returns-in-Begin-clause-holds : goal.returns-in-Begin-clause-holds
 returns-in-Begin-clause-holds c = λ input k. c.begin_environment.ensures.holds input (rw c.in-Begin.is at k)
 
 pub returns-in-Number-clause-holds : goal.returns-in-Number-clause-holds
-returns-in-Number-clause-holds c = λ input k. c.leaf.ensures.holds input ((rw c.in-Number.is at k) _ rule_gives)
+returns-in-Number-clause-holds c = λ input k. c.put.ensures.holds input (rw c.in-Number.is at k)
 
 pub returns-in-Letter-clause-holds : goal.returns-in-Letter-clause-holds
-returns-in-Letter-clause-holds c = λ input k. c.leaf-in-Letter.ensures.holds input ((rw c.in-Letter.is at k) _ rule_gives)
+returns-in-Letter-clause-holds c = λ input k. c.put-in-Letter.ensures.holds input (rw c.in-Letter.is at k)
 
 pub returns-in-Operator-clause-holds : goal.returns-in-Operator-clause-holds
-returns-in-Operator-clause-holds c = λ input k. c.leaf-in-Operator.ensures.holds input ((rw c.in-Operator.is at k) _ rule_gives)
+returns-in-Operator-clause-holds c = λ input k. c.put-in-Operator.ensures.holds input (rw c.in-Operator.is at k)
 
 pub returns-in-Paren-clause-holds : goal.returns-in-Paren-clause-holds
-returns-in-Paren-clause-holds c = λ input k. c.leaf-in-Paren.ensures.holds input ((rw c.in-Paren.is at k) _ rule_gives)
+returns-in-Paren-clause-holds c = λ input k. c.put-in-Paren.ensures.holds input (rw c.in-Paren.is at k)
 
 pub returns-in-Ampersand-clause-holds : goal.returns-in-Ampersand-clause-holds
-returns-in-Ampersand-clause-holds c = λ input k. c.leaf-in-Ampersand.ensures.holds input ((rw c.in-Ampersand.is at k) _ rule_gives)
+returns-in-Ampersand-clause-holds c = λ input k. c.put-in-Ampersand.ensures.holds input (rw c.in-Ampersand.is at k)
 
 pub returns-in-Function-clause-holds : goal.returns-in-Function-clause-holds
-returns-in-Function-clause-holds c = λ input k. c.leaf-in-Function.ensures.holds input ((rw c.in-Function.is at k) _ rule_gives)
+returns-in-Function-clause-holds c = λ input k. c.put-in-Function.ensures.holds input (rw c.in-Function.is at k)
 
 pub returns-in-NewLine-clause-holds : goal.returns-in-NewLine-clause-holds
-returns-in-NewLine-clause-holds c = λ input k. c.leaf-in-NewLine.ensures.holds input ((rw c.in-NewLine.is at k) _ rule_gives)
+returns-in-NewLine-clause-holds c = λ input k. c.put-in-NewLine.ensures.holds input (rw c.in-NewLine.is at k)
 
 pub returns-in-Space-clause-holds : goal.returns-in-Space-clause-holds
 returns-in-Space-clause-holds c = λ input k.
     let same : to_z w32 (of_z w32 c.in-Space.width) ≡ c.in-Space.width = search (rules, to_z-of_z) in
-    c.leaf-in-Space.ensures.holds input (rw same ((rw c.in-Space.is at k) _ rule_gives))
+    c.put-in-Space.ensures.holds input (rw same (rw c.in-Space.is at k))
 
 pub returns-in-Illegal-clause-holds : goal.returns-in-Illegal-clause-holds
 returns-in-Illegal-clause-holds c = λ input k.
     let t = c.args.lexeme in
     let bare : rule (lexeme_tok t) ≡ error_rule (lexeme_tok t) = grind (arith, c.in-Illegal.is) in
-    c.error.ensures.holds input ((rw bare at k) _ rule_gives)
+    c.error.ensures.holds input (rw bare at k)

@@ -1,5 +1,4 @@
-use Rattle.std.proofs.Common.{drop, refl}
-use Rattle.latex2mathml_formulas.specs.Grammar.{rule_gives}
+use Rattle.std.proofs.Common.{rules, drop, refl}
 use Rattle.latex2mathml_parts.specs.Forests.{trees_in}
 use Rattle.latex2mathml_formulas.proofs.{Levels.taken, Stacks.core_refused, Stepping.counted_skipped}
 use Rattle.latex2mathml_formulas.proofs.parse.Parser.close_fence.Goals as goal
@@ -12,8 +11,11 @@ returns-in_default-clause-holds c = λ input k.
 
 pub returns-clause-holds : goal.returns-clause-holds
 returns-clause-holds c = λ input k.
-    c.combine.ensures.holds input
-    (rw c.in_ok-group.ensures ((rw c.in-Some.ensures at (taken c.take-got.ensures.token c.take-got.ensures.list k)) _ rule_gives))
+    c.put.ensures.holds input
+    (rw c.in_ok-group.ensures (rw c.in-Some.ensures at (taken c.take-got.ensures.token c.take-got.ensures.list k)))
 
-pub returns-in_default-clause-counted : goal.returns-in_default-clause-counted
-returns-in_default-clause-counted c = counted_skipped c.args.self.now _ _ 0 c.take-got.ensures.list c.take-got.ensures.counts refl c.refuse_fence.ensures.counted
+pub returns-in_default-clause-step : goal.returns-in_default-clause-step
+returns-in_default-clause-step c = record {
+  counted = counted_skipped c.args.self.now _ _ 0 c.take-got.ensures.list c.take-got.ensures.counts refl c.refuse_fence.ensures.step.counted;
+  follows = search rules;
+}

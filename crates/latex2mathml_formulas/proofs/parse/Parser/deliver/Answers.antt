@@ -2,28 +2,26 @@ use Rattle.std.proofs.Common.{arith, drop, ◌∙◌}
 use Rattle.latex2mathml_formulas.specs.{Frames.inside, Frames.script, Grammar.Read, Grammar.rule_gives}
 use Rattle.latex2mathml_parts.specs.{Forests.trees_in, Parts.top}
 use Rattle.latex2mathml_formulas.proofs.Combining.{drop_from_one, first_read, last_read, member_read}
-use Rattle.latex2mathml_formulas.proofs.{Levels.node_due, parse.Parser.deliver.Goals.in-Operand, parse.Parser.deliver.Goals.in-Operand-2}
+use Rattle.latex2mathml_formulas.proofs.Levels.{node_due}
 use Rattle.latex2mathml_formulas.proofs.parse.Parser.deliver.Goals as goal
 
 pub returns-in-Members-clause-holds : goal.returns-in-Members-clause-holds
 returns-in-Members-clause-holds c = λ input k.
     let p = c.args.self.now in
     let enough = c.requires.trees in
-    c.put_back.ensures.holds input (member_read input p.frames.stack.items c.in-Members.group c.in-Members.count (trees_in p.parts) _ (omega arith) (rw c.in-Members.is at k))
+    c.put_back.ensures.holds input (member_read input p.frames.stack.items _ _ (trees_in p.parts) (omega arith) (rw c.in-Members.is at k))
 
 pub returns-in-Operand-clause-holds : goal.returns-in-Operand-clause-holds
 returns-in-Operand-clause-holds c = λ input k.
-    let p = c.args.self.now in
-    c.combine.ensures.holds input
-    (elim c.in-Operand-1.branch [
-      | in-Operand w ↦ rw w.kind-is (last_read input p.frames.stack.items _ _ (trees_in p.parts) _ w.in-Operand.is c.requires.fit k)
-      | in-Operand-2 w ↦ rw w.kind-is (last_read input p.frames.stack.items _ _ (trees_in p.parts) _ w.in-Operand.is c.requires.fit k)
-    ])
+    c.put.ensures.holds input (last_read input c.args.self.now _ (rw c.in-Operand.is at c.requires.fit) (rw c.in-Operand.is at k))
+
+pub returns-in-Last-clause-holds : goal.returns-in-Last-clause-holds
+returns-in-Last-clause-holds c = λ input k.
+    c.put-in-Last.ensures.holds input (last_read input c.args.self.now _ (rw c.in-Last.is at c.requires.fit) (rw c.in-Last.is at k))
 
 pub returns-in-First-clause-holds : goal.returns-in-First-clause-holds
 returns-in-First-clause-holds c = λ input k.
-    let p = c.args.self.now in
-    c.put_back-in-First.ensures.holds input (first_read input p.frames.stack.items c.in-First.kind (trees_in p.parts) (rw c.in-First.is at c.requires.fit) (rw c.in-First.is at k))
+    c.put_back-in-First.ensures.holds input (first_read input c.args.self.now _ (rw c.in-First.is at c.requires.fit) (rw c.in-First.is at k))
 
 pub returns-in-Style-clause-holds : goal.returns-in-Style-clause-holds
 returns-in-Style-clause-holds c = λ input k. rw c.give_style.ensures ((rw c.in-Style.is at k) _ rule_gives)

@@ -3,9 +3,9 @@ use Rattle.latex2mathml_formulas.proofs.parse.Parser.finish.Goals as goal
 
 pub steps-preserved : goal.steps-preserved
 steps-preserved c = record {
-  trees = c.in_ok-state-in_default.ensures.follows.trees;
+  trees = c.in_ok-state-in_default.ensures.step.follows.trees;
   holds = λ input k. c.in_ok-state-in_default.ensures.holds input (c.steps.invariant.holds input k);
-  counted = counted_on 0 0 _ _ _ c.steps.invariant.counted c.in_ok-state-in_default.ensures.counted;
+  counted = counted_on 0 0 _ _ _ c.steps.invariant.counted c.in_ok-state-in_default.ensures.step.counted;
 }
 
 pub returns-in-End-clause-node : goal.returns-in-End-clause-node

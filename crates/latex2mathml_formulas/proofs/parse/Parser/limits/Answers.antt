@@ -1,4 +1,3 @@
-use Rattle.latex2mathml_formulas.specs.Grammar.{rule_gives}
 use Rattle.latex2mathml_formulas.proofs.Levels.{signed, unsigned}
 use Rattle.latex2mathml_formulas.proofs.parse.Parser.limits.Goals as goal
 
@@ -11,4 +10,4 @@ returns-then-take_if-2-clause-holds c = λ input k.
 
 pub returns-clause-holds : goal.returns-clause-holds
 returns-clause-holds c = λ input k.
-    c.leaf.ensures.holds input (unsigned c.if-take_if-2.ensures.list (unsigned c.if-take_if.ensures.list k) _ rule_gives)
+    c.put.ensures.holds input (unsigned c.if-take_if-2.ensures.list (unsigned c.if-take_if.ensures.list k))

@@ -10,6 +10,8 @@ returns c =
     let shorter = ap length found in
     record {
       holds = λ input k. c.begin_any.ensures.holds input (token_begun input p.frames.stack.items (trees_in p.parts) p.reader.list _ _ (rw (found, ← c.due.ensures) (c.if-ends_at.ensures _)) found k);
-      counted = counted_taken _ p _ _ found c.take-lexeme.ensures.counts refl c.begin_any.ensures.counted;
-      follows = follows_within c.begin_any.result c.begin_any.new.self _ _ (omega arith) c.begin_any.ensures.follows;
+      step = record {
+        counted = counted_taken _ p _ _ found c.take-lexeme.ensures.counts refl c.begin_any.ensures.step.counted;
+        follows = follows_within c.begin_any.result c.begin_any.new.self _ _ (omega arith) c.begin_any.ensures.step.follows;
+      };
     }

@@ -1,4 +1,4 @@
-use Rattle.std.proofs.Common.{refl}
+use Rattle.std.proofs.Common.{rules, refl}
 use Rattle.latex2mathml_parts.specs.Forests.{trees_in}
 use Rattle.latex2mathml_formulas.proofs.{Levels.taken, Stacks.core_refused, Stepping.counted_skipped}
 use Rattle.latex2mathml_formulas.proofs.parse.Parser.open_fence.Goals as goal
@@ -13,5 +13,8 @@ returns-in_default-clause-holds c = λ input k.
     c.refuse_fence.ensures.holds input
     (core_refused input p.frames.stack.items (trees_in p.parts) (rw c.in_default.ensures at (taken c.take-got.ensures.token c.take-got.ensures.list k)))
 
-pub returns-in_default-clause-counted : goal.returns-in_default-clause-counted
-returns-in_default-clause-counted c = counted_skipped c.args.self.now _ _ 1 c.take-got.ensures.list c.take-got.ensures.counts refl c.refuse_fence.ensures.counted
+pub returns-in_default-clause-step : goal.returns-in_default-clause-step
+returns-in_default-clause-step c = record {
+  counted = counted_skipped c.args.self.now _ _ 1 c.take-got.ensures.list c.take-got.ensures.counts refl c.refuse_fence.ensures.step.counted;
+  follows = search rules;
+}

@@ -1,5 +1,4 @@
-use Rattle.std.proofs.Common.{refl}
-use Rattle.latex2mathml_formulas.specs.Grammar.{rule_gives}
+use Rattle.std.proofs.Common.{rules, refl}
 use Rattle.latex2mathml_parts.specs.Forests.{trees_in}
 use Rattle.latex2mathml_formulas.proofs.{Beginning.not_sized, Levels.taken, Stacks.core_refused}
 use Rattle.latex2mathml_formulas.proofs.Stepping.{counted_none, counted_skipped}
@@ -7,7 +6,7 @@ use Rattle.latex2mathml_formulas.proofs.parse.Parser.size_paren.Goals as goal
 
 pub returns-in-Paren-clause-holds : goal.returns-in-Paren-clause-holds
 returns-in-Paren-clause-holds c = λ input k.
-    c.leaf.ensures.holds input ((rw c.in-Paren.is at (taken c.take.ensures.token c.take.ensures.list k)) _ rule_gives)
+    c.put.ensures.holds input (rw c.in-Paren.is at (taken c.take.ensures.token c.take.ensures.list k))
 
 pub returns-in_ok-got-in_default-clause-holds : goal.returns-in_ok-got-in_default-clause-holds
 returns-in_ok-got-in_default-clause-holds c = λ input k.
@@ -16,6 +15,8 @@ returns-in_ok-got-in_default-clause-holds c = λ input k.
     (rw c.in_ok-got-in_default.ensures
     (core_refused input p.frames.stack.items (trees_in p.parts) (rw (not_sized _ c.take.result c.in_default.not-Paren) at (taken c.take.ensures.token c.take.ensures.list k))))
 
-pub returns-in_ok-got-in_default-clause-counted : goal.returns-in_ok-got-in_default-clause-counted
-returns-in_ok-got-in_default-clause-counted c =
-    rw c.refuse.ensures.refusal (counted_skipped c.args.self.now _ _ 0 c.take.ensures.list c.take.ensures.counts refl (counted_none _))
+pub returns-in_ok-got-in_default-clause-step : goal.returns-in_ok-got-in_default-clause-step
+returns-in_ok-got-in_default-clause-step c = record {
+  counted = rw c.refuse.ensures.refusal (counted_skipped c.args.self.now _ _ 0 c.take.ensures.list c.take.ensures.counts refl (counted_none _));
+  follows = search rules;
+}
