@@ -1,13 +1,13 @@
 -- Names that are taken letter by letter.
-use Rattle.std.proofs.Common.{◌≡◌, ℕ, ◌≤◌, length, arith, List, [], ◌∷◌, ◌++◌, None, refl, sym, subst, ap, ◌∙◌, append_assoc, append-nil}
+use Rattle.std.proofs.Common.{◌≡◌, ℕ, List, [], ◌∷◌, ◌++◌, None, refl, sym, subst, ap, ◌∙◌, append_assoc, append-nil}
 use Rattle.std.specs.{Char.encode_utf8, Str.encode_utf8_all}
 use Rattle.std.proofs.lemmas.Str.{encodes-append}
 use Rattle.latex2mathml_formulas.specs.Grammar.{AreLetters, first_letter, first_or_end, letter_of}
-use Rattle.latex2mathml_formulas.specs.{Marks.NameStands, Marks.rest_of, Unread.GoesOn, Unread.OpensFor, Unread.Unread}
+use Rattle.latex2mathml_formulas.specs.{Marks.NameStands, Marks.rest_of, Unread.GoesOn, Unread.OpensFor, Unread.Takes, Unread.Unread}
 use Rattle.latex2mathml_tokens.specs.{Lexemes.lexeme_tok, Tok.Tok, Tok.Letter, declared.attribute.Variant.Variant}
 use Rattle.latex2mathml_tokens.specs.declared.lexeme.Lexeme.{Lexeme}
 use Rattle.latex2mathml_tokens.specs.declared.lexeme.Lexeme.TheVariants as lexeme
-use Rattle.latex2mathml_formulas.proofs.Progress.{GoesOn-trans, OpensFor-rest, OpensFor-trans, rest-shorter}
+use Rattle.latex2mathml_formulas.proofs.Progress.{GoesOn-trans, OpensFor-rest, OpensFor-trans}
 
 -- letters of these bytes were taken, and whatever letters stand next belong to them
 abbrev pub AreTaken : List ℕ → List Tok → List Tok → Type 0
@@ -31,28 +31,24 @@ none_first x (t ∷ ts) e h = ap letter_of (sym e) ∙ no_letter x h
 -- a name is taken, of which these are the bytes so far
 pub record IsTaking (bytes : List ℕ) (old now : Unread) : Type 0 where
   pub letters : AreTaken bytes (rest_of old.list) now.list
-  pub shorter : length now.list ≤ length old.list
   pub counts : GoesOn old now
   pub fewer : OpensFor old now 0 0
 
 -- a letter more
-pub letter_taken : (bytes more : List ℕ) (c : ℕ) (variant : Variant) (old now next : Unread) → Letter c variant ≡ first_or_end now.list → next.list ≡ rest_of now.list → GoesOn now next → more ≡ bytes ++ encode_utf8 c → IsTaking bytes old now → IsTaking more old next
-letter_taken bytes more c variant old now next token list counts grown so_far =
-    let shorter = rest-shorter now next list in
+pub letter_taken : (bytes more : List ℕ) (c : ℕ) (variant : Variant) (old now next : Unread) → Takes (Letter c variant) now next → more ≡ bytes ++ encode_utf8 c → IsTaking bytes old now → IsTaking more old next
+letter_taken bytes more c variant old now next found grown so_far =
     let k = so_far.letters in
     let last : encode_utf8 c ≡ encode_utf8_all (c ∷ []) = sym (append-nil (encode_utf8 c)) in
     let spelled = ap (λ bs. bs ++ encode_utf8 c) k.1 ∙ ap (λ bs. encode_utf8_all k.0 ++ bs) last ∙ sym (encodes-append k.0 (c ∷ [])) in
     record {
-      letters = (k.0 ++ c ∷ [], grown ∙ spelled, λ cs to d. rw append_assoc (k.2 (c ∷ cs) to (one_letter c variant cs now.list next.list to token list d)));
-      shorter = omega (arith, so_far.shorter);
-      counts = GoesOn-trans old now next so_far.counts counts;
-      fewer = OpensFor-trans _ _ _ _ _ _ so_far.fewer (OpensFor-rest _ _ list counts);
+      letters = (k.0 ++ c ∷ [], grown ∙ spelled, λ cs to d. rw append_assoc (k.2 (c ∷ cs) to (one_letter c variant cs now.list next.list to found.token found.list d)));
+      counts = GoesOn-trans old now next so_far.counts found.counts;
+      fewer = OpensFor-trans _ _ _ _ _ _ so_far.fewer (OpensFor-rest _ _ found.list found.counts);
     }
 
 -- the token after the letters
-pub name_taken : (bytes : List ℕ) (x : Lexeme) (old now next : Unread) → lexeme_tok x ≡ first_or_end now.list → IsNoLetter x → next.list ≡ rest_of now.list → GoesOn now next → IsTaking bytes old now → NameStands bytes old.list next.list × (length next.list ≤ length old.list) × GoesOn old next × OpensFor old next 0 0
-name_taken bytes x old now next token none list counts so_far =
-    let shorter = rest-shorter now next list in
+pub name_taken : (bytes : List ℕ) (x : Lexeme) (old now next : Unread) → Takes (lexeme_tok x) now next → IsNoLetter x → IsTaking bytes old now → NameStands bytes old.list next.list × GoesOn old next × OpensFor old next 0 0
+name_taken bytes x old now next found none so_far =
     let k = so_far.letters in
-    let taken : AreLetters k.0 (rest_of old.list) now.list = rw append-nil at (k.2 [] now.list (refl, none_first x now.list token none)) in
-    ((now.list, (k.0, taken, k.1), list), omega (arith, so_far.shorter), GoesOn-trans old now next so_far.counts counts, OpensFor-trans _ _ _ _ _ _ so_far.fewer (OpensFor-rest _ _ list counts))
+    let taken : AreLetters k.0 (rest_of old.list) now.list = rw append-nil at (k.2 [] now.list (refl, none_first x now.list found.token none)) in
+    ((now.list, (k.0, taken, k.1), found.list), GoesOn-trans old now next so_far.counts found.counts, OpensFor-trans _ _ _ _ _ _ so_far.fewer (OpensFor-rest _ _ found.list found.counts))

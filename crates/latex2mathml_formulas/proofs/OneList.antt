@@ -1,16 +1,16 @@
 -- A text has exactly one list of slices, and so exactly one token list.
-use Rattle.std.proofs.Common.{◌≡◌, ℕ, zero, suc, ◌<◌, Bool, true, false, ◌&&◌, List, [], ◌∷◌, ◌++◌, map, codes, length, refl, sym, ap, subst, ◌∙◌, Option, Some, None, ◌⊎◌, inl, inr, append_assoc, arith}
+use Rattle.std.proofs.Common.{◌≡◌, ℕ, zero, suc, ◌<◌, Bool, true, false, ◌&&◌, List, [], ◌∷◌, ◌++◌, map, codes, length, refl, sym, ap, subst, ◌∙◌, Option, Some, None, inl, inr, append-nil, arith}
 use Rattle.std.proofs.{Math.Seq.drop-append_seam, lemmas.Bool.cases_Bool, lemmas.Bool.Decides.nat_tests}
 use Rattle.std.specs.{Char.is_ascii_digit, Char.is_ascii_alphabetic, Str.byte, Str.encode_utf8_all, List.AllPass}
-use Rattle.latex2mathml_formulas.specs.Characters.{◌∈◌, Stops, head, is_empty, is_space}
+use Rattle.latex2mathml_formulas.specs.Characters.{◌∈◌, Begins, Stops, head, is_empty, is_space}
 use Rattle.std.proofs.lemmas.List.Elements.{All-nil, All-cons}
-use Rattle.latex2mathml_formulas.proofs.{Passing.Each, Passing.each, FirstSlices.parted, FirstSlices.slice_of}
+use Rattle.latex2mathml_formulas.proofs.{Passing.each, FirstSlices.parted, FirstSlices.slice_of}
 use Rattle.latex2mathml_tokens.specs.{Among.is_among, Commands.command_token}
 use Rattle.latex2mathml_formulas.specs.Cutting.{slice, run_of, behind_run, first_slice, slices_within, slices_of}
-use Rattle.latex2mathml_formulas.specs.{Lexing.BeginsWith, Lexing.IsLongestRun, TokenLists.HasOneTokenList}
+use Rattle.latex2mathml_formulas.specs.{Lexing.BeginsWith, Lexing.BeginsWithNumber, Lexing.IsLongestRun, TokenLists.HasOneTokenList}
 use Rattle.latex2mathml_formulas.specs.Spelling.{Slice, IsStep, HasSlices, HasTokens, takes_digit, is_period, is_equals_sign, character_token, character, colon, colon_equals, number, digit, symbol_command, letter_command, lone_backslash}
 use Rattle.latex2mathml_tokens.specs.Tok.{Tok, Number, Command, Paren, Operator}
-use Rattle.latex2mathml_formulas.proofs.{Numbers.number_whole, Numbers.number_parts, Spellings.only_space}
+use Rattle.latex2mathml_formulas.proofs.Spellings.{digits_alone, digits_with_period, only_space}
 use Rattle.latex2mathml_formulas.proofs.Tokenizing.{Dark, dark_front, spells_dark, step_shortens}
 
 -- a text splits after its longest run
@@ -30,16 +30,12 @@ Begun alone text = (t : Tok) × (rest : List ℕ) × BeginsWith alone text t res
 only : (b c : ℕ) → is_among c (b ∷ []) ≡ true → c ≡ b
 only b c h = grind (arith, nat_tests)
 
-number_begun : (text front back : List ℕ) → IsLongestRun is_ascii_digit text front back → (d : ℕ) (ds : List ℕ) → text ≡ d ∷ ds → is_ascii_digit d ≡ true → Begun false text
-number_begun text front [] run d ds e h =
-    (Number (encode_utf8_all front), [], (front, run.0, number refl (number_whole text front [] run (rw e h) tt) refl))
-number_begun text front (c ∷ cs) run d ds e h = elim (cases_Bool (is_period c)) [
-  | inl k ↦ (let more : (part : List ℕ) × (rest : List ℕ) × IsLongestRun is_ascii_digit cs part rest = split is_ascii_digit cs in
-      let w : List ℕ = front ++ byte "." ∷ more.0 in
-      let back : c ∷ cs ≡ byte "." ∷ cs = ap (λ x. x ∷ cs) (only (byte ".") c k) in
-      let whole : text ≡ w ++ more.1 = run.0 ∙ ap (λ b. front ++ b) (back ∙ ap (λ a. byte "." ∷ a) more.2.0) ∙ sym (append_assoc front (byte "." ∷ more.0) more.1) in
-      (Number (encode_utf8_all w), more.1, (w, whole, number refl (number_parts text front (c ∷ cs) cs more.0 more.1 run (rw e h) back more.2) refl)))
-  | inr k ↦ (Number (encode_utf8_all front), c ∷ cs, (front, run.0, number refl (number_whole text front (c ∷ cs) run (rw e h) k) refl))
+number_begun : (text : List ℕ) → Begins is_ascii_digit text → (front : List ℕ) × (back : List ℕ) × IsLongestRun is_ascii_digit text front back → (rest : List ℕ) × BeginsWithNumber text rest
+number_begun text begins (front, [], run) = ([], digits_alone text front [] run begins tt)
+number_begun text begins (front, c ∷ cs, run) = elim (cases_Bool (is_period c)) [
+  | inl k ↦ (let (part, rest, more) = split is_ascii_digit cs in
+      (rest, digits_with_period text front (c ∷ cs) cs part rest run begins (ap (λ x. x ∷ cs) (only (byte ".") c k)) more))
+  | inr k ↦ (c ∷ cs, digits_alone text front (c ∷ cs) run begins k)
 ]
 
 command_begun : (alone : Bool) (cs : List ℕ) → Begun alone (byte "\\" ∷ cs)
@@ -60,8 +56,7 @@ colon_begun alone (c ∷ cs) = elim (cases_Bool (is_equals_sign c)) [
 digit_begun : (alone : Bool) (c : ℕ) (cs : List ℕ) → is_ascii_digit c ≡ true → Begun alone (c ∷ cs)
 digit_begun true c cs h = (Number (encode_utf8_all (c ∷ [])), cs, (c ∷ [], refl, digit c refl h refl refl))
 digit_begun false c cs h =
-    let run : (front : List ℕ) × (back : List ℕ) × IsLongestRun is_ascii_digit (c ∷ cs) front back = split is_ascii_digit (c ∷ cs) in
-    number_begun (c ∷ cs) run.0 run.1 run.2 c cs refl h
+    let (rest, (w, e, is)) = number_begun (c ∷ cs) h (split is_ascii_digit (c ∷ cs)) in (Number (encode_utf8_all w), rest, (w, e, number refl is refl))
 
 -- what does not begin with white space begins with a slice
 pub begun : (alone : Bool) (c : ℕ) (cs : List ℕ) → is_space c ≡ false → Begun alone (c ∷ cs)
@@ -76,28 +71,15 @@ begun alone c cs dark = elim (cases_Bool (is_ascii_digit c)) [
   ]
 ]
 
--- the text has only white space, or a first slice
-abbrev Stepped : Bool → List ℕ → Type 0
-Stepped takes text = AllPass is_space text ⊎ ((s : Slice) × (rest : List ℕ) × IsStep takes text s rest)
-
-first_step : (takes : Bool) (text : List ℕ) → ((space : List ℕ) × (start : List ℕ) × IsLongestRun is_space text space start) → Stepped takes text
-first_step takes text (space, [], run) = inl (only_space text space [] run refl)
-first_step takes text (space, c ∷ cs, run) =
-    let b : Begun (takes && is_empty space) (c ∷ cs) = begun (takes && is_empty space) c cs run.2 in
-    inr (slice b.2.0 b.0, b.1, (space, run.0 ∙ ap (λ s. space ++ s) b.2.1, run.1, b.2.2))
-
 -- a text that is shorter than the bound has slices
-within : (n : ℕ) (takes : Bool) (text : List ℕ) → length text < n → (ss : List Slice) × HasSlices takes text ss
-within zero takes text h = absurd (omega arith)
-within (suc n) takes text h = elim (first_step takes text (split is_space text)) [
-  | inl space ↦ ([], space)
-  | inr s ↦ (let more : (ss : List Slice) × HasSlices (takes_digit (Some s.0.token)) s.1 ss = within n (takes_digit (Some s.0.token)) s.1 (omega (arith, step_shortens takes text s.1 s.0 s.2)) in
-      (s.0 ∷ more.0, (s.1, s.2, more.1)))
-]
-
-all_behind : (text : List ℕ) → Each is_space text → behind_run is_space text ≡ []
-all_behind [] h = refl
-all_behind (c ∷ cs) h = rw h.0 (all_behind cs h.1)
+within : (n : ℕ) (takes : Bool) (text : List ℕ) → (space : List ℕ) × (start : List ℕ) × IsLongestRun is_space text space start → length text < n → (ss : List Slice) × HasSlices takes text ss
+within zero takes text run h = absurd (omega arith)
+within (suc n) takes text (space, [], run) h = ([], only_space text space [] run refl)
+within (suc n) takes text (space, c ∷ cs, run) h =
+    let (t, rest, (w, e, spells)) = begun (takes && is_empty space) c cs run.2 in
+    let step : IsStep takes text (slice w t) rest = (space, run.0 ∙ ap (λ s. space ++ s) e, run.1, spells) in
+    let more = within n (takes_digit (Some t)) rest (split is_space rest) (omega (arith, step_shortens takes text rest (slice w t) step)) in
+    (slice w t ∷ more.0, (rest, step, more.1))
 
 dark_starts : (xs : List ℕ) → Dark xs → Stops is_space (head xs) × (is_empty xs ≡ false)
 dark_starts [] d = absurd d
@@ -107,7 +89,7 @@ dark_starts (x ∷ xs) d = (d, refl)
 computed : (n : ℕ) (takes : Bool) (text : List ℕ) (ss : List Slice) → HasSlices takes text ss → length text < n → slices_within n takes text ≡ ss
 unfolding slices_within
 computed zero takes text ss h l = absurd (omega arith)
-computed (suc n) takes text [] h l = rw (all_behind text (each is_space text h)) refl
+computed (suc n) takes text [] h l = rw (rw append-nil at (parted is_space text [] (each is_space text h) tt).1) refl
 computed (suc n) takes text (s ∷ ss) h l =
     let space : List ℕ = h.1.0 in
     let dark : Stops is_space (head (s.text ++ h.0)) × (is_empty (s.text ++ h.0) ≡ false) = dark_starts _ (dark_front s.text h.0 (spells_dark _ s.text _ s.token h.1.3)) in
@@ -124,7 +106,7 @@ one_cut takes text ss h = computed (suc (length text)) takes text ss h (omega ar
 
 pub cut : (takes : Bool) (text : List ℕ) → HasSlices takes text (slices_of takes text)
 cut takes text =
-    let some : (ss : List Slice) × HasSlices takes text ss = within (suc (length text)) takes text (omega arith) in
+    let some : (ss : List Slice) × HasSlices takes text ss = within (suc (length text)) takes text (split is_space text) (omega arith) in
     subst (HasSlices takes text) (sym (one_cut takes text some.0 some.1)) some.1
 
 -- what a step takes from the slices that are left

@@ -109,7 +109,7 @@ circumflex_alone c = of_character (λ t. t ≡ Circumflex → c ≡ byte "^") c 
 bracket_alone : (c : ℕ) → character_token c ≡ Paren (codes "[") → c ≡ byte "["
 bracket_alone c = of_character (λ t. t ≡ Paren (codes "[") → c ≡ byte "[") c (λ h e. cc) (λ h e. cc) (λ h e. cc) (λ h e. cc) (λ e. cc) (λ e. cc) (λ e. cc) (λ e. cc) (λ e. cc) (λ e. cc)
 
-no_end : (c : ℕ) → character_token c ≢ EOF
+pub no_end : (c : ℕ) → character_token c ≢ EOF
 no_end c = of_character (λ t. t ≢ EOF) c (λ h e. cc) (λ h e. cc) (λ h e. cc) (λ h e. cc) (λ e. cc) (λ e. cc) (λ e. cc) (λ e. cc) (λ e. cc) (λ e. cc)
 
 -- the slice at the start of a text, whose first character is c

@@ -29,20 +29,20 @@ AllBySlices None l (Refused r) = FormulaRefuses l r
 joined : (u v f : List Tok) {l m : List Tok} → l ≡ u ++ m → m ≡ v ++ f → l ≡ (u ++ v) ++ f
 joined u v f e p = e ∙ ap (λ k. u ++ k) p ∙ sym (append_assoc u v f)
 
+-- .. are one slice
+one_slice : (P : List Tok → List Tok → Type 0) (Q R : List Tok → Type 0) (l m f : List Tok) → (u : List Tok) × (l ≡ u ++ m) × P u m → (v : List Tok) × (m ≡ v ++ f) × Q v → ((u v : List Tok) → P u (v ++ f) → Q v → R (u ++ v)) → (w : List Tok) × (l ≡ w ++ f) × R w
+one_slice P Q R l m f (u, e, a) (v, p, b) make = (u ++ v, joined u v f e p, make u v (subst (P u) p a) b)
+
 -- a part before the same tokens
 part_before : {s : Sort} {w f g : List Tok} {x : Tree} → f ≡ g → IsPart s w f x → IsPart s w g x
 part_before {s} {w} {x = x} e d = subst (λ k. IsPart s w k x) e d
 
--- members before the same tokens
-members_before : {end : Tok} {w f g : List Tok} {xs : List Tree} → f ≡ g → AreMembers end w f xs → AreMembers end w g xs
-members_before {end} {w} {xs = xs} e d = subst (λ k. AreMembers end w k xs) e d
-
 -- the letters of a run are a slice, and no letter stands after them
-letter_slice : (cs : List ℕ) (l m : List Tok) → AreLetters cs l m → (u : List Tok) × (l ≡ u ++ m) × (map letter_of u ≡ map Some cs) × (first_letter m ≡ None)
-letter_slice [] l m d = ([], d.0, refl, d.1)
+letter_slice : (cs : List ℕ) (l m : List Tok) → AreLetters cs l m → (u : List Tok) × (l ≡ u ++ m) × ((map letter_of u ≡ map Some cs) × (first_letter m ≡ None))
+letter_slice [] l m d = ([], d.0, (refl, d.1))
 letter_slice (c ∷ cs) l m d =
     let later = letter_slice cs d.1.0 m d.1.3 in
-    (d.0 ∷ later.0, d.1.1 ∙ ap (λ k. d.0 ∷ k) later.1, cc (d.1.2, later.2), later.3)
+    (d.0 ∷ later.0, d.1.1 ∙ ap (λ k. d.0 ∷ k) later.1, (cc (d.1.2, later.2.0), later.2.1))
 
 -- no token, and what follows
 no_token_then : (then : Tok → Rule) (o : Outcome Tree) → RuleBySlices (then EOF) [] o → RuleBySlices (takes_token then) [] o
@@ -52,13 +52,9 @@ no_token_then then (Read x f) (t ∷ w, e, d) = absurd cc
 no_token_then then (Refused r) d = behind_no_token d
 
 -- nodes that are read take a token where one is left
-node_slice : {t : Tok} {l m w : List Tok} {x : Tree} → Reads node (t ∷ l) (Read x m) → t ∷ l ≡ w ++ m → (v : List Tok) × (w ≡ t ∷ v)
-node_slice {t} {l} {m} {w = []} {x} d e = absurd (let fewer = some_taken node t l m x d in omega (arith, fewer, ap length e))
-node_slice {w = u ∷ v} d e = (v, cc)
-
--- a slice that begins with another token does not begin with the end token
-other_first : {end t : Tok} {v w : List Tok} → Some end ≢ Some t → w ≡ t ∷ v → first w ≢ Some end
-other_first h e p = h (sym p ∙ ap first e)
+begun : (t : Tok) (l m : List Tok) (x : Tree) → Reads node (t ∷ l) (Read x m) → PartBySlices node (t ∷ l) (Read x m) → (u : List Tok) × (t ∷ l ≡ u ++ m) × ((first u ≡ Some t) × IsPart node u m x)
+begun t l m x d ([], e, p) = absurd (let fewer = some_taken node t l m x d in omega (arith, fewer, ap length e))
+begun t l m x d (s ∷ u, e, p) = (s ∷ u, e, (cc, p))
 
 mutual
   -- a core, a single or a node is read or refused by slices
@@ -91,16 +87,12 @@ mutual
   pub rule_by_slices : {r : Rule} {l : List Tok} {o : Outcome Tree} → ReadsRule r l o → RuleBySlices r l o
   rule_by_slices rule_gives = ([], refl, no_part)
   rule_by_slices rule_refuses = rule_itself
-  rule_by_slices (part_read {o = Read x f} d ds) =
-      let u = part_by_slices d in
-      let v = rule_by_slices ds in
-      (_, joined u.0 v.0 f u.1 v.1, part refl (part_before v.1 u.2) v.2)
+  rule_by_slices (part_read {s = s} {x = y} {o = Read x f} d ds) =
+      one_slice (λ u g. IsPart s u g y) _ _ _ _ f (part_by_slices d) (rule_by_slices ds) (λ u v. part refl)
   rule_by_slices (part_read {o = Refused r} d ds) = (let u = part_by_slices d in behind_part u.1 u.2 (rule_by_slices ds))
   rule_by_slices (part_refused d) = part_itself (part_by_slices d)
-  rule_by_slices (members_read {o = Read x f} d ds) =
-      let u = all_by_slices d in
-      let v = rule_by_slices ds in
-      (_, joined u.0 v.0 f u.1 v.1, members refl (members_before v.1 u.2) v.2)
+  rule_by_slices (members_read {end = end} {xs = ys} {o = Read x f} d ds) =
+      one_slice (λ u g. AreMembers end u g ys) _ _ _ _ f (all_by_slices d) (rule_by_slices ds) (λ u v. members refl)
   rule_by_slices (members_read {o = Refused r} d ds) = (let u = all_by_slices d in behind_members u.1 u.2 (rule_by_slices ds))
   rule_by_slices (members_refused d) = members_themselves (all_by_slices d)
   rule_by_slices (sign_stands {t = t} {o = Read x f} p d) = (let c = rule_by_slices d in (_, p ∙ ap (λ k. t ∷ k) c.1, with_sign refl c.2))
@@ -115,27 +107,23 @@ mutual
       let c = rule_by_slices d in (c.0, c.1, by_next_token (subst (λ k. AreParts (then (first_or_end k)) c.0 f x) c.1 c.2))
   rule_by_slices (token_seen {o = Refused r} d) = at_next_token (rule_by_slices d)
   rule_by_slices (letters_taken cs {l = l} {m = m} {o = Read x f} p d) =
-      let u = letter_slice cs l m p in
-      let v = rule_by_slices d in
-      (_, joined u.0 v.0 f u.1 v.1, letters cs u.0 refl u.2 (subst (λ k. first_letter k ≡ None) v.1 u.3) v.2)
+      one_slice (λ u g. (map letter_of u ≡ map Some cs) × (first_letter g ≡ None)) _ _ _ _ f (letter_slice cs l m p) (rule_by_slices d) (λ u v a. letters cs u refl a.0 a.1)
   rule_by_slices (letters_taken cs {l = l} {m = m} {o = Refused r} p d) =
-      let u = letter_slice cs l m p in behind_letters cs u.0 u.1 u.2 u.3 (rule_by_slices d)
+      let u = letter_slice cs l m p in behind_letters cs u.0 u.1 u.2.0 u.2.1 (rule_by_slices d)
 
   -- nodes side by side are
   pub all_by_slices : {end : Option Tok} {l : List Tok} {o : Outcome (List Tree)} → ReadsAll end l o → AllBySlices end l o
   all_by_slices formula_ends = no_node
   all_by_slices never_closed = end_missing
   all_by_slices (group_ends {end = end} p) = (_, p, no_member refl)
-  all_by_slices (member_read {end = Some end} {rest = f} h d ds) =
-      let u = part_by_slices d in
-      let v = all_by_slices ds in
-      (_, joined u.0 v.0 f u.1 v.1, member refl (other_first h (node_slice d u.1).1) (part_before v.1 u.2) v.2)
+  all_by_slices (member_read {end = Some end} {t = t} {rest = f} {x = x} h d ds) =
+      one_slice (λ u g. (first u ≡ Some t) × IsPart node u g x) _ _ _ _ f (begun _ _ _ _ d (part_by_slices d)) (all_by_slices ds) (λ u v a. member refl (λ q. h (sym q ∙ a.0)) a.1)
   all_by_slices (member_read {end = None} h d ds) =
-      let u = part_by_slices d in one_node u.1 (λ q. cc (q, (node_slice d u.1).1)) u.2 (all_by_slices ds)
+      let u = begun _ _ _ _ d (part_by_slices d) in one_node u.1 (λ q. cc (q, u.2.0)) u.2.1 (all_by_slices ds)
   all_by_slices (later_refused {end = Some end} h d ds) =
-      let u = part_by_slices d in behind_member u.1 (other_first h (node_slice d u.1).1) u.2 (all_by_slices ds)
+      let u = begun _ _ _ _ d (part_by_slices d) in behind_member u.1 (λ q. h (sym q ∙ u.2.0)) u.2.1 (all_by_slices ds)
   all_by_slices (later_refused {end = None} h d ds) =
-      let u = part_by_slices d in behind_node u.1 (λ q. cc (q, (node_slice d u.1).1)) u.2 (all_by_slices ds)
+      let u = begun _ _ _ _ d (part_by_slices d) in behind_node u.1 (λ q. cc (q, u.2.0)) u.2.1 (all_by_slices ds)
   all_by_slices (member_refused {end = Some end} h d) = member_itself (λ e. h (ap Some (sym e))) (part_by_slices d)
   all_by_slices (member_refused {end = None} h d) = node_itself (part_by_slices d)
 

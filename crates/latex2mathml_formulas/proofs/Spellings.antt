@@ -1,24 +1,44 @@
 -- What each branch of the reader has read is a slice that spells its token.
 use Rattle.std.proofs.Common.{◌≡◌, ℕ, Bool, true, false, List, [], ◌∷◌, ◌++◌, codes, refl, sym, ap, subst, ◌∙◌, arith, append_assoc, append-nil}
-use Rattle.std.proofs.{lemmas.Bool.Decides.nat_tests, lemmas.List.Elements.All-cons}
-use Rattle.std.specs.{Char.is_ascii_digit, Char.is_ascii_alphabetic, Str.byte, Str.encode_utf8_all, List.AllPass}
+use Rattle.std.proofs.{lemmas.Bool.Decides.nat_tests, lemmas.List.Elements.All-append, lemmas.List.Elements.All-cons}
+use Rattle.std.specs.{Char.is_ascii_digit, Char.is_ascii_alphabetic, Str.byte, Str.encode_utf8_all, List.AllPass, Prelude.count_by}
 use Rattle.latex2mathml_formulas.specs.Characters.{Begins, Stops, head, is_space}
 use Rattle.latex2mathml_tokens.specs.Commands.{command_token}
 use Rattle.latex2mathml_formulas.specs.Lexing.{BeginsWith, BeginsWithName, BeginsWithNumber, IsLongestRun}
-use Rattle.latex2mathml_formulas.specs.Spelling.{SpellsAt, is_period, is_equals_sign, begins_longer, character_token, character, colon, colon_equals, number, digit, symbol_command, letter_command, lone_backslash}
+use Rattle.latex2mathml_formulas.specs.Spelling.{SpellsAt, is_period, is_digit_or_period, is_equals_sign, begins_longer, character_token, character, colon, colon_equals, number, digit, symbol_command, letter_command, lone_backslash}
 use Rattle.latex2mathml_tokens.specs.Tok.{Tok, Number, Paren, Operator}
 use Rattle.latex2mathml_tokens.proofs.Order.{no_empty_name}
-use Rattle.latex2mathml_formulas.proofs.Numbers.{number_whole, number_parts}
+use Rattle.latex2mathml_formulas.proofs.{Numbers.Begins-append, Numbers.Begins-run, Numbers.digits_pass, Numbers.periods-digits, Numbers.periods-parts, Passing.each}
 
 -- digits that no period follows
 pub digits_alone : (text front back : List ℕ) → IsLongestRun is_ascii_digit text front back → Begins is_ascii_digit text → Stops is_period (head back) → BeginsWithNumber text back
-digits_alone text front back run begins stops = (front, run.0, number_whole text front back run begins stops)
+digits_alone text front back run begins stops = (
+  front,
+  run.0,
+  record {
+    begins = Begins-run text front back run begins;
+    holds = digits_pass front run.1;
+    at_most_one = rw (periods-digits front (each is_ascii_digit front run.1)) (omega arith);
+    ends = run.2;
+    longest = λ _. stops;
+  },
+)
 
 -- digits, a period, and the digits that follow it
 pub digits_with_period : (text front back after part rest : List ℕ) → IsLongestRun is_ascii_digit text front back → Begins is_ascii_digit text → back ≡ byte "." ∷ after → IsLongestRun is_ascii_digit after part rest → BeginsWithNumber text rest
 digits_with_period text front back after part rest run begins e more =
     let whole : text ≡ (front ++ byte "." ∷ part) ++ rest = run.0 ∙ ap (λ b. front ++ b) (e ∙ ap (λ a. byte "." ∷ a) more.0) ∙ sym (append_assoc front (byte "." ∷ part) rest) in
-    (front ++ byte "." ∷ part, whole, number_parts text front back after part rest run begins e more)
+    let one : count_by is_period (front ++ byte "." ∷ part) ≡ 1 = periods-parts front part (each is_ascii_digit front run.1) (each is_ascii_digit part more.1) in (
+      front ++ byte "." ∷ part,
+      whole,
+      record {
+        begins = Begins-append is_ascii_digit front (byte "." ∷ part) (Begins-run text front back run begins);
+        holds = All-append (λ x. is_digit_or_period x ≡ true) front (byte "." ∷ part) (digits_pass front run.1) (All-cons (λ x. is_digit_or_period x ≡ true) (byte ".") part refl (digits_pass part more.1));
+        at_most_one = omega arith;
+        ends = more.2;
+        longest = λ h. absurd (omega arith);
+      },
+    )
 
 pub number_spelled : (text rest bs : List ℕ) → BeginsWithNumber text rest → ((w : List ℕ) → text ≡ w ++ rest → bs ≡ encode_utf8_all w) → BeginsWith false text (Number bs) rest
 number_spelled text rest bs (w, e, is) bytes = (w, e, number refl is (ap Number (bytes w e)))

@@ -1,13 +1,13 @@
 -- What the reader takes from the slices that are left of a text, and what it leaves where it only looks.
-use Rattle.std.proofs.Common.{◌≡◌, ◌≢◌, ℕ, ◌+◌, ◌*◌, ◌^◌, ◌<◌, ◌≤◌, Bool, true, false, not, ◌&&◌, ◌||◌, List, [], ◌∷◌, ◌++◌, drop, drop-drop, eqb, length, refl, sym, ap, subst, ◌∙◌, Some, inl, inr, arith}
+use Rattle.std.proofs.Common.{◌≡◌, ◌≢◌, ℕ, ◌+◌, ◌*◌, ◌^◌, ◌<◌, ◌≤◌, Bool, true, false, not, ◌&&◌, ◌||◌, List, [], ◌∷◌, ◌++◌, drop, drop-drop, eqb, length, refl, sym, ap, subst, ◌∙◌, Some, inl, inr, arith, rules}
 use Rattle.std.proofs.{lemmas.Bool.cases_Bool, lemmas.Bool.Decides.nat_tests, lemmas.List.Elements.All-cons, lemmas.List.Elements.All-nil}
 use Rattle.std.specs.Str.{byte, chars}
 use Rattle.latex2mathml_formulas.specs.Characters.{◌∈◌, head, is_space}
 use Rattle.latex2mathml_formulas.specs.{Counts.backslash_count, Counts.backslashes, Cutting.slice, Cutting.slices_of, Grammar.first_or_end}
 use Rattle.latex2mathml_formulas.specs.{Lexing.BeginsWith, Lexing.IsLongestRun, Lexing.IsStart, Marks.rest_of}
 use Rattle.latex2mathml_formulas.specs.Spelling.{Slice, SpellsAt, IsStep, begins_longer, character_token, takes_digit}
-use Rattle.latex2mathml_formulas.specs.Unread.{GoesOn, unread_in, token_list}
-use Rattle.latex2mathml_tokens.specs.Tok.{Tok}
+use Rattle.latex2mathml_formulas.specs.Unread.{Takes, unread_in, token_list}
+use Rattle.latex2mathml_tokens.specs.Tok.{Tok, EOF}
 use Rattle.latex2mathml_formulas.proofs.{Fronts.no_bytes, Fronts.no_characters, Spellings.one_character, Spellings.only_space}
 use Rattle.latex2mathml_formulas.proofs.OneList.{Begun, begun, cut_end, cut_step}
 use Rattle.latex2mathml_formulas.proofs.{Taking.backslashes-cons, Taking.same_first, Tokenizing.step_shortens}
@@ -47,10 +47,14 @@ same_slices takes alone text (c ∷ cs) (space, run, e) =
 pub none_left : (takes alone : Bool) (text start : List ℕ) → IsStart takes text start alone → start ≡ [] → slices_of takes text ≡ []
 none_left takes alone text start (space, run, e) f = cut_end takes text (only_space text space start run f)
 
--- an empty text has no token
-pub none_of_nothing : (takes : Bool) (text : List ℕ) → true ≡ eqb (length text) 0 → token_list (slices_of takes (chars text)) ≡ []
+-- an empty text has no slice
+pub none_of_nothing : (takes : Bool) (text : List ℕ) → true ≡ eqb (length text) 0 → slices_of takes (chars text) ≡ []
 none_of_nothing takes text e =
-    ap token_list (cut_end takes (chars text) (rw (no_characters text (no_bytes text e)) (All-nil (λ x. is_space x ≡ true))))
+    cut_end takes (chars text) (rw (no_characters text (no_bytes text e)) (All-nil (λ x. is_space x ≡ true)))
+
+-- where no slice is left, the end is taken
+pub nothing_taken : (slices : List Slice) (tokens comparisons : ℕ) → slices ≡ [] → Takes EOF (unread_in slices tokens comparisons) (unread_in slices tokens comparisons)
+nothing_taken slices tokens comparisons e = rw e (record { token = refl; list = refl; ended = λ _. refl; counts = search (rules, arith) })
 
 -- a slice is taken, and n names were compared for it
 abbrev pub IsTaken : Bool → List ℕ → Tok → ℕ → Bool → List ℕ → Type 0
@@ -98,44 +102,35 @@ taken_command takes alone takes' text start c after t n rest starts e backslash 
     let one : backslash_count start ≡ 1 = ap backslash_count whole in
     taken takes alone takes' text start t n rest starts (subst (λ s. BeginsWith alone s t rest) (sym whole) begins) f (omega arith) (omega arith)
 
--- what stands first of the tokens that are left, and what is left after it
-
-pub first_taken : (takes : Bool) (text : List ℕ) (t : Tok) (n : ℕ) (takes' : Bool) (rest : List ℕ) → IsTaken takes text t n takes' rest → t ≡ first_or_end (token_list (slices_of takes text))
-first_taken takes text t n takes' rest h = sym (ap (λ ss. first_or_end (token_list ss)) h.1)
-
-pub rest_taken : (takes : Bool) (text : List ℕ) (t : Tok) (n : ℕ) (takes' : Bool) (rest : List ℕ) → IsTaken takes text t n takes' rest → token_list (slices_of takes' rest) ≡ rest_of (token_list (slices_of takes text))
-rest_taken takes text t n takes' rest h = sym (ap (λ ss. rest_of (token_list ss)) h.1)
-
-pub counts_taken : (takes : Bool) (text : List ℕ) (t : Tok) (n : ℕ) (takes' : Bool) (rest : List ℕ) (tokens tokens' comparisons comparisons' : ℕ) → IsTaken takes text t n takes' rest → tokens' ≡ tokens + 1 → comparisons' ≡ comparisons + n → GoesOn (unread_in (slices_of takes text) tokens comparisons) (unread_in (slices_of takes' rest) tokens' comparisons')
-counts_taken takes text t n takes' rest tokens tokens' comparisons comparisons' h e f =
+-- the token of the slice is taken
+pub token_taken : (takes : Bool) (text : List ℕ) (t : Tok) (n : ℕ) (takes' : Bool) (rest : List ℕ) (tokens tokens' comparisons comparisons' : ℕ) → IsTaken takes text t n takes' rest → t ≢ EOF → tokens' ≡ tokens + 1 → comparisons' ≡ comparisons + n → Takes t (unread_in (slices_of takes text) tokens comparisons) (unread_in (slices_of takes' rest) tokens' comparisons')
+token_taken takes text t n takes' rest tokens tokens' comparisons comparisons' h no_end e f =
     let s : Slice = slice h.0 t in
     let shorter : length (token_list (slices_of takes text)) ≡ 1 + length (token_list (slices_of takes' rest)) = ap (λ ss. length (token_list ss)) h.1 ∙ omega arith in
     let fewer : backslashes (slices_of takes text) ≡ backslash_count h.0 + backslashes (slices_of takes' rest) = ap backslashes h.1 ∙ backslashes-cons s (slices_of takes' rest) in
     let least : backslash_count h.0 ≤ n = h.2 in
     let most : n ≤ 9 * backslash_count h.0 = h.3 in
     record {
-      tokens = omega arith;
-      more = omega arith;
-      rest = λ slices stands. sym (ap (λ k. drop k slices) e ∙ sym (drop-drop 1 tokens slices) ∙ ap (drop 1) (sym stands) ∙ ap (drop 1) h.1);
-      at_least = omega arith;
-      at_most = omega arith;
+      token = sym (ap (λ ss. first_or_end (token_list ss)) h.1);
+      list = sym (ap (λ ss. rest_of (token_list ss)) h.1);
+      ended = λ k. absurd (no_end k);
+      counts = record {
+        tokens = omega arith;
+        more = omega arith;
+        rest = λ slices stands. sym (ap (λ k. drop k slices) e ∙ sym (drop-drop 1 tokens slices) ∙ ap (drop 1) (sym stands) ∙ ap (drop 1) h.1);
+        at_least = omega arith;
+        at_most = omega arith;
+      };
     }
 
 -- the counts stay below what their types hold
-
-nine_more : (n a m k : ℕ) → n ≤ 9 * a → a ≤ 1 → m < k → n + 9 * m ≤ 9 * k
-nine_more n a m k h i l = omega arith
 
 one_at_most : (w : List ℕ) → backslash_count w ≤ 1
 one_at_most [] = omega arith
 one_at_most (c ∷ w) = elim (cases_Bool (c ∈ "\\")) [ inl h ↦ rw h (omega arith) | inr h ↦ rw h (omega arith) ]
 
-pub fits_tokens : (takes : Bool) (text : List ℕ) (t : Tok) (n : ℕ) (takes' : Bool) (rest : List ℕ) (tokens : ℕ) → IsTaken takes text t n takes' rest → tokens + length text < 2 ^ 64 → (tokens + 1) + length rest < 2 ^ 64
-fits_tokens takes text t n takes' rest tokens h l =
+pub fits_taken : (takes : Bool) (text : List ℕ) (t : Tok) (n : ℕ) (takes' : Bool) (rest : List ℕ) (tokens comparisons comparisons' : ℕ) → IsTaken takes text t n takes' rest → comparisons' ≡ comparisons + n → tokens + length text < 2 ^ 64 → comparisons + 9 * length text < 2 ^ 68 → (tokens + 1 + length rest < 2 ^ 64) × (comparisons' + 9 * length rest < 2 ^ 68)
+fits_taken takes text t n takes' rest tokens comparisons comparisons' h e k l =
     let shorter : length rest < length text = h.4 in
-    omega arith
-
-pub fits_comparisons : (takes : Bool) (text : List ℕ) (t : Tok) (n : ℕ) (takes' : Bool) (rest : List ℕ) (comparisons : ℕ) → IsTaken takes text t n takes' rest → comparisons + 9 * length text < 2 ^ 68 → (comparisons + n) + 9 * length rest < 2 ^ 68
-fits_comparisons takes text t n takes' rest comparisons h l =
-    let more : n + 9 * length rest ≤ 9 * length text = nine_more n (backslash_count h.0) (length rest) (length text) h.3 (one_at_most h.0) h.4 in
-    omega arith
+    let most : n ≤ 9 * backslash_count h.0 = h.3 in
+    (omega arith, omega (arith, one_at_most h.0))

@@ -1,6 +1,6 @@
 -- White space at a place between two tokens that is no digit place leaves the token list as it was.
-use Rattle.std.proofs.Common.{◌≡◌, ℕ, Bool, true, false, ◌&&◌, List, [], ◌∷◌, ◌++◌, Option, Some, None, map, refl, sym, ap, subst, ◌∙◌, append_assoc, arith, ⊎_elim}
-use Rattle.std.proofs.{lemmas.Bool.and_parts, lemmas.Bool.cases_Bool, lemmas.Bool.Decides.nat_tests, lemmas.Str.chars-append}
+use Rattle.std.proofs.Common.{◌≡◌, ℕ, Bool, true, false, ◌&&◌, IsTrue, List, [], ◌∷◌, ◌++◌, Option, Some, None, map, refl, sym, ap, subst, ◌∙◌, append_assoc, arith}
+use Rattle.std.proofs.{lemmas.Bool.Decides.nat_tests, lemmas.Str.chars-append}
 use Rattle.std.specs.{Char.is_ascii_digit, Char.is_ascii_alphabetic, List.AllPass, Str.IsUtf8, Str.chars}
 use Rattle.latex2mathml_formulas.specs.Characters.{Begins, Stops, head, is_empty, is_space}
 use Rattle.latex2mathml_formulas.specs.{Cutting.slices_of, Rendering.IsRendering, Rendering.IsFormulaRefusal}
@@ -12,14 +12,9 @@ use Rattle.latex2mathml_formulas.proofs.Tokenizing.{Dark, dark_front, spells_dar
 
 -- a slice, where other characters may follow it
 
--- white space stands next
+-- what stands next fails each test that white space fails
 abbrev IsLight : Option ℕ → Type 0
-IsLight None = ⊥
-IsLight (Some c) = is_space c ≡ true
-
-light_stops : (p : ℕ → Bool) (next : Option ℕ) → ((c : ℕ) → is_space c ≡ true → p c ≡ false) → IsLight next → Stops p next
-light_stops p None other light = absurd light
-light_stops p (Some c) other light = other c light
+IsLight next = (p : ℕ → Bool) → ((c : ℕ) → is_space c ≡ true → p c ≡ false) → Stops p next
 
 -- white space is no digit, no period, no equals sign and no letter
 spaces_apart : (c : ℕ) → is_space c ≡ true → (is_ascii_digit c ≡ false) × (is_period c ≡ false) × (is_equals_sign c ≡ false) × (is_ascii_alphabetic c ≡ false)
@@ -46,15 +41,13 @@ spells_there alone other w next later t same stops none (lone_backslash e n f) =
 
 -- the slices before the place
 
-spells_longer : (alone : Bool) (w more behind other : List ℕ) (t : Tok) → (head behind ≡ None → ⊥) → IsLight (head other) → SpellsAt alone w (head (more ++ behind)) t → SpellsAt alone w (head (more ++ other)) t
-spells_longer alone w [] behind other t some light spells = spells_there alone alone w (head behind) (head other) t (λ d. refl) (λ p dark s. light_stops p (head other) dark light) (λ e. absurd (some e)) spells
-spells_longer alone w (c ∷ more) behind other t some light spells = spells
-
 -- they are slices too where white space follows them
 slices_before_space : (takes : Bool) (w behind other : List ℕ) (ss : List Slice) → (head behind ≡ None → ⊥) → IsLight (head other) → AreSlices takes w behind ss → AreSlices takes w other ss
 slices_before_space takes w behind other [] some light h = h
-slices_before_space takes w behind other (s ∷ ss) some light (space, more, whole, white, spells, later) =
-    (space, more, whole, white, spells_longer (takes && is_empty space) s.text more behind other s.token some light spells, slices_before_space (takes_digit (Some s.token)) more behind other ss some light later)
+slices_before_space takes w behind other (s ∷ ss) some light (space, [], whole, white, spells, later) =
+    (space, [], whole, white, spells_there _ _ _ _ _ _ (λ d. refl) (λ p dark s. light p dark) (λ e. absurd (some e)) spells, slices_before_space _ [] behind other ss some light later)
+slices_before_space takes w behind other (s ∷ ss) some light (space, c ∷ more, whole, white, spells, later) =
+    (space, c ∷ more, whole, white, spells, slices_before_space _ (c ∷ more) behind other ss some light later)
 
 step_whole : (w behind space text more : List ℕ) → w ≡ space ++ (text ++ more) → w ++ behind ≡ space ++ (text ++ (more ++ behind))
 step_whole w behind space text more e = ap (λ x. x ++ behind) e ∙ append_assoc space (text ++ more) behind ∙ ap (λ x. space ++ x) (append_assoc text more behind)
@@ -75,57 +68,45 @@ gap_grown [] (c ∷ cs) right h k = (k.0, gap_grown [] cs right h k.1)
 gap_grown (x ∷ left) cs right h k = (h.0, gap_grown left cs right h.1 k)
 
 light_first : (left : List ℕ) (c : ℕ) (cs right : List ℕ) → Each is_space (left ++ right) → is_space c ≡ true → (behind : List ℕ) → IsLight (head (left ++ (c ∷ cs ++ behind)))
-light_first [] c cs right h k behind = k
-light_first (x ∷ left) c cs right h k behind = h.0
+light_first [] c cs right h k behind = λ p dark. dark c k
+light_first (x ∷ left) c cs right h k behind = λ p dark. dark x h.0
 
 some_stands : (left right text : List ℕ) → Dark text → head (left ++ (right ++ text)) ≡ None → ⊥
 some_stands [] [] [] dark none = absurd dark
-some_stands [] [] (c ∷ text) dark none = cc
-some_stands [] (r ∷ right) text dark none = cc
-some_stands (x ∷ left) right text dark none = cc
+some_stands left right text dark none = cc
 
 gap_some : (left : List ℕ) (c : ℕ) (cs : List ℕ) → is_empty (left ++ c ∷ cs) ≡ false
 gap_some [] c cs = refl
 gap_some (x ∷ left) c cs = refl
 
-empty_nil : (cs : List ℕ) → is_empty cs ≡ true → cs ≡ []
-empty_nil [] h = refl
-empty_nil (c ∷ cs) h = cc
+-- a slice spells the same behind a gap, but for a digit that is a number of its own
+spells_apart : (takes : Bool) (gap w : List ℕ) (next : Option ℕ) (t : Tok) → (gap ≡ [] → IsTrue takes → Begins is_ascii_digit w → ⊥) → SpellsAt (takes && is_empty gap) w next t → SpellsAt false w next t
+spells_apart true [] w next t other spells = spells_there true false w next next t (λ digit. absurd (other refl refl digit)) (λ p dark s. s) (λ e. e) spells
+spells_apart false gap w next t other spells = spells
+spells_apart true (c ∷ gap) w next t other spells = spells
 
 -- the slices of a text with a place between two tokens
 
 abbrev around : (before after : List ℕ) → IsBetweenTokens before after → List Slice
 around before after place = place.earlier ++ place.last ∷ place.next ∷ slices_of (takes_digit (Some place.next.token)) place.rest
 
--- the slices up to the place, the white space there, and the slices of the rest
-slices_around : {before after : List ℕ} (place : IsBetweenTokens before after) (text behind gap : List ℕ) → text ≡ place.front ++ behind → behind ≡ gap ++ (place.next.text ++ place.rest) → AreSlices false place.front behind (place.earlier ++ place.last ∷ []) → AllPass is_space gap → SpellsAt (takes_digit (Some place.last.token) && is_empty gap) place.next.text (head place.rest) place.next.token → HasSlices false text (around before after place)
-slices_around place text behind gap whole next earlier space spells =
-    let later : HasSlices (takes_digit (Some place.last.token)) behind (place.next ∷ slices_of (takes_digit (Some place.next.token)) place.rest) = (place.rest, (gap, next, space, spells), cut _ place.rest) in
-    subst (λ x. HasSlices false x (around _ _ place)) (sym whole) (slices_joined false place.front behind place.earlier place.last _ earlier later)
-
-has_slices : (before after : List ℕ) (place : IsBetweenTokens before after) → HasSlices false (before ++ after) (around before after place)
-has_slices before after place =
-    let whole = ap (λ x. x ++ after) place.before_is ∙ append_assoc place.front place.left after in
-    let next = ap (λ x. place.left ++ x) place.after_is ∙ sym (append_assoc place.left place.right (place.next.text ++ place.rest)) in
-    slices_around place (before ++ after) (place.left ++ after) (place.left ++ place.right) whole next place.slices place.space place.spells
-
--- .. also with white space put there
-same_slices : (before after : List ℕ) (place : IsBetweenTokens before after) → ¬ (IsDigitPlace place) → (space : List ℕ) → Each is_space space → HasSlices false (before ++ (space ++ after)) (around before after place)
-same_slices before after place no_digit_place [] white = has_slices before after place
-same_slices before after place no_digit_place (c ∷ cs) white =
-    let takes : Bool = takes_digit (Some place.last.token) in
+-- the slices up to the place, the white space there with more put into it, and the slices of the rest
+slices_around : {before after : List ℕ} (place : IsBetweenTokens before after) (space : List ℕ) → AreSlices false place.front (place.left ++ (space ++ after)) (place.earlier ++ place.last ∷ []) → AllPass is_space (place.left ++ (space ++ place.right)) → SpellsAt (takes_digit (Some place.last.token) && is_empty (place.left ++ (space ++ place.right))) place.next.text (head place.rest) place.next.token → HasSlices false (before ++ (space ++ after)) (around before after place)
+slices_around {before} {after} place space earlier white spells =
     let slice : List ℕ = place.next.text ++ place.rest in
-    let gap : List ℕ = place.left ++ (c ∷ cs ++ place.right) in
-    let behind : List ℕ = place.left ++ (c ∷ cs ++ after) in
-    let whole : before ++ (c ∷ cs ++ after) ≡ place.front ++ behind = ap (λ x. x ++ (c ∷ cs ++ after)) place.before_is ∙ append_assoc place.front place.left (c ∷ cs ++ after) in
-    let next : behind ≡ gap ++ slice = ap (λ x. place.left ++ (c ∷ cs ++ x)) place.after_is ∙ sym (append_assoc place.left (c ∷ cs ++ place.right) slice ∙ ap (λ x. place.left ++ x) (append_assoc (c ∷ cs) place.right slice)) in
+    let whole : before ++ (space ++ after) ≡ place.front ++ (place.left ++ (space ++ after)) = ap (λ x. x ++ (space ++ after)) place.before_is ∙ append_assoc place.front place.left (space ++ after) in
+    let next : place.left ++ (space ++ after) ≡ (place.left ++ (space ++ place.right)) ++ slice = ap (λ x. place.left ++ (space ++ x)) place.after_is ∙ sym (append_assoc place.left (space ++ place.right) slice ∙ ap (λ x. place.left ++ x) (append_assoc space place.right slice)) in
+    subst (λ x. HasSlices false x (around _ _ place)) (sym whole) (slices_joined false place.front _ place.earlier place.last _ earlier (place.rest, (_, next, white, spells), cut _ place.rest))
+
+same_slices : (before after : List ℕ) (place : IsBetweenTokens before after) → ¬ (IsDigitPlace place) → (space : List ℕ) → Each is_space space → HasSlices false (before ++ (space ++ after)) (around before after place)
+same_slices before after place no_digit_place [] white = slices_around place [] place.slices place.space place.spells
+same_slices before after place no_digit_place (c ∷ cs) white =
     let space : Each is_space (place.left ++ place.right) = each is_space (place.left ++ place.right) place.space in
-    let dark : Dark slice = dark_front place.next.text place.rest (spells_dark (takes && is_empty (place.left ++ place.right)) place.next.text (head place.rest) place.next.token place.spells) in
-    let some : head (place.left ++ after) ≡ None → ⊥ = λ none. some_stands place.left place.right slice dark (ap (λ x. head (place.left ++ x)) (sym place.after_is) ∙ none) in
-    let earlier : AreSlices false place.front behind (place.earlier ++ place.last ∷ []) = slices_before_space false place.front (place.left ++ after) behind (place.earlier ++ place.last ∷ []) some (light_first place.left c cs place.right space white.0 after) place.slices in
-    let apart : (takes && is_empty gap) ≡ false = ap (λ b. takes && b) (gap_some place.left c (cs ++ place.right)) ∙ and_false takes in
-    let spells : SpellsAt false place.next.text (head place.rest) place.next.token = spells_there (takes && is_empty (place.left ++ place.right)) false place.next.text (head place.rest) (head place.rest) place.next.token (λ digit. ⊎_elim (λ alone. absurd (let both = and_parts takes (is_empty (place.left ++ place.right)) alone in no_digit_place (record { touching = empty_nil (place.left ++ place.right) both.1; takes = both.0; digit = digit }))) (λ apart. apart) (cases_Bool (takes && is_empty (place.left ++ place.right)))) (λ p dark s. s) (λ e. e) place.spells in
-    slices_around place (before ++ (c ∷ cs ++ after)) behind gap whole next earlier (passing is_space gap (gap_grown place.left (c ∷ cs) place.right space white)) (subst (λ b. SpellsAt b place.next.text (head place.rest) place.next.token) (sym apart) spells)
+    let dark : Dark (place.next.text ++ place.rest) = dark_front place.next.text place.rest (spells_dark _ _ _ _ place.spells) in
+    let some : head (place.left ++ after) ≡ None → ⊥ = λ none. some_stands place.left place.right _ dark (ap (λ x. head (place.left ++ x)) (sym place.after_is) ∙ none) in
+    let earlier = slices_before_space false place.front _ (place.left ++ (c ∷ cs ++ after)) _ some (light_first place.left c cs place.right space white.0 after) place.slices in
+    let spells = spells_apart _ _ _ _ _ (λ touching takes digit. no_digit_place (record { touching = touching; takes = takes; digit = digit })) place.spells in
+    slices_around place (c ∷ cs) earlier (passing is_space _ (gap_grown place.left (c ∷ cs) place.right space white)) (rw (gap_some place.left c (cs ++ place.right), and_false) spells)
 
 -- texts with the same slices
 
@@ -143,11 +124,9 @@ read_alike text other to from = record {
 
 pub space_changes_nothing : (before space after : List ℕ) → IsUtf8 before → IsUtf8 space → SpaceChangesNothing before space after
 space_changes_nothing before space after u v = λ place no_digit_place white.
-    let text : chars (before ++ after) ≡ chars before ++ chars after = chars-append before after u in
-    let other : chars (before ++ (space ++ after)) ≡ chars before ++ (chars space ++ chars after) = chars-append before (space ++ after) u ∙ ap (λ x. chars before ++ x) (chars-append space after v) in
     let ss : List Slice = around (chars before) (chars after) place in
-    let a : HasSlices false (chars (before ++ after)) ss = subst (λ x. HasSlices false x ss) (sym text) (has_slices (chars before) (chars after) place) in
-    let b : HasSlices false (chars (before ++ (space ++ after))) ss = subst (λ x. HasSlices false x ss) (sym other) (same_slices (chars before) (chars after) place no_digit_place (chars space) (each is_space (chars space) white)) in
+    let a : HasSlices false (chars (before ++ after)) ss = rw (chars-append before after u) (same_slices _ _ place no_digit_place [] tt) in
+    let b : HasSlices false (chars (before ++ (space ++ after))) ss = rw (chars-append before (space ++ after) u, chars-append space after v) (same_slices _ _ place no_digit_place (chars space) (each is_space (chars space) white)) in
     read_alike (before ++ after) (before ++ (space ++ after)) (same_tokens _ _ ss a b) (same_tokens _ _ ss b a)
 
 -- where places are

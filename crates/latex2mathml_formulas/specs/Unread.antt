@@ -1,7 +1,7 @@
 -- What is left of a text that is taken token by token, and what was counted so far.
-use Rattle.std.specs.Prelude.{◌≡◌, ℕ, ◌+◌, ◌*◌, ◌≤◌, List, drop, map, length}
-use Rattle.latex2mathml_formulas.specs.{Counts.backslashes, Openers.openers, Spelling.Slice}
-use Rattle.latex2mathml_tokens.specs.Tok.{Tok}
+use Rattle.std.specs.Prelude.{◌≡◌, ℕ, ◌+◌, ◌*◌, ◌≤◌, List, [], drop, map, length}
+use Rattle.latex2mathml_formulas.specs.{Counts.backslashes, Grammar.first_or_end, Marks.rest_of, Openers.openers, Spelling.Slice}
+use Rattle.latex2mathml_tokens.specs.Tok.{Tok, EOF}
 
 -- the slices that are left and their tokens, how many tokens were taken, how many of the slices that are left begin with a
 -- backslash, and how many names were compared for those that were taken
@@ -37,6 +37,13 @@ pub record GoesOn (old new : Unread) : Type 0 where
   pub rest : (slices : List Slice) → IsLeftOf slices old → IsLeftOf slices new
   pub at_least : old.comparisons + old.backslashes ≤ new.comparisons + new.backslashes
   pub at_most : new.comparisons + 9 * new.backslashes ≤ old.comparisons + 9 * old.backslashes
+
+-- the token that stood next is t, and was taken; where none stood, t is the end
+pub record Takes (t : Tok) (old new : Unread) : Type 0 where
+  pub token : t ≡ first_or_end old.list
+  pub list : new.list ≡ rest_of old.list
+  pub ended : t ≡ EOF → old.list ≡ []
+  pub counts : GoesOn old new
 
 -- Reading went on from what was left to what is left now, and the greatest number of frames, which was `before`, is
 -- `after`: each frame was opened for a token that was taken, and each such token opened one at most.

@@ -1,11 +1,11 @@
 //! The lexemes of a text, taken one at a time. White space in front of a lexeme is skipped where the lexeme is taken or
 //! looked for.
-ghost use Rattle.std.specs.Prelude.{◌≡◌, ◌≢◌, ◌≤◌, ◌∷◌, ℕ, [], false, List, IfOk, MatchBool, Some, codes, length, string_bytes};
+ghost use Rattle.std.specs.Prelude.{◌≡◌, ◌≢◌, ◌∷◌, ℕ, [], false, List, IfOk, MatchBool, Some, codes, string_bytes};
 ghost use Rattle.std.specs.Str.{chars};
-ghost use Rattle.latex2mathml_formulas.specs.{Counts.backslashes, Cutting.slices_of, Grammar.first, Grammar.first_or_end};
+ghost use Rattle.latex2mathml_formulas.specs.{Counts.backslashes, Cutting.slices_of, Grammar.first};
 ghost use Rattle.latex2mathml_formulas.specs.Marks.{IsSeen, MarkStands, NameStands, rest_of, sign_token};
-ghost use Rattle.latex2mathml_formulas.specs.Unread.{GoesOn, OpensFor, token_list};
-ghost use Rattle.latex2mathml_tokens.specs.{Lexemes.lexeme_tok, Tok.EOF, Tok.Paren};
+ghost use Rattle.latex2mathml_formulas.specs.Unread.{GoesOn, OpensFor, Takes, token_list};
+ghost use Rattle.latex2mathml_tokens.specs.{Lexemes.lexeme_tok, Tok.Paren};
 
 pub(crate) mod characters;
 pub(crate) mod mark;
@@ -64,10 +64,7 @@ impl<'a> Reader<'a> {
     /// `take_any`.
     #[inline(always)]
     pub(crate) fn take(&mut self) -> Lexeme<'a>
-        ensures token { lexeme_tok result ≡ first_or_end self.old.list }
-        ensures list { self.new.list ≡ rest_of self.old.list }
-        ensures ended { lexeme_tok result ≡ EOF → self.old.list ≡ [] }
-        ensures counts { GoesOn self.old self.new }
+        ensures { Takes (lexeme_tok result) self.old self.new }
     {
         if self.rest.is_empty() {
             return Lexeme::EOF;
@@ -87,10 +84,7 @@ impl<'a> Reader<'a> {
     /// Takes the next lexeme and counts it, whatever it is.
     #[inline(never)]
     fn take_any(&mut self) -> Lexeme<'a>
-        ensures token { lexeme_tok result ≡ first_or_end self.old.list }
-        ensures list { self.new.list ≡ rest_of self.old.list }
-        ensures ended { lexeme_tok result ≡ EOF → self.old.list ≡ [] }
-        ensures counts { GoesOn self.old self.new }
+        ensures { Takes (lexeme_tok result) self.old self.new }
     {
         let start = find_start(self.rest, self.takes_digit);
         let Some((c, after)) = start.first else {
@@ -167,7 +161,6 @@ impl<'a> Reader<'a> {
     /// Takes a name: any token, letters, and any token.
     pub(crate) fn name(&mut self, alloc: Global) -> Result<String, AllocError>
         ensures name { IfOk result (λ name. NameStands (string_bytes name) self.old.list self.new.list) }
-        ensures shorter { length self.new.list ≤ length self.old.list }
         ensures counts { GoesOn self.old self.new }
         ensures fewer { OpensFor self.old self.new 0 0 }
     {
@@ -182,7 +175,6 @@ impl<'a> Reader<'a> {
     /// Skips a name.
     pub(crate) fn skip_name(&mut self)
         ensures name { (bytes : List ℕ) × NameStands bytes self.old.list self.new.list }
-        ensures shorter { length self.new.list ≤ length self.old.list }
         ensures counts { GoesOn self.old self.new }
         ensures fewer { OpensFor self.old self.new 0 0 }
     {
@@ -241,9 +233,7 @@ impl<'a> Reader<'a> {
         let start = find_start(self.rest, self.takes_digit);
         self.rest = start.text;
         self.takes_digit = start.alone;
-        let Some((c, _)) = start.first else {
-            return None;
-        };
+        let (c, _) = start.first?;
         Some(c)
     }
 }

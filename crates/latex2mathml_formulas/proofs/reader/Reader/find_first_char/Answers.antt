@@ -3,14 +3,14 @@ use Rattle.latex2mathml_formulas.specs.Unread.{unread_in}
 use Rattle.latex2mathml_formulas.proofs.{Sights.seen, Sights.nothing_seen, Starts.same_slices}
 use Rattle.latex2mathml_formulas.proofs.reader.Reader.find_first_char.Goals as goal
 
-pub returns-in_default-clause-sight : goal.returns-in_default-clause-sight
-returns-in_default-clause-sight c = rw (← c.self.view_is) (nothing_seen _ _ _ _ c.find_start-start.ensures.start (rw c.in_default.is at c.find_start-start.ensures.first))
+pub returns-in_err-c-clause-sight : goal.returns-in_err-c-clause-sight
+returns-in_err-c-clause-sight c = rw (← c.self.view_is, c.from_residual.ensures) (nothing_seen _ _ _ _ c.find_start-start.ensures.start (rw c.in_err-c.was at c.find_start-start.ensures.first))
 
-pub returns-in_default-clause-same : goal.returns-in_default-clause-same
-returns-in_default-clause-same c = ap (λ ss. unread_in ss c.self.inside.tokens c.self.inside.comparisons) (same_slices _ _ _ _ c.find_start-start.ensures.start) ∙ c.self.view_is
+pub returns-in_err-c-clause-same : goal.returns-in_err-c-clause-same
+returns-in_err-c-clause-same c = ap (λ ss. unread_in ss c.self.inside.tokens c.self.inside.comparisons) (same_slices _ _ _ _ c.find_start-start.ensures.start) ∙ c.self.view_is
 
 pub returns-clause-sight : goal.returns-clause-sight
-returns-clause-sight c = rw (← c.self.view_is) (seen _ _ _ _ _ _ c.find_start-start.ensures.start (rw c.in-Some.is at c.find_start-start.ensures.first))
+returns-clause-sight c = rw (← c.self.view_is) (seen _ _ _ _ _ _ c.find_start-start.ensures.start (rw c.in_ok-c.was at c.find_start-start.ensures.first))
 
 pub returns-clause-same : goal.returns-clause-same
 returns-clause-same c = ap (λ ss. unread_in ss c.self.inside.tokens c.self.inside.comparisons) (same_slices _ _ _ _ c.find_start-start.ensures.start) ∙ c.self.view_is

@@ -5,14 +5,12 @@ use Rattle.latex2mathml_formulas.proofs.reader.Reader.skip_name.Goals as goal
 
 pub loop-preserved : goal.loop-preserved
 loop-preserved c =
-    let found = c.in-Letter.ensures in
     let letter = c.in-Letter.field-0 in
     let so_far = c.loop.invariant in
-    (so_far.0 ++ encode_utf8 letter, letter_taken _ _ letter _ _ _ _ found.token found.list found.counts refl so_far.1)
+    (so_far.0 ++ encode_utf8 letter, letter_taken _ _ letter _ _ _ _ c.in-Letter.ensures refl so_far.1)
 
 pub returns : goal.returns
 returns c =
-    let found = c.take.ensures in
     let so_far = c.loop.invariant in
-    let all = name_taken _ _ c.args.self.now _ _ found.token c.in_default.not-Letter found.list found.counts so_far.1 in
-    record { name = (so_far.0, all.0); shorter = all.1; counts = all.2; fewer = all.3 }
+    let all = name_taken _ _ c.args.self.now _ _ c.take.ensures c.in_default.not-Letter so_far.1 in
+    record { name = (so_far.0, all.0); counts = all.1; fewer = all.2 }
