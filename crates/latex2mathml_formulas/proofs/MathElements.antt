@@ -1,13 +1,12 @@
 -- A rendering is one `math` element that obeys the child table.
-use Rattle.std.proofs.Common.{◌≡◌, ℕ, true, false, ◌&&◌, IsTrue, List, [], ◌∷◌, ◌++◌, refl, sym, ap, ◌∙◌, append_assoc, append-nil, codes, map, Result, Global, Ok, Err}
-use Rattle.std.specs.{Prelude.IfOk, Prelude.String, Prelude.string_bytes, List.flat_map, List.list_all, Str.chars}
+use Rattle.std.proofs.Common.{◌≡◌, ℕ, true, false, ◌&&◌, IsTrue, List, [], ◌∷◌, ◌++◌, refl, sym, ap, ◌∙◌, append_assoc, append-nil, codes, map}
+use Rattle.std.specs.{List.flat_map, List.list_all, Str.chars}
 use Rattle.latex2mathml_trees.specs.{Arguments.HaveNoArgument, MathSchema.child_table, MathSchema.IsMathElement, Print.prints}
 use Rattle.latex2mathml_tokens.specs.{Attributes.display_text, declared.DisplayStyle.DisplayStyle}
 use Rattle.latex2mathml_trees.specs.Markup.{plain, attribute, open_tag, lowest, at_start, IsElement, is_part, spell_part}
 use Rattle.latex2mathml_formulas.specs.Rendering.{IsRendering, math_print}
 use Rattle.latex2mathml_trees.specs.Tree.{Tree, trees_of}
 use Rattle.latex2mathml_tokens.specs.declared.DisplayStyle.TheVariants.{Block, Inline}
-use Rattle.latex2mathml_tokens.specs.declared.error.LatexError.{LatexError}
 use Rattle.latex2mathml_trees.proofs.Elements.{some_children}
 use Rattle.latex2mathml_trees.proofs.Runs.{closed, joined, plain-spells, single, spelled_as}
 use Rattle.latex2mathml_formulas.proofs.Kept.{reading_is_kept}
@@ -33,8 +32,3 @@ unfolding IsRendering IsMathElement
 rendering_is_math text display markup r =
     let xs = r.2.0 in
     spelled_as (sym r.2.2) (math_element display xs (reading_is_kept (chars text) r.0 xs r.1 r.2.1).0)
-
--- so an answer that is a rendering is one
-pub answered_is_math : (text : List ℕ) (display : DisplayStyle) (r : Result (String Global) LatexError) → IfOk r (λ markup. IsRendering text display (string_bytes markup)) → IfOk r (λ markup. IsMathElement (string_bytes markup))
-answered_is_math text display (Ok markup) h = rendering_is_math text display (string_bytes markup) h
-answered_is_math text display (Err error) h = tt
