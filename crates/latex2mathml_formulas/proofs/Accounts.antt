@@ -1,7 +1,7 @@
 -- What a whole reading answers and counts, from what its parts do.
-use Rattle.std.proofs.Common.{◌≡◌, ℕ, ◌+◌, ◌<◌, ◌≤◌, Bool, false, IsTrue, List, [], ◌∷◌, cond, drop, length, sym, take, Some, None, Result, Ok, Err, ap, ◌∙◌, arith}
+use Rattle.std.proofs.Common.{◌≡◌, ℕ, ◌+◌, ◌≤◌, Bool, false, IsTrue, List, [], ◌∷◌, cond, drop, length, sym, take, Some, None, Result, Ok, Err, ap, ◌∙◌, arith}
 use Rattle.std.specs.Prelude.{OnOk, is_ok}
-use Rattle.std.proofs.{lemmas.List.length-map, lemmas.List.Sums.sum_by-take-drop, Math.Utf8.encodes}
+use Rattle.std.proofs.{lemmas.List.length-map, lemmas.List.Sums.sum_by-take-drop}
 use Rattle.std.specs.Str.{chars, IsUtf8}
 use Rattle.std.proofs.lemmas.Str.{encodes-chars, length-le-encodes}
 use Rattle.latex2mathml_formulas.specs.Counts.{IsComparisonCount, IsRefusalCount, IsRefusedWithin, IsTokenCount, backslashes, begins_with_backslash}
@@ -62,13 +62,9 @@ refused text {l} r e h = refused_so r h (λ q d. (l, whole_list (chars text) l e
 slices_within_text : (takes : Bool) (text : List ℕ) (slices : List Slice) → HasSlices takes text slices → length slices ≤ length text
 slices_within_text takes text [] h = omega arith
 slices_within_text takes text (s ∷ ss) (rest, step, later) =
-    let less : length rest < length text = step_shortens takes text rest s step in
-    let more : length ss ≤ length rest = slices_within_text (takes_digit (Some s.token)) rest ss later in
-    omega arith
+    omega (arith, step_shortens takes text rest s step, slices_within_text (takes_digit (Some s.token)) rest ss later)
 
 -- so no more tokens are taken than the text has bytes
 pub tokens_within_text : (text : List ℕ) (done : Bool) (n : ℕ) → IsUtf8 text → IsTokenCount (chars text) done n → n ≤ length text
 tokens_within_text text done n utf8 (slices, cut, bound, all) =
-    let within : length slices ≤ length (chars text) = slices_within_text false (chars text) slices cut in
-    let characters : length (chars text) ≤ length (encodes (chars text)) = length-le-encodes (chars text) in
-    omega (arith, ap length (encodes-chars text utf8))
+    omega (arith, slices_within_text false (chars text) slices cut, length-le-encodes (chars text), ap length (encodes-chars text utf8))

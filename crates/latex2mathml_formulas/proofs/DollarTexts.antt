@@ -5,7 +5,7 @@ use Rattle.std.specs.Fmt.{decimal, digits, digits_onto, digit_glyph}
 use Rattle.std.proofs.lemmas.Bool.Decides.{eqb_tells, nat_tests}
 use Rattle.latex2mathml_formulas.specs.Dollars.{is_other, IsDollarFree, free_both, free_first, free_more, free_one, free_rest, other}
 use Rattle.latex2mathml_tokens.specs.Escape.{content, content_byte, content_char, value, value_byte}
-use Rattle.latex2mathml_trees.specs.Width.{width_text, thousandths_text, thousandths, after_point, trimmed, keep, three_digits}
+use Rattle.latex2mathml_trees.specs.Width.{width_text, thousandths_text, thousandths, after_point, trimmed}
 
 pub free_if : (p : Bool) (a b : List ℕ) → IsDollarFree a → IsDollarFree b → IsDollarFree (cond p a b)
 free_if true a b x y = x
@@ -48,22 +48,11 @@ pub free_decimal : (n : ℕ) → IsDollarFree (decimal n)
 unfolding digits
 free_decimal n = free_onto 64 n [] refl
 
-free_keep : (x : ℕ) (xs : List ℕ) → is_other x ≡ true → IsDollarFree xs → IsDollarFree (keep x xs)
-free_keep x [] h i = free_if (nat_eq x 48) [] (x ∷ []) refl (free_one x h)
-free_keep x (y ∷ ys) h i = free_more x (y ∷ ys) h i
-
-free_point : (xs : List ℕ) → IsDollarFree xs → IsDollarFree (after_point xs)
-free_point [] h = refl
-free_point (x ∷ xs) h = h
-
-free_three : (n : ℕ) → IsDollarFree (trimmed (three_digits n))
-free_three n =
-    let c = 48 + n % 10 in
-    let b = 48 + n / 10 % 10 in
-    free_keep (48 + n / 100 % 10) (keep b (keep c [])) (other_digit (n / 100 % 10)) (free_keep b (keep c []) (other_digit (n / 10 % 10)) (free_keep c [] (other_digit (n % 10)) refl))
+free_point : (a b c : ℕ) → is_other a ≡ true → is_other b ≡ true → is_other c ≡ true → IsDollarFree (after_point (trimmed (a ∷ b ∷ c ∷ [])))
+free_point a b c h i j = grind arith
 
 free_thousandths : (t : ℕ) → IsDollarFree (thousandths_text t)
-free_thousandths t = free_both (decimal (t / 1000)) _ (free_decimal (t / 1000)) (free_point (trimmed (three_digits (t % 1000))) (free_three (t % 1000)))
+free_thousandths t = free_both (decimal (t / 1000)) _ (free_decimal (t / 1000)) (free_point _ _ _ (other_digit (t % 1000 / 100 % 10)) (other_digit (t % 1000 / 10 % 10)) (other_digit (t % 1000 % 10)))
 
 pub free_width : (n : ℤ) → IsDollarFree (width_text n)
 free_width (pos n) = free_thousandths (thousandths n)

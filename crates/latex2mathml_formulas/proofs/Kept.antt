@@ -1,12 +1,12 @@
 -- What is read of tokens whose sizes hold no dollar sign is a tree in which no function has an argument and whose print holds
 -- no dollar sign, or a refusal that is not for dollar signs. Only `keeps` names tokens: it has a line for each rule of which
 -- `search` does not find that it is kept.
-use Rattle.std.proofs.Common.{◌≢◌, ℕ, Bool, true, false, List, [], ◌∷◌, Option, Some, None, refl, codes, cond, sym, subst}
+use Rattle.std.proofs.Common.{arith, ◌≢◌, ℕ, Bool, List, [], ◌∷◌, Option, Some, None, refl, codes, cond, sym, subst}
 use Rattle.std.proofs.lemmas.List.Folds.{list_all-append}
 use Rattle.std.specs.Str.{bytes_eq, chars, encode_utf8_all}
 use Rattle.latex2mathml_trees.specs.{Arguments.HasNoArgument, Arguments.HaveNoArgument, Style.styled, Style.all_styled}
 use Rattle.latex2mathml_trees.specs.Productions.{environment_tree, fence_of, fenced_matrix, matrix_of, matrix_members, stretched_operator, group_tree}
-use Rattle.latex2mathml_trees.specs.Tree.{Tree, Trees, letter, operator, other_operator, row, no_trees, more_trees, trees_of}
+use Rattle.latex2mathml_trees.specs.Tree.{Tree, Trees, letter, row, no_trees, more_trees, trees_of}
 use Rattle.latex2mathml_formulas.specs.{Dollars.IsDollarFree, Dollars.free_both, Rendering.IsFormulaRefusal, Rendering.IsRendering}
 use Rattle.latex2mathml_formulas.specs.Grammar.{environment, sized, stretched_or_refused, with_fence, Sort, Rule, gives, refuses, reads_part, reads_members, reads_sign, takes_token, sees_token, takes_letters, rule, Outcome, Read, Refused, first_or_end, AreLetters, Reads, core_at_end, core_begun, single_read, node_read, ReadsRule, rule_gives, rule_refuses, part_read, part_refused, members_read, members_refused, sign_stands, sign_missing, token_taken, token_at_end, token_seen, letters_taken, ReadsAll, formula_ends, group_ends, never_closed, member_read, later_refused, member_refused, Refuses, ReadsFormula}
 use Rattle.latex2mathml_formulas.specs.{RenderingLaws.IsNeverForDollars, RenderingLaws.RendersDollarFree, Spelling.HasTokens}
@@ -14,10 +14,10 @@ use Rattle.latex2mathml_tokens.specs.{Refusal.InvalidNumberOfDollarSigns, declar
 use Rattle.latex2mathml_tokens.specs.Tok.{Tok, EOF, Begin, Paren, LBrace, Left, Right, Middle, Sqrt, Style, Big, Binom}
 use Rattle.latex2mathml_tokens.specs.declared.attribute.ColumnAlign.TheVariants as align
 use Rattle.latex2mathml_formulas.proofs.DollarTokens.{IsFree, AreFree, free_tokens}
-use Rattle.latex2mathml_formulas.proofs.DollarTexts.{free_content, free_content_char, free_decimal, free_value}
+use Rattle.latex2mathml_formulas.proofs.DollarTexts.{free_content, free_decimal, free_value}
 use Rattle.latex2mathml_formulas.proofs.DollarTrees.{free_display, free_letter, free_members, free_operator, free_parts, free_pieces, free_style_open}
 use Rattle.latex2mathml_trees.specs.Print.{print, prints, members_print}
-use Rattle.latex2mathml_tokens.specs.{Attributes.display_text, Escape.content, Escape.content_char, Escape.value}
+use Rattle.latex2mathml_tokens.specs.{Attributes.display_text}
 
 abbrev IsKept : Tree → Type 0
 IsKept x = HasNoArgument x × IsDollarFree (print x)
@@ -58,26 +58,21 @@ mutual
       ((one.0, others.0), free_both (print (styled v x)) _ one.1 others.1)
 
 keeps_size : (size : List ℕ) (t : Tok) → IsDollarFree size → Keeps (sized size t)
-keeps_size size (Paren text) h =
-    (tt, free_both (value size) _ (free_value size h) (free_both (value size) _ (free_value size h) (free_both (content text) _ (free_content text) refl)))
+keeps_size size (Paren text) h = (tt, simp (list_all-append, free_value size h, free_content))
 keeps_size size t h = λ e. cc
 
 keeps_fence : (place t : Tok) (fence : Option (List ℕ)) (then : List ℕ → Rule) → ((text : List ℕ) → Keeps (then text)) → Keeps (with_fence place t fence then)
-keeps_fence place t (Some text) then h = h text
-keeps_fence place t None then h = λ e. cc
+keeps_fence place t fence then h = grind arith
 
 keeps_stretch : (t : Tok) (x : Tree) → Keeps (stretched_or_refused t (stretched_operator x))
-keeps_stretch t (operator c) = (tt, free_both (content_char c) _ (free_content_char c) refl)
-keeps_stretch t (other_operator text) = (tt, free_both (content text) _ (free_content text) refl)
-keeps_stretch t x = λ e. cc
+keeps_stretch t x = grind (arith, list_all-append, free_content)
 
 keeps_spread : (x : Tree) → IsKept x → HaveNoArgument (matrix_members x) × IsDollarFree (members_print (matrix_members x))
 keeps_spread (row members) h = (h.0, free_members members (free_parts (prints members) _ h.1).0)
 keeps_spread x h = ((h.0, tt), free_members (more_trees x no_trees) (free_both (print x) [] h.1 refl))
 
 keeps_choice : (name : List ℕ) (b : Bool) (x : Tree) (others : Option Tree) → IsKept x → Keeps (environment name others) → Keeps (environment name (cond b (Some x) others))
-keeps_choice name true x others h i = h
-keeps_choice name false x others h i = i
+keeps_choice name b x others h i = grind arith
 
 keeps_environment : (name : List ℕ) (x : Tree) → IsKept x → Keeps (environment name (environment_tree name x))
 keeps_environment name x h =
@@ -108,25 +103,19 @@ abbrev Has : {A : Type 0} → (A → Type 0) → Outcome A → Type 0
 Has kept (Read x m) = kept x × AreFree m
 Has kept (Refused r) = r ≢ InvalidNumberOfDollarSigns
 
-abbrev HasTree : Outcome Tree → Type 0
-HasTree o = Has IsKept o
-
-abbrev HasTrees : Outcome (List Tree) → Type 0
-HasTrees o = Has (λ xs. AreKept (trees_of xs)) o
-
 -- what stands after letters
 behind : (cs : List ℕ) (l m : List Tok) → AreLetters cs l m → AreFree l → AreFree m
 behind [] l m d h = subst AreFree d.0 h
 behind (c ∷ cs) l m d h = behind cs d.1.0 m d.1.3 (subst AreFree d.1.1 h).1
 
 mutual
-  read : {s : Sort} {l : List Tok} {o : Outcome Tree} → Reads s l o → AreFree l → HasTree o
+  read : {s : Sort} {l : List Tok} {o : Outcome Tree} → Reads s l o → AreFree l → Has IsKept o
   read core_at_end h = ((tt, refl), tt)
   read (core_begun {t = t} d) h = read_rule d (keeps t h.0) h.1
   read (single_read d) h = read_rule d (λ x none free. search (free_both, free_operator)) h
   read (node_read d) h = read_rule d (λ x none free. search free_both) h
 
-  read_rule : {r : Rule} {l : List Tok} {o : Outcome Tree} → ReadsRule r l o → Keeps r → AreFree l → HasTree o
+  read_rule : {r : Rule} {l : List Tok} {o : Outcome Tree} → ReadsRule r l o → Keeps r → AreFree l → Has IsKept o
   read_rule rule_gives k h = (k, h)
   read_rule rule_refuses k h = k
   read_rule (part_read {x = x} d ds) k h = let part = read d h in read_rule ds (k x part.0.0 part.0.1) part.1
@@ -140,7 +129,7 @@ mutual
   read_rule (token_seen {l = l} d) k h = read_rule d (k (first_or_end l)) h
   read_rule (letters_taken cs {l = l} {m = m} p d) k h = read_rule d (k cs) (behind cs l m p h)
 
-  read_all : {end : Option Tok} {l : List Tok} {o : Outcome (List Tree)} → ReadsAll end l o → AreFree l → HasTrees o
+  read_all : {end : Option Tok} {l : List Tok} {o : Outcome (List Tree)} → ReadsAll end l o → AreFree l → Has (λ xs. AreKept (trees_of xs)) o
   read_all formula_ends h = ((tt, refl), tt)
   read_all never_closed h = λ e. cc
   read_all (group_ends p) h = ((tt, refl), (subst AreFree p h).1)

@@ -1,19 +1,17 @@
 -- A rendering is one `math` element that obeys the child table.
-use Rattle.std.proofs.Common.{◌≡◌, ℕ, true, false, ◌&&◌, IsTrue, List, [], ◌∷◌, ◌++◌, refl, sym, ap, ◌∙◌, append_assoc, append-nil, codes, map}
+use Rattle.std.proofs.Common.{arith, ◌≡◌, ℕ, true, false, ◌&&◌, IsTrue, List, [], ◌∷◌, ◌++◌, refl, sym, ap, ◌∙◌, append_assoc, append-nil, codes, map}
 use Rattle.std.specs.{List.flat_map, List.list_all, Str.chars}
 use Rattle.latex2mathml_trees.specs.{Arguments.HaveNoArgument, MathSchema.child_table, MathSchema.IsMathElement, Print.prints}
 use Rattle.latex2mathml_tokens.specs.{Attributes.display_text, declared.DisplayStyle.DisplayStyle}
 use Rattle.latex2mathml_trees.specs.Markup.{plain, attribute, open_tag, lowest, at_start, IsElement, is_part, spell_part}
 use Rattle.latex2mathml_formulas.specs.Rendering.{IsRendering, math_print}
 use Rattle.latex2mathml_trees.specs.Tree.{Tree, trees_of}
-use Rattle.latex2mathml_tokens.specs.declared.DisplayStyle.TheVariants.{Block, Inline}
 use Rattle.latex2mathml_trees.proofs.Elements.{some_children}
 use Rattle.latex2mathml_trees.proofs.Runs.{closed, joined, plain-spells, single, spelled_as}
 use Rattle.latex2mathml_formulas.proofs.Kept.{reading_is_kept}
 
 display-valid : (display : DisplayStyle) → IsTrue (list_all is_part (map plain (display_text display)))
-display-valid Block = refl
-display-valid Inline = refl
+display-valid display = grind arith
 
 math_element : (display : DisplayStyle) (xs : List Tree) → HaveNoArgument (trees_of xs) → IsElement child_table (codes "math") (math_print display xs)
 math_element display xs h =
