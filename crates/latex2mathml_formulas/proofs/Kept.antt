@@ -14,8 +14,7 @@ use Rattle.latex2mathml_tokens.specs.{Refusal.InvalidNumberOfDollarSigns, declar
 use Rattle.latex2mathml_tokens.specs.Tok.{Tok, EOF, Begin, Paren, LBrace, Left, Right, Middle, Sqrt, Style, Big, Binom}
 use Rattle.latex2mathml_tokens.specs.declared.attribute.ColumnAlign.TheVariants as align
 use Rattle.latex2mathml_formulas.proofs.DollarTokens.{IsFree, AreFree, free_tokens}
-use Rattle.latex2mathml_formulas.proofs.DollarTexts.{free_content, free_decimal, free_value}
-use Rattle.latex2mathml_formulas.proofs.DollarTrees.{free_display, free_letter, free_members, free_operator, free_parts, free_pieces, free_style_open}
+use Rattle.latex2mathml_formulas.proofs.DollarTexts.{free_content, free_decimal, free_display, free_letter, free_members, free_operator, free_parts, free_pieces, free_style_open, free_value}
 use Rattle.latex2mathml_trees.specs.Print.{print, prints, members_print}
 use Rattle.latex2mathml_tokens.specs.{Attributes.display_text}
 
