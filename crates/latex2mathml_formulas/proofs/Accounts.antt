@@ -1,43 +1,42 @@
 -- What a whole reading answers and counts, from what its parts do.
-use Rattle.std.proofs.Common.{◌≡◌, ◌≢◌, ℕ, ◌+◌, ◌<◌, ◌≤◌, Bool, true, false, List, [], ◌∷◌, ◌++◌, cond, drop, length, sym, take, Some, None, Result, Global, Ok, Err, refl, ap, ◌∙◌, arith}
-use Rattle.std.specs.Prelude.{IfOk, OnOk, is_ok, string_bytes, String}
-use Rattle.std.proofs.{lemmas.List.length-map, lemmas.List.Sums.sum_by-take-drop, Math.Utf8.encodes}
+use Rattle.std.proofs.Common.{◌≡◌, ℕ, ◌+◌, ◌≤◌, Bool, false, IsTrue, List, [], ◌∷◌, cond, drop, length, sym, take, Some, None, Result, Ok, Err, ap, ◌∙◌, arith}
+use Rattle.std.specs.Prelude.{OnOk, is_ok}
+use Rattle.std.proofs.{lemmas.List.length-map, lemmas.List.Sums.sum_by-take-drop}
 use Rattle.std.specs.Str.{chars, IsUtf8}
 use Rattle.std.proofs.lemmas.Str.{encodes-chars, length-le-encodes}
 use Rattle.latex2mathml_formulas.specs.Counts.{IsComparisonCount, IsRefusalCount, IsRefusedWithin, IsTokenCount, backslashes, begins_with_backslash}
 use Rattle.latex2mathml_formulas.specs.{Cutting.slices_of, Grammar.ReadsFormula, Grammar.Refuses, Openers.IsFrameCount}
-use Rattle.latex2mathml_tokens.specs.Refusal.{IfRefused, InvalidNumberOfDollarSigns, Refusal, refusal_of}
+use Rattle.latex2mathml_tokens.specs.Refusal.{IfRefused, Refusal, refusal_of}
 use Rattle.latex2mathml_formulas.specs.Rendering.{IsFormulaRefusal, IsRendering, math_print}
 use Rattle.latex2mathml_formulas.specs.Spelling.{HasSlices, HasTokens, Slice, takes_digit}
 use Rattle.latex2mathml_tokens.specs.{Tok.Tok, declared.DisplayStyle.DisplayStyle, declared.error.LatexError.LatexError}
 use Rattle.latex2mathml_trees.specs.Tree.{Tree}
 use Rattle.latex2mathml_formulas.specs.Unread.{GoesOn, OpensFor, Unread, token_list}
-use Rattle.latex2mathml_formulas.proofs.{OneList.cut, Appending.some_so, Kept.never_dollars, Tokenizing.step_shortens}
+use Rattle.std.proofs.lemmas.Option.{IfSome_then}
+use Rattle.latex2mathml_formulas.proofs.{OneList.cut, Tokenizing.step_shortens}
 
 -- what is left of a whole text
 pub whole_list : (text : List ℕ) (l : List Tok) → l ≡ token_list (slices_of false text) → HasTokens None text l
 whole_list text l e = (slices_of false text, cut false text, e)
 
-pub token_count : {A E : Type 0} (text : List ℕ) (r : Result A E) (old new : Unread) (n : ℕ) → old.list ≡ token_list (slices_of false text) → old.tokens ≡ 0 → GoesOn old new → OnOk r (new.list ≡ []) → n ≡ new.tokens → IsTokenCount text (is_ok r) n
-token_count {A} {E} text r old new n e none goes all same =
+pub token_count : {A E : Type 0} {text : List ℕ} (r : Result A E) {old new : Unread} {n : ℕ} → old.list ≡ token_list (slices_of false text) → old.tokens ≡ 0 → GoesOn old new → OnOk r (new.list ≡ []) → n ≡ new.tokens → IsTokenCount text (is_ok r) n
+token_count {A} {E} {text} r {old} {new} e none goes all same =
     let whole : length old.list ≡ length (slices_of false text) = ap length e ∙ length-map (slices_of false text) (λ s. s.token) in
-    (slices_of false text, cut false text, omega arith, exact r all)
+    (slices_of false text, cut false text, omega arith, λ done. omega (arith, ap length (left r all done)))
   where
-    exact : (r : Result A E) → OnOk r (new.list ≡ []) → is_ok r ≡ true → n ≡ length (slices_of false text)
-    exact (Ok x) all h = let whole : length old.list ≡ length (slices_of false text) = ap length e ∙ length-map (slices_of false text) (λ s. s.token) in omega (arith, ap length all)
-    exact (Err x) all h = cc
+    left : (r : Result A E) → OnOk r (new.list ≡ []) → IsTrue (is_ok r) → new.list ≡ []
+    left (Ok x) all done = all
+    left (Err x) all done = cc
 
 -- a refusal that has this has that as well
-refused_so : {A : Type 0} (P Q : Refusal → Type 0) (r : Result A LatexError) → ((q : Refusal) → P q → Q q) → IfRefused r P → IfRefused r Q
-refused_so P Q (Ok x) so h = tt
-refused_so P Q (Err error) so h = some_so P Q (refusal_of error) so h
+pub refused_so : {A : Type 0} {P Q : Refusal → Type 0} (r : Result A LatexError) → IfRefused r P → ((q : Refusal) → P q → Q q) → IfRefused r Q
+refused_so (Ok x) h so = tt
+refused_so (Err error) h so = IfSome_then (refusal_of error) h so
 
 -- where a node is refused, all tokens before it were taken, and more
-pub refusal_count : {A : Type 0} (text : List ℕ) (r : Result A LatexError) (old new : Unread) (n : ℕ) → old.list ≡ token_list (slices_of false text) → old.tokens ≡ 0 → GoesOn old new → IfRefused r (IsRefusedWithin old.list new.list) → n ≡ new.tokens → IfRefused r (IsRefusalCount text n)
-refusal_count text r old new n e none goes h same = refused_so (IsRefusedWithin old.list new.list) (IsRefusalCount text n) r counted h
-  where
-    counted : (q : Refusal) → IsRefusedWithin old.list new.list q → IsRefusalCount text n q
-    counted q (place, are, refused, fewer) = (old.list, whole_list text old.list e, (place, are, refused, omega (arith, goes.tokens)))
+pub refusal_count : {A : Type 0} (text : List ℕ) (r : Result A LatexError) {old new : Unread} {n : ℕ} → old.list ≡ token_list (slices_of false text) → old.tokens ≡ 0 → GoesOn old new → IfRefused r (IsRefusedWithin old.list new.list) → n ≡ new.tokens → IfRefused r (IsRefusalCount text n)
+refusal_count text r {old} {new} e none goes h same =
+    refused_so r h (λ q d. (old.list, whole_list text old.list e, (d.0, d.1, d.2, omega (arith, goes.tokens, d.3))))
 
 pub comparison_count : (text : List ℕ) (old new : Unread) (taken n : ℕ) → old.slices ≡ slices_of false text → old.tokens ≡ 0 → old.backslashes ≡ backslashes (slices_of false text) → old.comparisons ≡ 0 → GoesOn old new → new.backslashes ≡ backslashes new.slices → taken ≡ new.tokens → n ≡ new.comparisons → IsComparisonCount text taken n
 comparison_count text old new taken n is start all none goes left same_taken same =
@@ -51,38 +50,21 @@ comparison_count text old new taken n is start all none goes left same_taken sam
 pub frame_count : (text : List ℕ) (old new : Unread) (taken before n : ℕ) → old.list ≡ token_list (slices_of false text) → old.tokens ≡ 0 → before ≡ 0 → OpensFor old new (before + 0) n → taken ≡ new.tokens → IsFrameCount text taken n
 frame_count text old new taken before n e none start opens same = (omega arith, (old.list, whole_list text old.list e, omega arith))
 
-rendering : (text : List ℕ) (display : DisplayStyle) (l : List Tok) (markup : List ℕ) (xs : List Tree) → l ≡ token_list (slices_of false (chars text)) → ReadsFormula l xs → markup ≡ math_print display xs → IsRendering text display markup
+pub rendering : (text : List ℕ) (display : DisplayStyle) {l : List Tok} {markup : List ℕ} → l ≡ token_list (slices_of false (chars text)) → (xs : List Tree) × ReadsFormula l xs × (markup ≡ math_print display xs) → IsRendering text display markup
 unfolding IsRendering
-rendering text display l markup xs e d same = (l, whole_list (chars text) l e, (xs, d, same))
+rendering text display {l} e d = (l, whole_list (chars text) l e, d)
 
-pub rendered : (text : List ℕ) (display : DisplayStyle) (l : List Tok) (r : Result (String Global) LatexError) → l ≡ token_list (slices_of false (chars text)) → IfOk r (λ markup. (xs : List Tree) × ReadsFormula l xs × (string_bytes markup ≡ math_print display xs)) → IfOk r (λ markup. IsRendering text display (string_bytes markup))
-rendered text display l (Ok markup) e h = rendering text display l (string_bytes markup) h.0 e h.1 h.2
-rendered text display l (Err error) e h = tt
-
--- the markup of a text's tokens after what was there is that of the text
-pub appended : (text : List ℕ) (display : DisplayStyle) (l : List Tok) (old new : List ℕ) (r : Result Unit LatexError) → l ≡ token_list (slices_of false (chars text)) → OnOk r ((xs : List Tree) × ReadsFormula l xs × (new ≡ old ++ math_print display xs)) → OnOk r ((markup : List ℕ) × IsRendering text display markup × (new ≡ old ++ markup))
-appended text display l old new (Ok done) e h = (math_print display h.0, rendering text display l (math_print display h.0) h.0 e h.1 refl, h.2)
-appended text display l old new (Err error) e h = tt
-
-pub refused : {A : Type 0} (text : List ℕ) (l : List Tok) (r : Result A LatexError) → l ≡ token_list (slices_of false (chars text)) → IfRefused r (Refuses l) → IfRefused r (IsFormulaRefusal text)
+pub refused : {A : Type 0} (text : List ℕ) {l : List Tok} (r : Result A LatexError) → l ≡ token_list (slices_of false (chars text)) → IfRefused r (Refuses l) → IfRefused r (IsFormulaRefusal text)
 unfolding IsFormulaRefusal
-refused text l r e h = refused_so (Refuses l) (IsFormulaRefusal text) r (λ q d. (l, whole_list (chars text) l e, d)) h
-
--- and no formula is refused for its dollar signs
-pub refused_otherwise : {A : Type 0} (text : List ℕ) (r : Result A LatexError) → IfRefused r (IsFormulaRefusal text) → IfRefused r (λ refusal. refusal ≢ InvalidNumberOfDollarSigns)
-refused_otherwise text r h = refused_so (IsFormulaRefusal text) (λ q. q ≢ InvalidNumberOfDollarSigns) r (never_dollars text) h
+refused text {l} r e h = refused_so r h (λ q d. (l, whole_list (chars text) l e, d))
 
 -- each slice has a character
 slices_within_text : (takes : Bool) (text : List ℕ) (slices : List Slice) → HasSlices takes text slices → length slices ≤ length text
 slices_within_text takes text [] h = omega arith
 slices_within_text takes text (s ∷ ss) (rest, step, later) =
-    let less : length rest < length text = step_shortens takes text rest s step in
-    let more : length ss ≤ length rest = slices_within_text (takes_digit (Some s.token)) rest ss later in
-    omega arith
+    omega (arith, step_shortens takes text rest s step, slices_within_text (takes_digit (Some s.token)) rest ss later)
 
 -- so no more tokens are taken than the text has bytes
 pub tokens_within_text : (text : List ℕ) (done : Bool) (n : ℕ) → IsUtf8 text → IsTokenCount (chars text) done n → n ≤ length text
 tokens_within_text text done n utf8 (slices, cut, bound, all) =
-    let within : length slices ≤ length (chars text) = slices_within_text false (chars text) slices cut in
-    let characters : length (chars text) ≤ length (encodes (chars text)) = length-le-encodes (chars text) in
-    omega (arith, ap length (encodes-chars text utf8))
+    omega (arith, slices_within_text false (chars text) slices cut, length-le-encodes (chars text), ap length (encodes-chars text utf8))

@@ -1,19 +1,19 @@
--- Texts that hold no dollar sign, escaped and in numbers.
-use Rattle.std.proofs.Common.{◌≡◌, ℕ, zero, suc, ℤ, pos, negsuc, ◌+◌, ◌/◌, ◌%◌, ◌<◌, Bool, true, false, List, [], ◌∷◌, ⊎_elim, refl, arith, codes, cond, nat_eq}
+-- Texts that hold no dollar sign: escaped texts, numbers, and the prints of trees.
+use Rattle.std.proofs.Common.{arith, ◌≡◌, ℕ, zero, suc, ℤ, pos, negsuc, ◌+◌, ◌/◌, ◌%◌, ◌<◌, true, false, List, [], ◌∷◌, ◌++◌, Option, refl}
 use Rattle.std.specs.Char.{encode_utf8}
 use Rattle.std.specs.Fmt.{decimal, digits, digits_onto, digit_glyph}
-use Rattle.std.proofs.lemmas.Bool.Decides.{eqb_tells, nat_tests}
-use Rattle.latex2mathml_formulas.specs.Dollars.{is_other, IsDollarFree, free_both, free_first, free_more, free_one, free_rest, other}
+use Rattle.std.proofs.{lemmas.Bool.Decides.nat_tests, lemmas.List.Folds.list_all-append}
+use Rattle.latex2mathml_tokens.specs.Attributes.{accent_text, display_text, variant_text}
+use Rattle.latex2mathml_formulas.specs.Dollars.{is_other, IsDollarFree, free_both, free_first, free_more, free_rest}
 use Rattle.latex2mathml_tokens.specs.Escape.{content, content_byte, content_char, value, value_byte}
-use Rattle.latex2mathml_trees.specs.Width.{width_text, thousandths_text, thousandths, after_point, trimmed, keep, three_digits}
-
-pub free_if : (p : Bool) (a b : List ℕ) → IsDollarFree a → IsDollarFree b → IsDollarFree (cond p a b)
-free_if true a b x y = x
-free_if false a b x y = y
+use Rattle.latex2mathml_trees.specs.Print.{print, prints, members_print, letter_print, operator_print, slashed_print, member_print, style_open}
+use Rattle.latex2mathml_trees.specs.Tree.{Tree, Trees, no_trees, more_trees}
+use Rattle.latex2mathml_trees.specs.Width.{width_text, thousandths_text, thousandths, after_point, trimmed}
+use Rattle.latex2mathml_tokens.specs.{declared.DisplayStyle.DisplayStyle, declared.attribute.Accent.Accent, declared.attribute.Variant.Variant}
 
 -- Contents escape it.
 free_content_byte : (b : ℕ) → IsDollarFree (content_byte b)
-free_content_byte b = free_if (nat_eq b 38) (codes "&amp;") _ refl (free_if (nat_eq b 60) (codes "&lt;") _ refl (free_if (nat_eq b 62) (codes "&gt;") _ refl (⊎_elim (λ h. rw h.0 refl) (λ h. rw h.0 (free_one b (other b h.1))) (eqb_tells b 36))))
+free_content_byte b = grind arith
 
 pub free_content : (bs : List ℕ) → IsDollarFree (content bs)
 free_content [] = refl
@@ -24,8 +24,7 @@ free_content_char c = free_content (encode_utf8 c)
 
 -- Values keep it.
 free_value_byte : (b : ℕ) → is_other b ≡ true → IsDollarFree (value_byte b)
-free_value_byte b h =
-    free_if (nat_eq b 34) (codes "&quot;") _ refl (⊎_elim (λ k. absurd (cc (h, k.0))) (λ k. rw k.0 (rw k.0 at (free_content_byte b))) (eqb_tells b 36))
+free_value_byte b h = grind (arith, free_content_byte)
 
 pub free_value : (bs : List ℕ) → IsDollarFree bs → IsDollarFree (value bs)
 free_value [] h = refl
@@ -42,29 +41,57 @@ free_onto : (k n : ℕ) (acc : List ℕ) → IsDollarFree acc → IsDollarFree (
 free_onto zero n acc h = h
 free_onto (suc k) n acc h =
     let more : IsDollarFree (digit_glyph false (n % 10) ∷ acc) = free_more _ acc (other_glyph n) h in
-    free_if (nat_eq (n / 10) 0) (digit_glyph false (n % 10) ∷ acc) (digits_onto k 10 false (n / 10) (digit_glyph false (n % 10) ∷ acc)) more (free_onto k (n / 10) (digit_glyph false (n % 10) ∷ acc) more)
+    grind (arith, more, free_onto k (n / 10) (digit_glyph false (n % 10) ∷ acc) more)
 
 pub free_decimal : (n : ℕ) → IsDollarFree (decimal n)
 unfolding digits
 free_decimal n = free_onto 64 n [] refl
 
-free_keep : (x : ℕ) (xs : List ℕ) → is_other x ≡ true → IsDollarFree xs → IsDollarFree (keep x xs)
-free_keep x [] h i = free_if (nat_eq x 48) [] (x ∷ []) refl (free_one x h)
-free_keep x (y ∷ ys) h i = free_more x (y ∷ ys) h i
-
-free_point : (xs : List ℕ) → IsDollarFree xs → IsDollarFree (after_point xs)
-free_point [] h = refl
-free_point (x ∷ xs) h = h
-
-free_three : (n : ℕ) → IsDollarFree (trimmed (three_digits n))
-free_three n =
-    let c = 48 + n % 10 in
-    let b = 48 + n / 10 % 10 in
-    free_keep (48 + n / 100 % 10) (keep b (keep c [])) (other_digit (n / 100 % 10)) (free_keep b (keep c []) (other_digit (n / 10 % 10)) (free_keep c [] (other_digit (n % 10)) refl))
+free_point : (a b c : ℕ) → is_other a ≡ true → is_other b ≡ true → is_other c ≡ true → IsDollarFree (after_point (trimmed (a ∷ b ∷ c ∷ [])))
+free_point a b c h i j = grind arith
 
 free_thousandths : (t : ℕ) → IsDollarFree (thousandths_text t)
-free_thousandths t = free_both (decimal (t / 1000)) _ (free_decimal (t / 1000)) (free_point (trimmed (three_digits (t % 1000))) (free_three (t % 1000)))
+free_thousandths t = free_both (decimal (t / 1000)) _ (free_decimal (t / 1000)) (free_point _ _ _ (other_digit (t % 1000 / 100 % 10)) (other_digit (t % 1000 / 10 % 10)) (other_digit (t % 1000 % 10)))
 
 pub free_width : (n : ℤ) → IsDollarFree (width_text n)
 free_width (pos n) = free_thousandths (thousandths n)
 free_width (negsuc n) = free_thousandths (thousandths (suc n))
+
+-- Prints. A literal at the front of a text computes away, so what is proved names only what stands between literals.
+free_variant : (variant : Variant) → IsDollarFree (variant_text variant)
+free_variant variant = grind arith
+
+pub free_accent : (accent : Accent) → IsDollarFree (accent_text accent)
+free_accent accent = grind arith
+
+pub free_display : (display : DisplayStyle) → IsDollarFree (display_text display)
+free_display display = grind arith
+
+pub free_style_open : (display : Option DisplayStyle) → IsDollarFree (style_open display)
+free_style_open display = grind arith
+
+pub free_letter : (c : ℕ) (variant : Variant) → IsDollarFree (letter_print c variant)
+free_letter c variant = grind (arith, list_all-append, free_content_char)
+
+pub free_operator : (c : ℕ) → IsDollarFree (operator_print c)
+free_operator c = grind (arith, list_all-append, free_content_char)
+
+pub free_slashed : (x : Tree) (own : List ℕ) → IsDollarFree own → IsDollarFree (slashed_print x own)
+free_slashed x own h = grind (arith, list_all-append, free_content_char, free_variant)
+
+-- what stands between literals in the prints of most trees
+pub ruleset free_pieces = (free_both, free_content, free_content_char, free_width, free_accent, free_letter, free_operator, free_slashed)
+
+-- what stands beside another text
+pub free_parts : (a b : List ℕ) → IsDollarFree (a ++ b) → IsDollarFree a × IsDollarFree b
+free_parts a b h = grind (arith, list_all-append)
+
+free_member : (x : Tree) (own : List ℕ) → IsDollarFree own → IsDollarFree (member_print x own)
+free_member x own h = grind arith
+
+-- members of a matrix that stand side by side elsewhere
+pub free_members : (xs : Trees) → IsDollarFree (prints xs) → IsDollarFree (members_print xs)
+free_members no_trees h = refl
+free_members (more_trees x rest) h =
+    let each = free_parts (print x) (prints rest) h in
+    free_both (member_print x (print x)) _ (free_member x (print x) each.0) (free_members rest each.1)

@@ -5,7 +5,6 @@ pub mod Combining
 pub mod Counting
 pub mod DollarTexts
 pub mod DollarTokens
-pub mod DollarTrees
 pub mod FirstSlices
 pub mod Fronts
 pub mod Kept

@@ -1,40 +1,28 @@
 -- A rendering is one `math` element that obeys the child table.
-use Rattle.std.proofs.Common.{◌≡◌, ℕ, true, false, ◌&&◌, IsTrue, List, [], ◌∷◌, ◌++◌, refl, sym, ap, ◌∙◌, append_assoc, append-nil, codes, map, Result, Global, Ok, Err}
-use Rattle.std.specs.{Prelude.IfOk, Prelude.String, Prelude.string_bytes, List.flat_map, List.list_all, Str.chars}
+use Rattle.std.proofs.Common.{ℕ, false, List, [], ◌∷◌, ◌++◌, refl, sym, codes, map}
+use Rattle.std.specs.{Str.chars}
 use Rattle.latex2mathml_trees.specs.{Arguments.HaveNoArgument, MathSchema.child_table, MathSchema.IsMathElement, Print.prints}
-use Rattle.latex2mathml_tokens.specs.{Attributes.display_text, declared.DisplayStyle.DisplayStyle}
-use Rattle.latex2mathml_trees.specs.Markup.{plain, attribute, open_tag, lowest, at_start, IsElement, is_part, spell_part}
+use Rattle.latex2mathml_tokens.specs.declared.DisplayStyle.{DisplayStyle}
+use Rattle.latex2mathml_tokens.specs.declared.DisplayStyle.TheVariants.{Block, Inline}
+use Rattle.latex2mathml_trees.specs.Markup.{plain, attribute, open_tag, above, lowest, Runs, at_start, IsElement}
 use Rattle.latex2mathml_formulas.specs.Rendering.{IsRendering, math_print}
 use Rattle.latex2mathml_trees.specs.Tree.{Tree, trees_of}
-use Rattle.latex2mathml_tokens.specs.declared.DisplayStyle.TheVariants.{Block, Inline}
-use Rattle.latex2mathml_tokens.specs.declared.error.LatexError.{LatexError}
 use Rattle.latex2mathml_trees.proofs.Elements.{some_children}
-use Rattle.latex2mathml_trees.proofs.Runs.{closed, joined, plain-spells, single, spelled_as}
+use Rattle.latex2mathml_trees.proofs.Runs.{closed, joined, single, spelled_as}
 use Rattle.latex2mathml_formulas.proofs.Kept.{reading_is_kept}
-
-display-valid : (display : DisplayStyle) → IsTrue (list_all is_part (map plain (display_text display)))
-display-valid Block = refl
-display-valid Inline = refl
 
 math_element : (display : DisplayStyle) (xs : List Tree) → HaveNoArgument (trees_of xs) → IsElement child_table (codes "math") (math_print display xs)
 math_element display xs h =
-    let v = display_text display in
     let end = lowest (codes "math" ∷ []) false in
     let children = some_children (trees_of xs) h (codes "math") [] end in
-    let opens = single child_table (open_tag (codes "math") (attribute (codes "xmlns") (map plain (codes "http://www.w3.org/1998/Math/MathML")) ∷ attribute (codes "display") (map plain v) ∷ [])) at_start _ (ap (λ b. b && true) (display-valid display)) refl in
-    spelled_as (ap (λ l. codes "<math xmlns=\"http://www.w3.org/1998/Math/MathML\" display=\"" ++ l) (reach (flat_map spell_part (map plain v)) _ ∙ ap (λ l. l ++ (codes "\">" ++ (prints (trees_of xs) ++ codes "</math>"))) (plain-spells v)))
-    (joined opens (joined children.1 (closed child_table (codes "math") children.0 false end refl refl)))
+    whole display (joined children.1 (closed child_table (codes "math") children.0 false end refl refl))
   where
-    reach : (u rest : List ℕ) → (((u ++ codes "\"") ++ []) ++ codes ">") ++ rest ≡ u ++ (codes "\">" ++ rest)
-    reach u rest = simp (append_assoc, append-nil)
+    whole : (display : DisplayStyle) → Runs child_table (prints (trees_of xs) ++ codes "</math>") (above (codes "math") [] false (lowest (codes "math" ∷ []) false)) (lowest (codes "math" ∷ []) false) → IsElement child_table (codes "math") (math_print display xs)
+    whole Block rest = joined (single child_table (open_tag (codes "math") (attribute (codes "xmlns") (map plain (codes "http://www.w3.org/1998/Math/MathML")) ∷ attribute (codes "display") (map plain (codes "block")) ∷ [])) at_start _ refl refl) rest
+    whole Inline rest = joined (single child_table (open_tag (codes "math") (attribute (codes "xmlns") (map plain (codes "http://www.w3.org/1998/Math/MathML")) ∷ attribute (codes "display") (map plain (codes "inline")) ∷ [])) at_start _ refl refl) rest
 
 pub rendering_is_math : (text : List ℕ) (display : DisplayStyle) (markup : List ℕ) → IsRendering text display markup → IsMathElement markup
 unfolding IsRendering IsMathElement
 rendering_is_math text display markup r =
     let xs = r.2.0 in
     spelled_as (sym r.2.2) (math_element display xs (reading_is_kept (chars text) r.0 xs r.1 r.2.1).0)
-
--- so an answer that is a rendering is one
-pub answered_is_math : (text : List ℕ) (display : DisplayStyle) (r : Result (String Global) LatexError) → IfOk r (λ markup. IsRendering text display (string_bytes markup)) → IfOk r (λ markup. IsMathElement (string_bytes markup))
-answered_is_math text display (Ok markup) h = rendering_is_math text display (string_bytes markup) h
-answered_is_math text display (Err error) h = tt

@@ -1,5 +1,5 @@
 -- Each list of tokens has an outcome, and just one: so it has one reading or one refusal.
-use Rattle.std.proofs.Common.{ℕ, zero, suc, ◌-◌, ◌<◌, ◌≤◌, ◌≡◌, ◌≢◌, ◌⊎◌, inl, inr, List, [], ◌∷◌, length, Option, Some, None, refl, sym, ap, subst, arith}
+use Rattle.std.proofs.Common.{ℕ, zero, suc, ◌-◌, ◌<◌, ◌≤◌, ◌≡◌, ◌≢◌, inl, inr, List, [], ◌∷◌, length, Option, Some, None, refl, sym, ap, arith}
 use Rattle.latex2mathml_tokens.specs.{Discreteness.tok-discrete, Refusal.Refusal, Tok.Tok, Tok.EOF}
 use Rattle.latex2mathml_formulas.specs.Grammar.{Sort, core, single, node, Rule, gives, refuses, reads_part, reads_members, reads_sign, takes_token, sees_token, takes_letters, rule, Outcome, Read, Refused, first_or_end, letter_of, AreLetters, Reads, core_at_end, core_begun, single_read, node_read, ReadsRule, rule_gives, rule_refuses, part_read, part_refused, members_read, members_refused, sign_stands, sign_missing, token_taken, token_at_end, token_seen, letters_taken, ReadsAll, formula_ends, group_ends, never_closed, member_read, later_refused, member_refused, ReadsFormula, Refuses}
 use Rattle.latex2mathml_formulas.specs.Laws.{HasOneReading}
@@ -36,17 +36,17 @@ sign_total {t} (u ∷ l) follow other =
     ]
 
 -- the letters at the front of the tokens, and what stands after them
-data Run (l : List Tok) : Type 0 where
-  run : (cs : List ℕ) (m : List Tok) → length m ≤ length l → AreLetters cs l m → Run l
+abbrev Run : List Tok → Type 0
+Run l = (cs : List ℕ) × (m : List Tok) × (length m ≤ length l) × AreLetters cs l m
 
 -- one more token at the front: it is a letter or not
 longer_run : {t : Tok} {l : List Tok} (c : Option ℕ) → letter_of t ≡ c → Run l → Run (t ∷ l)
-longer_run {t} {l} (Some c) e (run cs m fits d) = run (c ∷ cs) m (omega arith) (t, (l, refl, e, d))
-longer_run {t} {l} None e r = run [] (t ∷ l) (omega arith) (refl, e)
+longer_run {t} {l} (Some c) e (cs, m, fits, d) = (c ∷ cs, m, omega arith, (t, (l, refl, e, d)))
+longer_run {t} {l} None e r = ([], t ∷ l, omega arith, (refl, e))
 
 -- each list of tokens has its run of letters
 run_of : (l : List Tok) → Run l
-run_of [] = run [] [] (omega arith) (refl, refl)
+run_of [] = ([], [], omega arith, (refl, refl))
 run_of (t ∷ l) = longer_run (letter_of t) refl (run_of l)
 
 -- there is an outcome for each list of fewer than k tokens
@@ -68,7 +68,7 @@ rule_total k has (takes_token then) [] h = with_outcome (rule_total k has (then 
 rule_total k has (takes_token then) (t ∷ l) h = with_outcome (rule_total k has (then t) l (omega arith)) (omega arith) (λ o. token_taken)
 rule_total k has (sees_token then) l h = with_outcome (rule_total k has (then (first_or_end l)) l h) (omega arith) (λ o. token_seen)
 rule_total k has (takes_letters then) l h =
-    elim (run_of l) [ run cs m fits d ↦ with_outcome (rule_total k has (then cs) m (omega arith)) fits (λ o. letters_taken cs d) ]
+    let (cs, m, fits, d) = run_of l in with_outcome (rule_total k has (then cs) m (omega arith)) fits (λ o. letters_taken cs d)
 
 -- with one token more, a core has an outcome
 core_total : (k : ℕ) → HasOutcomes k → (l : List Tok) → length l < suc k → Comes Tree (Reads core l) (length l - 1)
@@ -93,11 +93,11 @@ sort_total k has node l h =
 -- a member that has an outcome, and then the members after it
 member_total : {end : Option Tok} {t : Tok} {l : List Tok} {k : ℕ} → HasOutcomes k → length (t ∷ l) < suc k → end ≢ Some t → Comes Tree (Reads node (t ∷ l)) (length (t ∷ l) - 1) → Comes (List Tree) (ReadsAll end (t ∷ l)) (length (t ∷ l))
 member_total has h other (is_refused r d) = is_refused r (member_refused other d)
-member_total {end} {t} {l} has h other (comes_to x m fits d) = before (has.of_all end m (omega arith))
-  where
-    before : Comes (List Tree) (ReadsAll end m) (length m) → Comes (List Tree) (ReadsAll end (t ∷ l)) (length (t ∷ l))
-    before (comes_to xs f fewer ds) = comes_to (x ∷ xs) f (omega arith) (member_read other d ds)
-    before (is_refused r ds) = is_refused r (later_refused other d ds)
+member_total {end} has h other (comes_to x m fits d) =
+    elim (has.of_all end m (omega arith)) [
+      | comes_to xs f fewer ds ↦ comes_to (x ∷ xs) f (omega arith) (member_read other d ds)
+      | is_refused r ds ↦ is_refused r (later_refused other d ds)
+    ]
 
 -- so nodes side by side have an outcome
 all_total : (k : ℕ) → HasOutcomes k → (end : Option Tok) (l : List Tok) → length l < suc k → Comes (List Tree) (ReadsAll end l) (length l)
@@ -116,23 +116,21 @@ outcomes zero = record { of_sort = λ s l h. absurd (omega arith); of_all = λ e
 outcomes (suc k) = record { of_sort = sort_total k (outcomes k); of_all = all_total k (outcomes k) }
 
 -- a formula is read to its end
-nothing_left : {end : Option Tok} {l f : List Tok} {xs : List Tree} → end ≡ None → ReadsAll end l (Read xs f) → f ≡ []
-nothing_left e formula_ends = refl
-nothing_left e (group_ends p) = absurd cc
-nothing_left e (member_read h d ds) = nothing_left e ds
+nothing_left : {l f : List Tok} {xs : List Tree} → ReadsAll None l (Read xs f) → f ≡ []
+nothing_left formula_ends = refl
+nothing_left (member_read h d ds) = nothing_left ds
 
 pub has_one_reading : (l : List Tok) → HasOneReading l
 unfolding ReadsFormula Refuses
 has_one_reading l = record {
-  some = sided ((outcomes (suc (length l))).of_all None l (omega arith));
+  some = elim ((outcomes (suc (length l))).of_all None l (omega arith)) [
+    | comes_to xs m fits d ↦ inl (xs, rw (nothing_left d) at d)
+    | is_refused r d ↦ inr (r, d)
+  ];
   one_reading = λ xs ys d e. (let same = one_all d e in cc same);
   one_refusal = λ r q d e. (let same = one_all d e in cc same);
   never_both = λ xs r d e. (let same = one_all d e in cc same);
 }
-  where
-    sided : {k : ℕ} → Comes (List Tree) (ReadsAll None l) k → ((xs : List Tree) × ReadsAll None l (Read xs [])) ⊎ ((r : Refusal) × ReadsAll None l (Refused r))
-    sided (comes_to xs m fits d) = inl (xs, subst (λ k. ReadsAll None l (Read xs k)) (nothing_left refl d) d)
-    sided (is_refused r d) = inr (r, d)
 
 -- as there is one outcome, what is read leaves as many tokens as that
 one_rest : {s : Sort} {l f : List Tok} {x : Tree} {k : ℕ} → Comes Tree (Reads s l) k → Reads s l (Read x f) → length f ≤ k
@@ -142,6 +140,4 @@ one_rest {f = f} (comes_to y m fits e) d =
 one_rest (is_refused r e) d = absurd (cc (one e d))
 
 pub some_taken : (s : Sort) (t : Tok) (l f : List Tok) (x : Tree) → Reads s (t ∷ l) (Read x f) → length f ≤ length l
-some_taken s t l f x d =
-    let fewer : length f ≤ length (t ∷ l) - 1 = one_rest ((outcomes (suc (length (t ∷ l)))).of_sort s (t ∷ l) (omega arith)) d in
-    omega (arith, fewer)
+some_taken s t l f x d = omega (arith, one_rest ((outcomes (suc (length (t ∷ l)))).of_sort s (t ∷ l) (omega arith)) d)

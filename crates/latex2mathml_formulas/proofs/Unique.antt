@@ -1,21 +1,16 @@
 -- Two outcomes of one list of tokens are one.
-use Rattle.std.proofs.Common.{◌≡◌, ℕ, List, [], ◌∷◌, Option, refl, sym, ap, subst}
+use Rattle.std.proofs.Common.{arith, ◌≡◌, ℕ, List, [], ◌∷◌, Option, Some, refl, sym, ap, subst}
 use Rattle.latex2mathml_formulas.specs.Grammar.{Sort, Rule, Outcome, Read, first, first_letter, AreLetters, Reads, core_at_end, core_begun, single_read, node_read, ReadsRule, rule_gives, rule_refuses, part_read, part_refused, members_read, members_refused, sign_stands, sign_missing, token_taken, token_at_end, token_seen, letters_taken, ReadsAll, formula_ends, group_ends, never_closed, member_read, later_refused, member_refused}
 use Rattle.latex2mathml_tokens.specs.Tok.{Tok}
 use Rattle.latex2mathml_trees.specs.Tree.{Tree}
 
 -- what follows one outcome of a part also follows the other, which is the same
 moved_rule : {A : Type 0} (then : A → Rule) {x y : A} {m n : List Tok} {o : Outcome Tree} → Read x m ≡ Read y n → ReadsRule (then y) n o → ReadsRule (then x) m o
-moved_rule then {x} {y} {m} {n} {o} e d =
-    let p : y ≡ x = cc in
-    let q : n ≡ m = cc in
-    subst (λ k. ReadsRule (then x) k o) q (subst (λ z. ReadsRule (then z) n o) p d)
+moved_rule then {x} {y} {m} {n} e d = (let p : y ≡ x = cc in let q : n ≡ m = cc in rw q at (rw p at d))
 
 -- and so do the members after a member
 moved_all : {end : Option Tok} {x y : Tree} {m n : List Tok} {o : Outcome (List Tree)} → Read x m ≡ Read y n → ReadsAll end n o → ReadsAll end m o
-moved_all {end} {m = m} {n = n} {o = o} e d =
-    let q : n ≡ m = cc in
-    subst (λ k. ReadsAll end k o) q d
+moved_all {m = m} {n = n} e d = (let q : n ≡ m = cc in rw q at d)
 
 -- the longest run of letters is one
 one_run : (cs ds : List ℕ) (l m n : List Tok) → AreLetters cs l m → AreLetters ds l n → Read cs m ≡ Read ds n
@@ -26,6 +21,10 @@ one_run (c ∷ cs) (d ∷ ds) l m n p q =
     let same_rest : q.1.0 ≡ p.1.0 = cc (p.1.1, q.1.1) in
     let later = one_run cs ds p.1.0 m n p.1.3 (subst (λ k. AreLetters ds k n) same_rest q.1.3) in
     cc (p.1.1, q.1.1, p.1.2, q.1.2, later)
+
+-- a group ends where its end token stands
+at_end : {end : Tok} {l m : List Tok} {o : Outcome (List Tree)} → l ≡ end ∷ m → ReadsAll (Some end) l o → o ≡ Read [] m
+at_end p d = grind arith
 
 mutual
   -- a core, a single or a node comes to one outcome
@@ -47,9 +46,7 @@ mutual
   one_rule (members_read d ds) (members_refused e) = cc (one_all d e)
   one_rule (members_refused d) (members_read e es) = cc (one_all d e)
   one_rule (members_refused d) (members_refused e) = cc (one_all d e)
-  one_rule (sign_stands {t = t} {a = a} {m = m} p d) (sign_stands {m = n} q e) =
-      let same : Read t m ≡ Read t n = cc in
-      one_rule d (moved_rule (λ u. a) same e)
+  one_rule (sign_stands {m = m} p d) (sign_stands {m = n} q e) = (let same : n ≡ m = cc in one_rule d (rw same at e))
   one_rule (sign_stands p d) (sign_missing h e) = absurd (h (ap first p))
   one_rule (sign_missing h d) (sign_stands p e) = absurd (h (ap first p))
   one_rule (sign_missing h d) (sign_missing k e) = one_rule d e
@@ -62,21 +59,14 @@ mutual
   pub one_all : {end : Option Tok} {l : List Tok} {o p : Outcome (List Tree)} → ReadsAll end l o → ReadsAll end l p → o ≡ p
   one_all formula_ends formula_ends = refl
   one_all never_closed never_closed = refl
-  one_all never_closed (group_ends p) = cc
-  one_all (group_ends p) never_closed = cc
-  one_all (group_ends p) (group_ends q) = cc
-  one_all (group_ends p) (member_read h e es) = absurd (h (sym (ap first p)))
-  one_all (group_ends p) (later_refused h e es) = absurd (h (sym (ap first p)))
-  one_all (group_ends p) (member_refused h e) = absurd (h (sym (ap first p)))
-  one_all (member_read h d ds) (group_ends p) = absurd (h (sym (ap first p)))
+  one_all (group_ends p) e = sym (at_end p e)
+  one_all d (group_ends p) = at_end p d
   one_all (member_read h d ds) (member_read k e es) = cc (one d e, one_all ds (moved_all (one d e) es))
   one_all (member_read h d ds) (later_refused k e es) = cc (one_all ds (moved_all (one d e) es))
   one_all (member_read h d ds) (member_refused k e) = cc (one d e)
-  one_all (later_refused h d ds) (group_ends p) = absurd (h (sym (ap first p)))
   one_all (later_refused h d ds) (member_read k e es) = cc (one_all ds (moved_all (one d e) es))
   one_all (later_refused h d ds) (later_refused k e es) = one_all ds (moved_all (one d e) es)
   one_all (later_refused h d ds) (member_refused k e) = cc (one d e)
-  one_all (member_refused h d) (group_ends p) = absurd (h (sym (ap first p)))
   one_all (member_refused h d) (member_read k e es) = cc (one d e)
   one_all (member_refused h d) (later_refused k e es) = cc (one d e)
   one_all (member_refused h d) (member_refused k e) = cc (one d e)

@@ -1,8 +1,10 @@
-use Rattle.latex2mathml_formulas.proofs.Accounts.{appended, refused}
+use Rattle.std.proofs.Common.{refl}
+use Rattle.std.proofs.lemmas.Result.{IfOk-weaker}
+use Rattle.latex2mathml_formulas.proofs.Accounts.{refused, rendering}
 use Rattle.latex2mathml_formulas.proofs.formula.Converter.append.Goals as goal
 
-pub returns-clause-rendering : goal.returns-clause-rendering
-returns-clause-rendering c = appended _ _ _ _ _ c.append_math.result c.restart.ensures.list c.append_math.ensures.rendering
-
-pub returns-clause-refusal : goal.returns-clause-refusal
-returns-clause-refusal c = refused _ _ c.append_math.result c.restart.ensures.list c.append_math.ensures.refused
+pub returns : goal.returns
+returns c = record {
+  rendering = IfOk-weaker c.append_math.result _ _ (λ done d. (_, rendering _ _ c.restart.ensures.list (d.0, d.1, refl), d.2)) c.append_math.ensures.rendering;
+  refusal = refused _ c.append_math.result c.restart.ensures.list c.append_math.ensures.refused;
+}
