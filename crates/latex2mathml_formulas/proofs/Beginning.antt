@@ -35,4 +35,4 @@ seen_begun l (u ∷ us) to t may e same k = rw (e, same) (begun l (u ∷ us) us 
 pub stretch_begun : (input : List Tok) (fs gs : List Frame) (ts : List Tree) (got : Lexeme) (place to : List Tok) → gs ≡ fs ++ frame.Stretch got ∷ [] → lexeme_tok got ≡ first_or_end place → to ≡ rest_of place → RuleLeads (rule Middle) (Made core (inside input fs ts)) place → RuleLeads (rule (lexeme_tok got)) (Made core (inside input gs ts)) to
 stretch_begun input fs gs ts got place to on e same k =
     seen_begun (inside input gs ts) place to (lexeme_tok got) (λ any. rw (due_of_inside input gs ts ∙ ap innermost on ∙ innermost_push fs (frame.Stretch got)) tt) e same
-    (put_on input fs gs (frame.Stretch got) ts place on (rw e (λ o d. k o (token_seen d))))
+    (put_on input fs gs (frame.Stretch got) ts place on (rw e (record { to = λ o d. k.to o (token_seen d) })))

@@ -14,13 +14,17 @@ use Rattle.latex2mathml_formulas.specs.declared.reader.mark.Sign.TheVariants.{Su
 
 -- .. and begins with a part: the part leads on
 part_leads : {s : Sort} {then : Tree → Rule} {K : Outcome Tree → Type 0} {place : List Tok} → RuleLeads (reads_part s then) K place → (o : Outcome Tree) → Reads s place o → Then then K o
-part_leads k (Read x to) d = λ o ds. k o (part_read d ds)
-part_leads k (Refused r) d = k _ (part_refused d)
+part_leads k (Read x to) d = record { to = λ o ds. k.to o (part_read d ds) }
+part_leads k (Refused r) d = k.to _ (part_refused d)
 
 -- .. and begins with members
 members_lead : {end : Tok} {then : List Tree → Rule} {K : Outcome Tree → Type 0} {place : List Tok} → RuleLeads (reads_members end then) K place → (o : Outcome (List Tree)) → ReadsAll (Some end) place o → Then then K o
-members_lead k (Read xs to) d = λ o ds. k o (members_read d ds)
-members_lead k (Refused r) d = k _ (members_refused d)
+members_lead k (Read xs to) d = record { to = λ o ds. k.to o (members_read d ds) }
+members_lead k (Refused r) d = k.to _ (members_refused d)
+
+-- .. and gives a tree
+pub given : {x : Tree} {K : Outcome Tree → Type 0} {place : List Tok} → RuleLeads (gives x) K place → K (Read x place)
+given k = k.to _ rule_gives
 
 -- .. and is the rest of one that was begun
 pub entered : (f : Standing) (s : Sort) (l : Level) (place : List Tok) → RuleLeads (remaining f) (Made s l) place → Leads (level_of_rule f s l) place
@@ -29,22 +33,22 @@ entered (awaits_members end then) s l place k = members_lead k
 
 -- .. and begins with a sign, which is taken
 pub signed : {t : Tok} {a b : Rule} {K : Outcome Tree → Type 0} {place to : List Tok} → place ≡ t ∷ to → RuleLeads (reads_sign t a b) K place → RuleLeads a K to
-signed same k = λ o d. k o (sign_stands same d)
+signed same k = record { to = λ o d. k.to o (sign_stands same d) }
 
 -- .. or which does not stand
 pub unsigned : {t : Tok} {a b : Rule} {K : Outcome Tree → Type 0} {place to : List Tok} → (first place ≢ Some t) × (to ≡ place) → RuleLeads (reads_sign t a b) K place → RuleLeads b K to
-unsigned h k = rw h.1 (λ o d. k o (sign_missing h.0 d))
+unsigned h k = rw h.1 (record { to = λ o d. k.to o (sign_missing h.0 d) })
 
 -- .. and takes a token
 pub taken : {t : Tok} {then : Tok → Rule} {K : Outcome Tree → Type 0} {place to : List Tok} → t ≡ first_or_end place → to ≡ rest_of place → RuleLeads (takes_token then) K place → RuleLeads (then t) K to
-taken {place = []} e same k = rw (e, same) (λ o d. k o (token_at_end d))
-taken {place = t ∷ ts} e same k = rw (e, same) (λ o d. k o (token_taken d))
+taken {place = []} e same k = rw (e, same) (record { to = λ o d. k.to o (token_at_end d) })
+taken {place = t ∷ ts} e same k = rw (e, same) (record { to = λ o d. k.to o (token_taken d) })
 
 -- .. and takes a name
 pub named : (then : List ℕ → Rule) {K : Outcome Tree → Type 0} {bytes : List ℕ} {place to : List Tok} → NameStands bytes place to → RuleLeads (a_name then) K place → RuleLeads (then bytes) K to
 named then h k =
     let letters = h.1 in
-    rw letters.2 (taken refl h.2 (λ o d. taken refl refl k o (letters_taken letters.0 letters.1 d)))
+    rw letters.2 (taken refl h.2 (record { to = λ o d. (taken refl refl k).to o (letters_taken letters.0 letters.1 d) }))
 
 -- .. and takes a name, whatever it is
 pub after_name : {then : Rule} {K : Outcome Tree → Type 0} {place to : List Tok} → (bytes : List ℕ) × NameStands bytes place to → RuleLeads (a_name (λ name. then)) K place → RuleLeads then K to
@@ -68,35 +72,40 @@ part_at (members end K) (t ∷ rest) may k (Refused r) d = k _ (member_refused (
 
 core_at : (s : Sort) (K : Outcome Tree → Type 0) (place : List Tok) → ((o : Outcome Tree) → Reads s place o → K o) → (o : Outcome Tree) → Reads core place o → As core s K o
 core_at core K place k = k
-core_at single K place k = part_leads {s = core} {then = rule_after_core} {K = K} (λ o d. k o (single_read d))
-core_at node K place k = part_leads {s = core} {then = rule_after_core} {K = Then rule_after_single K} (λ o d. part_leads {s = single} {then = rule_after_single} {K = K} (λ p e. k p (node_read e)) o (single_read d))
+core_at single K place k = part_leads {s = core} {then = rule_after_core} {K = K} (record { to = λ o d. k o (single_read d) })
+core_at node K place k = part_leads {s = core} {then = rule_after_core} {K = Then rule_after_single K} (record { to = λ o d. part_leads {s = single} {then = rule_after_single} {K = K} (record { to = λ p e. k p (node_read e) }) o (single_read d) })
 
 -- a token is taken: its rule leads on
 pub begun : (l : Level) (place to : List Tok) (t : Tok) → MayBegin (due_of l) place → place ≡ t ∷ to → Leads l place → RuleLeads (rule t) (Made core l) to
-begun l place to t may same k = λ o d. core_at (sort_of l) (Accepts l) place (part_at l place may k) o (rw same (core_begun d))
+begun l place to t may same k = record { to = λ o d. core_at (sort_of l) (Accepts l) place (part_at l place may k) o (rw same (core_begun d)) }
 
 -- no token is left
 pub begun_at_end : (l : Level) → MayBegin (due_of l) [] → Leads l [] → RuleLeads (rule EOF) (Made core l) []
-begun_at_end l may k o rule_gives = core_at (sort_of l) (Accepts l) [] (part_at l [] may k) _ core_at_end
+begun_at_end l may k = record { to = at_end }
+  where
+    at_end : (o : Outcome Tree) → ReadsRule (rule EOF) [] o → Made core l o
+    at_end o rule_gives = core_at (sort_of l) (Accepts l) [] (part_at l [] may k) _ core_at_end
 
 -- one more member is read
 pub group_grown : {end : Tok} {then more : List Tree → Rule} {K : Outcome Tree → Type 0} {x : Tree} {place : List Tok} → ((xs : List Tree) → then (x ∷ xs) ≡ more xs) → ((o : Outcome (List Tree)) → ReadsAll (Some end) place o → Then then K (behind x o)) → RuleLeads (reads_members end more) K place
-group_grown same k o (members_read {m = m} {xs = xs} d ds) = k (Read xs m) d o (rw (same xs) ds)
-group_grown same k o (members_refused d) = k _ d
+group_grown {end} {then} {more} {K} {x} {place} same k = record { to = grown }
+  where
+    grown : (o : Outcome Tree) → ReadsRule (reads_members end more) place o → K o
+    grown o (members_read {m = m} {xs = xs} d ds) = (k (Read xs m) d).to o (rw (same xs) ds)
+    grown o (members_refused d) = k _ d
 
 -- What follows a core and a single.
 
 -- no prime follows a core
-pub unprimed : (l : Level) (x : Tree) (place : List Tok) → first place ≢ Some prime → Made core l (Read x place) → Made single l (Read x place)
-unprimed (part core K) x place h k = k
-unprimed l x place h k = k _ (sign_missing h rule_gives)
+pub unprimed : (l : Level) (x : Tree) (place : List Tok) → first place ≢ Some prime → RuleLeads (gives x) (Made core l) place → Made single l (Read x place)
+unprimed (part core K) x place h k = given k
+unprimed l x place h k = (given k).to _ (sign_missing h rule_gives)
 
 -- no sign follows a single
 pub unscripted : (l : Level) (x : Tree) (place : List Tok) → first place ≢ Some Underscore → first place ≢ Some Circumflex → Made single l (Read x place) → Accepts l (Read x place)
 unscripted (part core K) x place h i k = k
 unscripted (part single K) x place h i k = k
-unscripted (part node K) x place h i k = k _ (sign_missing h (sign_missing i rule_gives))
-unscripted (members end K) x place h i k = k _ (sign_missing h (sign_missing i rule_gives))
+unscripted l x place h i k = k.to _ (sign_missing h (sign_missing i rule_gives))
 
 -- a node is a node wherever it is due
 pub node_due : (l : Level) (o : Outcome Tree) → Made node l o → Accepts l o
@@ -105,16 +114,16 @@ node_due (part single K) o k = k
 node_due l o k = k
 
 -- a prime is taken, where more than a core is due
-pub prime_taken : (l : Level) (x : Tree) (place to : List Tok) → due_of l ≢ due.Core → place ≡ prime ∷ to → Made core l (Read x place) → Made single l (Read (superscript x prime_mark) to)
+pub prime_taken : (l : Level) (x : Tree) (place to : List Tok) → due_of l ≢ due.Core → place ≡ prime ∷ to → RuleLeads (gives x) (Made core l) place → Made single l (Read (superscript x prime_mark) to)
 prime_taken (part core K) x place to h same k = absurd (h refl)
-prime_taken l x place to h same k = k _ (sign_stands same rule_gives)
+prime_taken l x place to h same k = (given k).to _ (sign_stands same rule_gives)
 
 -- a sign is taken, where a script may follow: a node is due
 pub sign_taken : (l : Level) (sign : Sign) (x : Tree) (place to : List Tok) → takes_script (due_of l) ≡ true → place ≡ sign_token sign ∷ to → Made single l (Read x place) → RuleLeads (reads_part node (λ y. gives (script sign x y))) (Made node l) to
 sign_taken (part core K) sign x place to h same k = absurd cc
 sign_taken (part single K) sign x place to h same k = absurd cc
-sign_taken l Sub x place to h same k = λ o d. k o (sign_stands same d)
-sign_taken l Sup x place to h same k = λ o d. k o (sign_missing (λ e. cc) (sign_stands same d))
+sign_taken l Sub x place to h same k = record { to = λ o d. k.to o (sign_stands same d) }
+sign_taken l Sup x place to h same k = record { to = λ o d. k.to o (sign_missing (λ e. cc) (sign_stands same d)) }
 
 -- the token that stands next is passed over
 pub passed : (place to : List Tok) (t : Tok) → first place ≡ Some t → to ≡ rest_of place → place ≡ t ∷ to

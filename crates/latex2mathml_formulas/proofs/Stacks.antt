@@ -65,7 +65,7 @@ inside_refused input (f ∷ fs) ts r k = inside_refused input fs _ r (entered_re
 
 -- a core that refuses refuses the node of the formula
 pub core_refused : (input : List Tok) (fs : List Frame) (ts : List Tree) {r : Refusal} {place : List Tok} → RuleLeads (refuses r) (Made core (inside input fs ts)) place → Reads node input (Refused r)
-core_refused input fs ts {r} k = inside_refused input (reverse fs) ts r (made_refused core (inside input fs ts) r (k _ rule_refuses))
+core_refused input fs ts {r} k = inside_refused input (reverse fs) ts r (made_refused core (inside input fs ts) r (k.to _ rule_refuses))
 
 -- a group that is open at the end refuses it
 pub group_open : (input : List Tok) (fs : List Frame) (ts : List Tree) (end : GroupEnd) → innermost fs ≡ due.Member end → Leads (inside input fs ts) [] → Reads node input (Refused (UnexpectedToken (end_token end) EOF))

@@ -42,8 +42,8 @@ MayBegin (due.Member end) place = IsMember end place
 MayBegin d place = Unit {0}
 
 -- whatever the rule comes to from here, it leads to K
-abbrev pub RuleLeads : Rule → (Outcome Tree → Type 0) → List Tok → Type 0
-RuleLeads r K place = (o : Outcome Tree) → ReadsRule r place o → K o
+pub record RuleLeads (r : Rule) (K : Outcome Tree → Type 0) (place : List Tok) : Type 0 where
+  pub to : (o : Outcome Tree) → ReadsRule r place o → K o
 
 -- where the outcome of a part leads, if the rule goes on like this
 abbrev pub Then : {A : Type 0} → (A → Rule) → (Outcome Tree → Type 0) → Outcome A → Type 0

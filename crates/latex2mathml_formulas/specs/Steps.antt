@@ -2,7 +2,7 @@
 use Rattle.std.specs.Prelude.{◌≡◌, Bool, true, false, ℕ, ◌+◌, ◌*◌, ◌<◌, ◌≤◌, List, [], ◌++◌, drop, length, sum_by, IfOk, IfSome, Result}
 use Rattle.std.specs.declared.alloc.AllocError.{AllocError}
 use Rattle.latex2mathml_formulas.specs.Frames.{tree_count, innermost, inside, sort_made, standing_of}
-use Rattle.latex2mathml_formulas.specs.Grammar.{core, node, Outcome, Read, Reads, Refused, Rule}
+use Rattle.latex2mathml_formulas.specs.Grammar.{core, gives, node, Outcome, Read, Reads, Refused, Rule}
 use Rattle.latex2mathml_formulas.specs.Levels.{Leads, Level, Made, RuleLeads, Accepts, remaining}
 use Rattle.latex2mathml_formulas.specs.{Openers.opens, Unread.GoesOn, Unread.OpensFor, declared.parse.Parser.Parser}
 use Rattle.latex2mathml_trees.specs.{Print.print, Tree.Tree}
@@ -37,7 +37,7 @@ Ends input p = (p.frames.stack.items ≡ []) × Reads node input (last_tree_read
 -- what holds between two steps, where these tokens were left before the node of the formula
 abbrev pub Holds : List Tok → Parser → State → Type 0
 Holds input p state.Next = Leads (level 0 input p) p.reader.list
-Holds input p state.Core = Made core (level 1 input p) (last_tree_read p)
+Holds input p state.Core = GoesOnBy (gives (top (trees_in p.parts))) 1 input p
 Holds input p state.Part = Accepts (level 1 input p) (last_tree_read p)
 Holds input p state.End = Ends input p
 Holds input p state.Refused = IfSome (refusal_of p.refusal) (λ r. Reads node input (Refused r))

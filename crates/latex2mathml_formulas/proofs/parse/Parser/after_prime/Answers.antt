@@ -1,8 +1,11 @@
-use Rattle.std.proofs.Common.{drop, sym, ◌∙◌}
+use Rattle.std.proofs.Common.{arith, drop, sym, ◌∙◌}
 use Rattle.latex2mathml_formulas.specs.Steps.{level}
 use Rattle.latex2mathml_parts.specs.Forests.{trees_in}
-use Rattle.latex2mathml_formulas.proofs.{Levels.passed, Levels.prime_taken, Stacks.due_of_inside}
+use Rattle.latex2mathml_formulas.proofs.{Levels.given, Levels.passed, Levels.prime_taken, Stacks.due_of_inside}
 use Rattle.latex2mathml_formulas.proofs.parse.Parser.after_prime.Goals as goal
+
+pub returns-in-Core-clause-holds : goal.returns-in-Core-clause-holds
+returns-in-Core-clause-holds c = λ input k. grind (arith, given k)
 
 pub returns-clause-holds : goal.returns-clause-holds
 returns-clause-holds c = λ input k.

@@ -2,11 +2,6 @@ use Rattle.std.proofs.Common.{arith}
 use Rattle.latex2mathml_formulas.proofs.{Progress.GoesOn-trans, Stepping.follows_within}
 use Rattle.latex2mathml_formulas.proofs.parse.Parser.begin.Goals as goal
 
-pub returns-in-EOF-clause-holds : goal.returns-in-EOF-clause-holds
-returns-in-EOF-clause-holds c = λ input k.
-    let begun = rw c.in-Middle.is at (c.middles.invariant.holds input k) in
-    c.error.ensures.holds input (rw c.in-EOF.is (rw c.in-EOF.is at (c.in_ok-begun.ensures.holds input begun)))
-
 pub returns : goal.returns
 returns c =
     let i = c.middles.invariant in

@@ -1,8 +1,3 @@
-use Rattle.std.proofs.Common.{◌≡◌, arith, rules, w32}
-use Rattle.std.proofs.lemmas.Int.{to_z-of_z}
-use mir.Val.{of_z, to_z}
-use Rattle.latex2mathml_formulas.specs.Grammar.{error_rule, rule}
-use Rattle.latex2mathml_tokens.specs.Lexemes.{lexeme_tok}
 use Rattle.latex2mathml_formulas.proofs.parse.Parser.begin_rule.Goals as goal
 
 pub returns-in-LBrace-clause-holds : goal.returns-in-LBrace-clause-holds
@@ -13,9 +8,6 @@ returns-in-Over-clause-holds c = λ input k. c.open-in-Over.ensures.holds input 
 
 pub returns-in-Under-clause-holds : goal.returns-in-Under-clause-holds
 returns-in-Under-clause-holds c = λ input k. c.open-in-Under.ensures.holds input (rw c.in-Under.is at k)
-
-pub returns-in-Style-clause-holds : goal.returns-in-Style-clause-holds
-returns-in-Style-clause-holds c = λ input k. c.open-in-Style.ensures.holds input (rw c.in-Style.is at k)
 
 pub returns-in-Frac-clause-holds : goal.returns-in-Frac-clause-holds
 returns-in-Frac-clause-holds c = λ input k. c.open-in-Frac.ensures.holds input (rw c.in-Frac.is at k)
@@ -35,64 +27,11 @@ returns-in-Overbrace-clause-holds c = λ input k. c.open-in-Overbrace.ensures.ho
 pub returns-in-Underbrace-clause-holds : goal.returns-in-Underbrace-clause-holds
 returns-in-Underbrace-clause-holds c = λ input k. c.open-in-Underbrace.ensures.holds input (rw c.in-Underbrace.is at k)
 
-pub returns-in-Sqrt-clause-holds : goal.returns-in-Sqrt-clause-holds
-returns-in-Sqrt-clause-holds c = λ input k. c.root.ensures.holds input (rw c.in-Sqrt.is at k)
-
 pub returns-in-BigOp-clause-holds : goal.returns-in-BigOp-clause-holds
 returns-in-BigOp-clause-holds c = λ input k. c.limits.ensures.holds input (rw c.in-BigOp.is at k)
 
 pub returns-in-Integral-clause-holds : goal.returns-in-Integral-clause-holds
 returns-in-Integral-clause-holds c = λ input k. c.limits-in-Integral.ensures.holds input (rw c.in-Integral.is at k)
 
-pub returns-in-Lim-clause-holds : goal.returns-in-Lim-clause-holds
-returns-in-Lim-clause-holds c = λ input k. c.limit.ensures.holds input (rw c.in-Lim.is at k)
-
-pub returns-in-Big-clause-holds : goal.returns-in-Big-clause-holds
-returns-in-Big-clause-holds c = λ input k. c.size_paren.ensures.holds input (rw c.in-Big.is at k)
-
-pub returns-in-Text-clause-holds : goal.returns-in-Text-clause-holds
-returns-in-Text-clause-holds c = λ input k. c.words.ensures.holds input (rw c.in-Text.is at k)
-
-pub returns-in-OperatorName-clause-holds : goal.returns-in-OperatorName-clause-holds
-returns-in-OperatorName-clause-holds c = λ input k. c.function.ensures.holds input (rw c.in-OperatorName.is at k)
-
-pub returns-in-Slashed-clause-holds : goal.returns-in-Slashed-clause-holds
-returns-in-Slashed-clause-holds c = λ input k. c.slash.ensures.holds input (rw c.in-Slashed.is at k)
-
-pub returns-in-Left-clause-holds : goal.returns-in-Left-clause-holds
-returns-in-Left-clause-holds c = λ input k. c.open_fence.ensures.holds input (rw c.in-Left.is at k)
-
-pub returns-in-Begin-clause-holds : goal.returns-in-Begin-clause-holds
-returns-in-Begin-clause-holds c = λ input k. c.begin_environment.ensures.holds input (rw c.in-Begin.is at k)
-
-pub returns-in-Number-clause-holds : goal.returns-in-Number-clause-holds
-returns-in-Number-clause-holds c = λ input k. c.put.ensures.holds input (rw c.in-Number.is at k)
-
-pub returns-in-Letter-clause-holds : goal.returns-in-Letter-clause-holds
-returns-in-Letter-clause-holds c = λ input k. c.put-in-Letter.ensures.holds input (rw c.in-Letter.is at k)
-
-pub returns-in-Operator-clause-holds : goal.returns-in-Operator-clause-holds
-returns-in-Operator-clause-holds c = λ input k. c.put-in-Operator.ensures.holds input (rw c.in-Operator.is at k)
-
-pub returns-in-Paren-clause-holds : goal.returns-in-Paren-clause-holds
-returns-in-Paren-clause-holds c = λ input k. c.put-in-Paren.ensures.holds input (rw c.in-Paren.is at k)
-
-pub returns-in-Ampersand-clause-holds : goal.returns-in-Ampersand-clause-holds
-returns-in-Ampersand-clause-holds c = λ input k. c.put-in-Ampersand.ensures.holds input (rw c.in-Ampersand.is at k)
-
-pub returns-in-Function-clause-holds : goal.returns-in-Function-clause-holds
-returns-in-Function-clause-holds c = λ input k. c.put-in-Function.ensures.holds input (rw c.in-Function.is at k)
-
-pub returns-in-NewLine-clause-holds : goal.returns-in-NewLine-clause-holds
-returns-in-NewLine-clause-holds c = λ input k. c.put-in-NewLine.ensures.holds input (rw c.in-NewLine.is at k)
-
-pub returns-in-Space-clause-holds : goal.returns-in-Space-clause-holds
-returns-in-Space-clause-holds c = λ input k.
-    let same : to_z w32 (of_z w32 c.in-Space.width) ≡ c.in-Space.width = search (rules, to_z-of_z) in
-    c.put-in-Space.ensures.holds input (rw same (rw c.in-Space.is at k))
-
-pub returns-in-Illegal-clause-holds : goal.returns-in-Illegal-clause-holds
-returns-in-Illegal-clause-holds c = λ input k.
-    let t = c.args.lexeme in
-    let bare : rule (lexeme_tok t) ≡ error_rule (lexeme_tok t) = grind (arith, c.in-Illegal.is) in
-    c.error.ensures.holds input (rw bare at k)
+pub returns-in-Style-clause-holds : goal.returns-in-Style-clause-holds
+returns-in-Style-clause-holds c = λ input k. c.open-in-Style.ensures.holds input (rw c.in-Style.is at k)

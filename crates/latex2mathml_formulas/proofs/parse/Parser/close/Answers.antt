@@ -1,12 +1,11 @@
-use Rattle.latex2mathml_formulas.specs.Grammar.{rule_gives}
 use Rattle.latex2mathml_parts.specs.Forests.{trees_in}
-use Rattle.latex2mathml_formulas.proofs.Combining.{group_closed}
+use Rattle.latex2mathml_formulas.proofs.{Combining.group_closed}
 use Rattle.latex2mathml_formulas.proofs.parse.Parser.close.Goals as goal
 
 pub returns-in_ok-group-in-Brace-clause-holds : goal.returns-in_ok-group-in-Brace-clause-holds
 returns-in_ok-group-in-Brace-clause-holds c = λ input end d k.
     let on = rw (c.in-Some-Members.field-0-is, c.in-Brace.is) at c.in-Some-Members.ensures.stack in
-    rw c.in_ok-group-in-Brace.ensures (group_closed input _ _ _ _ end (trees_in c.args.self.now.parts) _ on d k _ rule_gives)
+    rw c.in_ok-group-in-Brace.ensures (group_closed input _ _ _ _ end (trees_in c.args.self.now.parts) _ on d k)
 
 pub returns-in_ok-group-in-Degree-clause-holds : goal.returns-in_ok-group-in-Degree-clause-holds
 returns-in_ok-group-in-Degree-clause-holds c = λ input end d k.

@@ -1,8 +1,8 @@
 use Rattle.std.proofs.Common.{arith, drop, ◌∙◌}
-use Rattle.latex2mathml_formulas.specs.{Frames.inside, Frames.script, Grammar.Read, Grammar.rule_gives}
+use Rattle.latex2mathml_formulas.specs.{Frames.inside, Frames.script, Grammar.Read}
 use Rattle.latex2mathml_parts.specs.{Forests.trees_in, Parts.top}
 use Rattle.latex2mathml_formulas.proofs.Combining.{drop_from_one, first_read, last_read, member_read}
-use Rattle.latex2mathml_formulas.proofs.Levels.{node_due}
+use Rattle.latex2mathml_formulas.proofs.Levels.{given, node_due}
 use Rattle.latex2mathml_formulas.proofs.parse.Parser.deliver.Goals as goal
 
 pub returns-in-Members-clause-holds : goal.returns-in-Members-clause-holds
@@ -23,22 +23,10 @@ pub returns-in-First-clause-holds : goal.returns-in-First-clause-holds
 returns-in-First-clause-holds c = λ input k.
     c.put_back-in-First.ensures.holds input (first_read input c.args.self.now _ (rw c.in-First.is at c.requires.fit) (rw c.in-First.is at k))
 
-pub returns-in-Style-clause-holds : goal.returns-in-Style-clause-holds
-returns-in-Style-clause-holds c = λ input k. rw c.give_style.ensures ((rw c.in-Style.is at k) _ rule_gives)
-
-pub returns-in-Single-clause-holds : goal.returns-in-Single-clause-holds
-returns-in-Single-clause-holds c = λ input k. c.after_first.ensures.holds input (rw c.in-Single.is at k)
-
-pub returns-in-Slashed-clause-holds : goal.returns-in-Slashed-clause-holds
-returns-in-Slashed-clause-holds c = λ input k. c.end_slash.ensures.holds input (rw c.in-Slashed.is at k)
-
-pub returns-in-Stretch-clause-holds : goal.returns-in-Stretch-clause-holds
-returns-in-Stretch-clause-holds c = λ input k. c.end_stretch.ensures.holds input (rw c.in-Stretch.is at k)
-
 pub returns-in_ok-put-in-Script-clause-holds : goal.returns-in_ok-put-in-Script-clause-holds
 returns-in_ok-put-in-Script-clause-holds c = λ input k.
     let p = c.args.self.now in
     let ts = trees_in p.parts in
     let x = script c.in-Script.sign (top (drop 1 ts)) (top ts) in
     rw (c.in_ok-put-in-Script.ensures ∙ c.script.ensures.trees ts, drop_from_one 2 ts (omega arith))
-    (node_due (inside input p.frames.stack.items (drop 1 (drop 1 ts))) (Read x p.reader.list) ((rw c.in-Script.is at k) _ rule_gives))
+    (node_due (inside input p.frames.stack.items (drop 1 (drop 1 ts))) (Read x p.reader.list) (given (rw c.in-Script.is at k)))

@@ -1,5 +1,4 @@
 use Rattle.std.proofs.Common.{◌+◌, add-one, drop}
-use Rattle.latex2mathml_formulas.specs.Grammar.{rule_gives}
 use Rattle.latex2mathml_parts.specs.Forests.{trees_in}
 use Rattle.latex2mathml_formulas.proofs.{Levels.after_name, Stacks.core_refused}
 use Rattle.latex2mathml_formulas.proofs.parse.Parser.end_environment.Goals as goal
@@ -7,7 +6,7 @@ use Rattle.latex2mathml_formulas.proofs.parse.Parser.end_environment.Goals as go
 pub returns-then-branch-clause-holds : goal.returns-then-branch-clause-holds
 returns-then-branch-clause-holds c = λ input k.
     let made = rw c.if-branch.true at c.in_ok-environment.ensures in
-    rw made.2 ((rw made.1 at (after_name c.skip_name.ensures.name (rw (add-one c.args.count) at k))) _ rule_gives)
+    rw made.2 (rw made.1 at (after_name c.skip_name.ensures.name (rw (add-one c.args.count) at k)))
 
 pub returns-clause-holds : goal.returns-clause-holds
 returns-clause-holds c = λ input k.

@@ -1,13 +1,7 @@
 use Rattle.std.proofs.Common.{drop}
-use Rattle.latex2mathml_formulas.specs.Grammar.{rule_gives}
 use Rattle.latex2mathml_parts.specs.Forests.{trees_in}
-use Rattle.latex2mathml_formulas.proofs.Stacks.{core_refused}
+use Rattle.latex2mathml_formulas.proofs.{Stacks.core_refused}
 use Rattle.latex2mathml_formulas.proofs.parse.Parser.end_stretch.Goals as goal
-
-pub returns-then-stretch-clause-holds : goal.returns-then-stretch-clause-holds
-returns-then-stretch-clause-holds c = λ input k.
-    let made = c.if-stretch.ensures in
-    rw made.2 ((rw made.1 at k) _ rule_gives)
 
 pub returns-clause-holds : goal.returns-clause-holds
 returns-clause-holds c = λ input k.
