@@ -31,7 +31,6 @@ pub(crate) fn find_start<'a>(text: &'a str, takes: bool) -> Start<'a>
     ensures start { IsStart takes (chars text.now) (chars result.text.now) result.alone }
     ensures first { MatchOption result.first (chars result.text.now ≡ [])
         (λ found. chars result.text.now ≡ found.0 ∷ chars found.1.now) }
-    ensures utf8 { IsUtf8 result.text.now }
 {
     let first = first_char(text);
     if let Some((c, after)) = first {
@@ -74,7 +73,6 @@ pub(crate) fn slice_at<'a>(
     requires no_backslash { c ≢ byte "\\" }
     ensures lexeme { BeginsWith alone (chars text.now) (lexeme_tok result.0) (chars result.1.now) }
     ensures no_digit { IsFalse (Spelling.takes_digit (Some (lexeme_tok result.0))) }
-    ensures utf8 { IsUtf8 result.1.now }
 {
     if c.is_ascii_digit() {
         if alone {
@@ -93,7 +91,6 @@ fn colon<'a>(text: &'a str) -> (Lexeme<'a>, &'a str)
     ensures lexeme { (alone : Bool) →
         BeginsWith alone (byte ":" ∷ chars text.now) (lexeme_tok result.0) (chars result.1.now) }
     ensures no_digit { IsFalse (Spelling.takes_digit (Some (lexeme_tok result.0))) }
-    ensures utf8 { IsUtf8 result.1.now }
 {
     match after_char(text, '=') {
         Some(rest) => (Lexeme::Paren(Paren::Assign), rest),
@@ -140,7 +137,6 @@ fn number<'a>(text: &'a str) -> (Lexeme<'a>, &'a str)
     requires { Begins is_ascii_digit (chars text.now) }
     ensures lexeme { BeginsWith false (chars text.now) (lexeme_tok result.0) (chars result.1.now) }
     ensures no_digit { IsFalse (Spelling.takes_digit (Some (lexeme_tok result.0))) }
-    ensures utf8 { IsUtf8 result.1.now }
 {
     let rest = skip_number(text);
     (Lexeme::Number(before(text, rest)), rest)
@@ -150,8 +146,7 @@ fn number<'a>(text: &'a str) -> (Lexeme<'a>, &'a str)
 #[inline(never)]
 fn skip_number(text: &str) -> &str
     requires { Begins is_ascii_digit (chars text.now) }
-    ensures number { BeginsWithNumber (chars text.now) (chars result.now) }
-    ensures utf8 { IsUtf8 result.now }
+    ensures { BeginsWithNumber (chars text.now) (chars result.now) }
 {
     let behind = skip_run(Class::Digit, text);
     match after_char(behind, '.') {
@@ -167,7 +162,6 @@ pub(crate) fn command<'a>(text: &'a str) -> (Lexeme<'a>, &'a str, u64)
         BeginsWith alone (byte "\\" ∷ chars text.now) (lexeme_tok result.0) (chars result.1.now) }
     ensures at_least { 1 ≤ result.2 }
     ensures at_most { result.2 ≤ 9 }
-    ensures utf8 { IsUtf8 result.1.now }
 {
     let rest = skip_command_name(text);
     let (lexeme, compared) = Lexeme::of_command(before(text, rest));
@@ -176,8 +170,7 @@ pub(crate) fn command<'a>(text: &'a str) -> (Lexeme<'a>, &'a str, u64)
 
 /// What stands after the name of the command. The text begins after the backslash.
 fn skip_command_name(text: &str) -> &str
-    ensures name { BeginsWithName (chars text.now) (chars result.now) }
-    ensures utf8 { IsUtf8 result.now }
+    ensures { BeginsWithName (chars text.now) (chars result.now) }
 {
     let Some((c, after)) = first_char(text) else {
         return text;
