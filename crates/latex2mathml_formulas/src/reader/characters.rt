@@ -1,6 +1,6 @@
 //! A text, character by character and run by run.
 ghost use Rattle.std.specs.Prelude.{◌≡◌, ◌∷◌, ◌==◌, ◌++◌, ℕ, [], List, IfNone, IfSome, MatchOption};
-ghost use Rattle.std.specs.{Char.is_ascii, Str.chars, Str.encode_utf8_all, Str.IsUtf8};
+ghost use Rattle.std.specs.{Char.is_ascii, Str.chars, Str.encode_utf8_all};
 ghost use Rattle.latex2mathml_formulas.specs.Characters;
 ghost use Rattle.latex2mathml_formulas.specs.{Characters.Stops, Characters.head, Lexing.in_class, Lexing.IsLongestRun};
 

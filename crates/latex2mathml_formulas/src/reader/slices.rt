@@ -1,6 +1,6 @@
 //! The slice at the start of a text, and the lexeme that it is.
 ghost use Rattle.std.specs.Prelude.{◌≡◌, ◌≢◌, ◌≤◌, ◌∷◌, ◌||◌, [], Bool, false, not, IsFalse, Some, MatchOption};
-ghost use Rattle.std.specs.{Char.is_ascii_digit, Str.byte, Str.chars, Str.IsUtf8};
+ghost use Rattle.std.specs.{Char.is_ascii_digit, Str.byte, Str.chars};
 ghost use Rattle.latex2mathml_formulas.specs.{Characters.Begins, Characters.is_space, Spelling.begins_longer, Spelling.character_token};
 ghost use Rattle.latex2mathml_formulas.specs.Lexing.{BeginsWith, BeginsWithName, BeginsWithNumber, IsStart};
 ghost use Rattle.latex2mathml_formulas.specs.Spelling;
@@ -78,24 +78,16 @@ pub(crate) fn slice_at<'a>(
         if alone {
             return (Lexeme::Number(before(text, after)), after);
         }
-        return number(text);
+        let rest = skip_number(text);
+        return (Lexeme::Number(before(text, rest)), rest);
     }
     if c == ':' {
-        return colon(after);
+        return match after_char(after, '=') {
+            Some(rest) => (Lexeme::Paren(Paren::Assign), rest),
+            None => (Lexeme::Operator(':'), after),
+        };
     }
     (character(c), after)
-}
-
-/// The lexeme of a colon and what follows it. The text begins after the colon.
-fn colon<'a>(text: &'a str) -> (Lexeme<'a>, &'a str)
-    ensures lexeme { (alone : Bool) →
-        BeginsWith alone (byte ":" ∷ chars text.now) (lexeme_tok result.0) (chars result.1.now) }
-    ensures no_digit { IsFalse (Spelling.takes_digit (Some (lexeme_tok result.0))) }
-{
-    match after_char(text, '=') {
-        Some(rest) => (Lexeme::Paren(Paren::Assign), rest),
-        None => (Lexeme::Operator(':'), text),
-    }
 }
 
 /// Whether the character is a slice, whatever stands around it.
@@ -130,16 +122,6 @@ pub(crate) fn character(c: char) -> Lexeme<'static>
         '\u{0}' => Lexeme::Illegal('\u{0}'),
         c => Lexeme::Letter(c, Variant::Normal),
     }
-}
-
-/// The number at the start of the text, and what follows it.
-fn number<'a>(text: &'a str) -> (Lexeme<'a>, &'a str)
-    requires { Begins is_ascii_digit (chars text.now) }
-    ensures lexeme { BeginsWith false (chars text.now) (lexeme_tok result.0) (chars result.1.now) }
-    ensures no_digit { IsFalse (Spelling.takes_digit (Some (lexeme_tok result.0))) }
-{
-    let rest = skip_number(text);
-    (Lexeme::Number(before(text, rest)), rest)
 }
 
 /// What stands after the number at the start of the text.
