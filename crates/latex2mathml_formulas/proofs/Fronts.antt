@@ -6,20 +6,16 @@ use Rattle.std.specs.{Char.encode_utf8, Char.is_ascii, Prelude.slice_get}
 use Rattle.std.specs.Str.{chars, encode_utf8_all, IsUtf8, IsCharBoundary}
 use Rattle.latex2mathml_formulas.specs.Characters.{Stops, head}
 
-some_same : {x y : ℕ} → Some x ≡ Some y → x ≡ y
-some_same e = cc
-
 -- a text that begins with an ASCII byte may be cut after it
 pub cut_after_first : (text : List ℕ) (b : ℕ) → IsUtf8 text → slice_get text 0 ≡ Some b → b < 128 → IsCharBoundary text 1
 cut_after_first [] b u e l = absurd cc
-cut_after_first (x ∷ xs) b u e l = IsCharBoundary-after_ascii (x ∷ xs) 0 u (omega arith) (subst (λ y. y < 128) (sym (some_same e)) l)
+cut_after_first (x ∷ xs) b u e l = IsCharBoundary-after_ascii (x ∷ xs) 0 u (omega arith) (let same : x ≡ b = cc in omega arith)
 
 -- .. and begins with that character
 pub first_is_byte : (text rest : List ℕ) (b : ℕ) → IsUtf8 text → slice_get text 0 ≡ Some b → b < 128 → rest ≡ drop 1 text → chars text ≡ b ∷ chars rest
 first_is_byte [] rest b u e l f = absurd cc
 first_is_byte (x ∷ xs) rest b u e l f =
-    let whole : x ∷ xs ≡ encode_utf8 b ++ rest = ap (λ y. y ∷ xs) (some_same e) ∙ ap (λ ys. b ∷ ys) (sym f) ∙ ap (λ bs. bs ++ rest) (sym (encode_ascii b l)) in
-    chars_past_char (x ∷ xs) rest b u whole
+    let whole : x ∷ xs ≡ encode_utf8 b ++ rest = rw (encode_ascii b l) (cc (e, f)) in chars_past_char (x ∷ xs) rest b u whole
 
 -- the characters before the end, in bytes
 pub front_bytes : (text rest front : List ℕ) → IsUtf8 text → IsUtf8 rest → chars text ≡ front ++ chars rest → text ≡ encode_utf8_all front ++ rest
@@ -46,15 +42,11 @@ front_is text rest result u v f front e =
     let bytes : text ≡ encode_utf8_all front ++ rest = front_bytes text rest front u v e in
     f ∙ ap (λ n. take n text) (seam text (encode_utf8_all front) rest bytes) ∙ ap (take (length (encode_utf8_all front))) bytes ∙ take-append_seam (encode_utf8_all front) rest
 
--- a text of no bytes is empty
-pub no_bytes : (text : List ℕ) → true ≡ eqb (length text) 0 → text ≡ []
-no_bytes [] e = refl
-no_bytes (b ∷ text) e = absurd (let k : length (b ∷ text) ≡ 0 = true-eqb _ _ e in cc)
-
--- an empty text has no character
-pub no_characters : (text : List ℕ) → text ≡ [] → chars text ≡ []
+-- a text of no bytes has no character
+pub no_characters : (text : List ℕ) → true ≡ eqb (length text) 0 → chars text ≡ []
 unfolding chars
-no_characters text e = rw e refl
+no_characters [] e = refl
+no_characters (b ∷ text) e = absurd (let k : length (b ∷ text) ≡ 0 = true-eqb _ _ e in cc)
 
 -- text without a first byte has no first character
 pub nothing_first : (text : List ℕ) → slice_get text 0 ≡ None → Stops is_ascii (head (chars text))
@@ -68,7 +60,7 @@ wide_of : (cs text : List ℕ) (b : ℕ) → encode_utf8_all cs ≡ text → sli
 wide_of [] text b e f l = tt
 wide_of (c ∷ cs) text b e f l = elim (cases_lt c 128) [
   | inl h ↦ (let g : text ≡ c ∷ encode_utf8_all cs = sym e ∙ ap (λ bs. bs ++ encode_utf8_all cs) (encode_ascii c h) in
-      let same : b ≡ c = some_same (sym f ∙ ap (λ t. slice_get t 0) g) in absurd (omega arith))
+      let same : b ≡ c = cc (f, ap (λ t. slice_get t 0) g) in absurd (omega arith))
   | inr h ↦ no_ascii c h
 ]
 

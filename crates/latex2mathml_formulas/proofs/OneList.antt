@@ -27,7 +27,7 @@ abbrev pub Begun : Bool → List ℕ → Type 0
 Begun alone text = (t : Tok) × (rest : List ℕ) × BeginsWith alone text t rest
 
 -- the only character among one
-only : (b c : ℕ) → is_among c (b ∷ []) ≡ true → c ≡ b
+pub only : (b c : ℕ) → is_among c (b ∷ []) ≡ true → c ≡ b
 only b c h = grind (arith, nat_tests)
 
 number_begun : (text : List ℕ) → Begins is_ascii_digit text → (front : List ℕ) × (back : List ℕ) × IsLongestRun is_ascii_digit text front back → (rest : List ℕ) × BeginsWithNumber text rest

@@ -1,16 +1,16 @@
 -- The first character of a text, after white space, shows whether the first token is a prime, a sign or an opening bracket.
-use Rattle.std.proofs.Common.{◌≡◌, ◌≢◌, ◌⊎◌, inl, inr, ℕ, Bool, true, false, not, ◌&&◌, ◌==◌, List, [], ◌∷◌, ◌++◌, codes, Option, Some, None, unwrap_or, refl, sym, ap, subst, ◌∙◌, cond, nat_eq, arith}
-use Rattle.std.proofs.{lemmas.Bool.and_parts, lemmas.Bool.both_ways, lemmas.Bool.Decides.nat_tests}
+use Rattle.std.proofs.Common.{◌≡◌, ◌≢◌, ◌⊎◌, inl, inr, ℕ, Bool, true, false, not, ◌&&◌, ◌==◌, List, [], ◌∷◌, ◌++◌, codes, Option, Some, None, unwrap_or, refl, sym, ap, subst, ◌∙◌, cond, nat_eq}
+use Rattle.std.proofs.{lemmas.Bool.and_parts, lemmas.Bool.both_ways, lemmas.Bool.cond_both}
 use Rattle.std.specs.{Char.encode_utf8, Char.is_ascii_alphabetic, List.list_all, Str.byte, Str.bytes_eq, Str.encode_utf8_all}
 use Rattle.latex2mathml_tokens.specs.Commands.{command_entries, command_token, entry_token}
 use Rattle.latex2mathml_formulas.specs.Characters.{◌∈◌, head}
 use Rattle.latex2mathml_formulas.specs.{Cutting.first_slice, Cutting.slice, Cutting.slices_of, Dollars.is_other}
-use Rattle.latex2mathml_formulas.specs.{Grammar.first, Grammar.prime, Lexing.BeginsWith, Lexing.IsStart, Marks.IsSeen, Marks.Shows}
+use Rattle.latex2mathml_formulas.specs.{Grammar.first, Lexing.BeginsWith, Lexing.IsStart, Marks.IsSeen, Marks.Shows}
 use Rattle.latex2mathml_formulas.specs.Spelling.{Slice, SpellsAt, character_token, character, colon, colon_equals, number, digit, symbol_command, letter_command, lone_backslash, is_operator, is_paren, takes_digit}
 use Rattle.latex2mathml_formulas.specs.Unread.{token_list}
 use Rattle.latex2mathml_tokens.specs.Tok.{Tok, Illegal, EOF, Paren, LBrace, RBrace, Underscore, Circumflex, Ampersand, Big, Operator, Letter, Command}
 use Rattle.latex2mathml_tokens.specs.declared.attribute.Variant.TheVariants.{Normal, Italic}
-use Rattle.latex2mathml_formulas.proofs.{FirstSlices.slice_of, OneList.Begun, OneList.begun, OneList.cut_step}
+use Rattle.latex2mathml_formulas.proofs.{FirstSlices.slice_of, OneList.Begun, OneList.begun, OneList.cut_step, OneList.only}
 use Rattle.latex2mathml_formulas.proofs.Starts.{none_left, step_from}
 
 -- the token is no end of a formula, no prime, no sign and no opening bracket, and no size with a dollar sign
@@ -39,16 +39,11 @@ abbrev found_is_plain : Option Tok → Bool
 found_is_plain None = true
 found_is_plain (Some t) = is_plain t
 
--- the first entry is found, or a later one
-found_first : (t : Tok) (later : Option Tok) (p : Bool) → is_plain t ≡ true → found_is_plain later ≡ true → found_is_plain (cond p (Some t) later) ≡ true
-found_first t later true h l = h
-found_first t later false h l = l
-
 plain_entry : (rs : List (List ℕ × Tok)) (name : List ℕ) → entries_are_plain rs ≡ true → found_is_plain (entry_token rs name) ≡ true
 plain_entry [] name h = refl
 plain_entry (r ∷ rs) name h =
     let parts = and_parts (is_plain r.1) (entries_are_plain rs) h in
-    found_first r.1 (entry_token rs name) (bytes_eq r.0 name) parts.0 (plain_entry rs name parts.1)
+    cond_both (bytes_eq r.0 name) (Some r.1) (entry_token rs name) (λ o. found_is_plain o ≡ true) (λ _. parts.0) (λ _. plain_entry rs name parts.1)
 
 unwrapped : (o : Option Tok) (name : List ℕ) → found_is_plain o ≡ true → IsPlain (unwrap_or o (Command name))
 unwrapped None name h = refl
@@ -90,24 +85,16 @@ of_character P c operator paren underscore circumflex lbrace rbrace ampersand il
     (either P (nat_eq c 0) (Illegal 0) _ (λ h. illegal)
     (either P (is_ascii_alphabetic c) (Letter c Italic) (Letter c Normal) (λ h. italic) normal))))))))
 
-is_underscore : (c : ℕ) → (c ∈ "_") ≡ true → c ≡ byte "_"
-is_underscore c h = grind (arith, nat_tests)
+-- the character whose token is t, where there is one alone, or else c
+abbrev named_by : Tok → ℕ → ℕ
+named_by (Operator d) c = d
+named_by (Paren (d ∷ ds)) c = d
+named_by Underscore c = byte "_"
+named_by Circumflex c = byte "^"
+named_by t c = c
 
-is_circumflex : (c : ℕ) → (c ∈ "^") ≡ true → c ≡ byte "^"
-is_circumflex c h = grind (arith, nat_tests)
-
--- the token of one of these characters is that of no other character
-prime_alone : (c : ℕ) → character_token c ≡ prime → c ≡ byte "'"
-prime_alone c = of_character (λ t. t ≡ prime → c ≡ byte "'") c (λ h e. cc) (λ h e. cc) (λ h e. cc) (λ h e. cc) (λ e. cc) (λ e. cc) (λ e. cc) (λ e. cc) (λ e. cc) (λ e. cc)
-
-underscore_alone : (c : ℕ) → character_token c ≡ Underscore → c ≡ byte "_"
-underscore_alone c = of_character (λ t. t ≡ Underscore → c ≡ byte "_") c (λ h e. cc) (λ h e. cc) (λ h e. is_underscore c h) (λ h e. cc) (λ e. cc) (λ e. cc) (λ e. cc) (λ e. cc) (λ e. cc) (λ e. cc)
-
-circumflex_alone : (c : ℕ) → character_token c ≡ Circumflex → c ≡ byte "^"
-circumflex_alone c = of_character (λ t. t ≡ Circumflex → c ≡ byte "^") c (λ h e. cc) (λ h e. cc) (λ h e. cc) (λ h e. is_circumflex c h) (λ e. cc) (λ e. cc) (λ e. cc) (λ e. cc) (λ e. cc) (λ e. cc)
-
-bracket_alone : (c : ℕ) → character_token c ≡ Paren (codes "[") → c ≡ byte "["
-bracket_alone c = of_character (λ t. t ≡ Paren (codes "[") → c ≡ byte "[") c (λ h e. cc) (λ h e. cc) (λ h e. cc) (λ h e. cc) (λ e. cc) (λ e. cc) (λ e. cc) (λ e. cc) (λ e. cc) (λ e. cc)
+named : (c : ℕ) → named_by (character_token c) c ≡ c
+named c = of_character (λ t. named_by t c ≡ c) c (λ h. refl) (λ h. refl) (λ h. sym (only (byte "_") c h)) (λ h. sym (only (byte "^") c h)) refl refl refl refl refl refl
 
 pub no_end : (c : ℕ) → character_token c ≢ EOF
 no_end c = of_character (λ t. t ≢ EOF) c (λ h e. cc) (λ h e. cc) (λ h e. cc) (λ h e. cc) (λ e. cc) (λ e. cc) (λ e. cc) (λ e. cc) (λ e. cc) (λ e. cc)
@@ -130,16 +117,16 @@ found takes alone text c after starts =
 first_same : (c x : ℕ) (after w rest : List ℕ) → c ∷ after ≡ w ++ rest → w ≡ x ∷ [] → c ≡ x
 first_same c x after w rest e f = cc (e ∙ ap (λ v. v ++ rest) f)
 
-told : (c d : ℕ) (after w rest : List ℕ) (t : Tok) → ((x : ℕ) → character_token x ≡ character_token d → x ≡ d) → is_plain (character_token d) ≡ false → c ∷ after ≡ w ++ rest → IsKnown w t → t ≡ character_token d → c ≡ d
-told c d after w rest t alone_so plain split (inl k) e = first_same c k.0 after w rest split k.1 ∙ alone_so k.0 (sym k.2 ∙ e)
-told c d after w rest t alone_so plain split (inr k) e = absurd (both_ways (is_plain t) (ap is_plain e ∙ plain) k)
+told : (c d : ℕ) (after w rest : List ℕ) (t : Tok) → ((x : ℕ) → named_by (character_token d) x ≡ d) → is_plain (character_token d) ≡ false → c ∷ after ≡ w ++ rest → IsKnown w t → t ≡ character_token d → c ≡ d
+told c d after w rest t names plain split (inl k) e = first_same c k.0 after w rest split k.1 ∙ sym (named k.0) ∙ ap (λ s. named_by s k.0) (sym k.2 ∙ e) ∙ names k.0
+told c d after w rest t names plain split (inr k) e = absurd (both_ways (is_plain t) (ap is_plain e ∙ plain) k)
 
 -- a character that stands for itself shows its token
-shows : (takes : Bool) (text : List ℕ) (c d : ℕ) → ((alone : Bool) (after : List ℕ) → (first_slice alone (d ∷ after)).token ≡ character_token d) → ((x : ℕ) → character_token x ≡ character_token d → x ≡ d) → is_plain (character_token d) ≡ false → Found takes text c → Shows d c (token_list (slices_of takes text))
-shows takes text c d itself alone_so plain (alone, after, w, rest, t, ss, whole, slice_is, split, k) =
+shows : (takes : Bool) (text : List ℕ) (c d : ℕ) → ((alone : Bool) (after : List ℕ) → (first_slice alone (d ∷ after)).token ≡ character_token d) → ((x : ℕ) → named_by (character_token d) x ≡ d) → is_plain (character_token d) ≡ false → Found takes text c → Shows d c (token_list (slices_of takes text))
+shows takes text c d itself names plain (alone, after, w, rest, t, ss, whole, slice_is, split, k) =
     let stands : first (token_list (slices_of takes text)) ≡ Some t = ap (λ xs. first (token_list xs)) whole in (
       λ e. stands ∙ ap Some (ap (λ s. s.token) (sym slice_is) ∙ ap (λ x. (first_slice alone (x ∷ after)).token) e ∙ itself alone after),
-      λ e. told c d after w rest t alone_so plain split k (cc (stands, e)),
+      λ e. told c d after w rest t names plain split k (cc (stands, e)),
     )
 
 some_left : (takes : Bool) (text : List ℕ) (c : ℕ) → Found takes text c → token_list (slices_of takes text) ≢ []
@@ -148,10 +135,10 @@ some_left takes text c (alone, after, w, rest, t, ss, whole, slice_is, split, k)
 seen_character : (takes : Bool) (text : List ℕ) (c : ℕ) → Found takes text c → IsSeen (Some c) (token_list (slices_of takes text))
 seen_character takes text c f = (
   some_left takes text c f,
-  shows takes text c (byte "'") (λ alone after. refl) prime_alone refl f,
-  shows takes text c (byte "_") (λ alone after. refl) underscore_alone refl f,
-  shows takes text c (byte "^") (λ alone after. refl) circumflex_alone refl f,
-  shows takes text c (byte "[") (λ alone after. refl) bracket_alone refl f,
+  shows takes text c (byte "'") (λ alone after. refl) (λ x. refl) refl f,
+  shows takes text c (byte "_") (λ alone after. refl) (λ x. refl) refl f,
+  shows takes text c (byte "^") (λ alone after. refl) (λ x. refl) refl f,
+  shows takes text c (byte "[") (λ alone after. refl) (λ x. refl) refl f,
 )
 
 pub seen : (takes alone : Bool) (text start : List ℕ) (c : ℕ) (after : List ℕ) → IsStart takes text start alone → start ≡ c ∷ after → IsSeen (Some c) (token_list (slices_of takes text))

@@ -40,8 +40,8 @@ digits_with_period text front back after part rest run begins e more =
       },
     )
 
-pub number_spelled : (text rest bs : List ℕ) → BeginsWithNumber text rest → ((w : List ℕ) → text ≡ w ++ rest → bs ≡ encode_utf8_all w) → BeginsWith false text (Number bs) rest
-number_spelled text rest bs (w, e, is) bytes = (w, e, number refl is (ap Number (bytes w e)))
+pub number_spelled : (alone : Bool) (text rest bs : List ℕ) → alone ≡ false → BeginsWithNumber text rest → ((w : List ℕ) → text ≡ w ++ rest → bs ≡ encode_utf8_all w) → BeginsWith alone text (Number bs) rest
+number_spelled alone text rest bs a (w, e, is) bytes = (w, e, number a is (ap Number (bytes w e)))
 
 -- the name of a command: an ASCII letter and all that follow it
 pub letters_named : (text : List ℕ) (c : ℕ) (after rest : List ℕ) → text ≡ c ∷ after → is_ascii_alphabetic c ≡ true → (front : List ℕ) × IsLongestRun is_ascii_alphabetic after front rest → BeginsWithName text rest
@@ -60,15 +60,11 @@ pub command_spelled : (alone : Bool) (text rest bs : List ℕ) (t : Tok) → Beg
 command_spelled alone text rest bs t (w, e, spells) bytes f =
     (byte "\\" ∷ w, ap (λ s. byte "\\" ∷ s) e, subst (SpellsAt alone (byte "\\" ∷ w) (head rest)) (sym (f ∙ ap command_token (bytes w e))) (spells alone))
 
--- a text whose first character is known
-pub with_first : (alone : Bool) (text : List ℕ) (c d : ℕ) (after : List ℕ) (t : Tok) (rest : List ℕ) → text ≡ c ∷ after → c ≡ d → BeginsWith alone (d ∷ after) t rest → BeginsWith alone text t rest
-with_first alone text c d after t rest e f h = subst (λ s. BeginsWith alone s t rest) (sym (e ∙ ap (λ x. x ∷ after) f)) h
+pub colon_with_equals : (alone : Bool) (text : List ℕ) (c : ℕ) (after rest : List ℕ) → text ≡ c ∷ after → c ≡ byte ":" → after ≡ byte "=" ∷ rest → BeginsWith alone text (Paren (codes ":=")) rest
+colon_with_equals alone text c after rest e f g = (codes ":=", cc, colon_equals refl refl)
 
-pub colon_with_equals : (alone : Bool) (after rest : List ℕ) (t : Tok) → after ≡ byte "=" ∷ rest → t ≡ Paren (codes ":=") → BeginsWith alone (byte ":" ∷ after) t rest
-colon_with_equals alone after rest t f g = (codes ":=", ap (λ a. byte ":" ∷ a) f, colon_equals refl g)
-
-pub lone_colon : (alone : Bool) (after : List ℕ) (t : Tok) → Stops is_equals_sign (head after) → t ≡ Operator (byte ":") → BeginsWith alone (byte ":" ∷ after) t after
-lone_colon alone after t f g = (codes ":", refl, colon f refl g)
+pub lone_colon : (alone : Bool) (text : List ℕ) (c : ℕ) (after : List ℕ) → text ≡ c ∷ after → c ≡ byte ":" → Stops is_equals_sign (head after) → BeginsWith alone text (Operator (byte ":")) after
+lone_colon alone text c after e f stops = (codes ":", cc, colon stops refl refl)
 
 -- a digit that is a number of its own
 pub lone_digit : (alone : Bool) (text : List ℕ) (c : ℕ) (after bs : List ℕ) (t : Tok) → text ≡ c ∷ after → is_ascii_digit c ≡ true → alone ≡ true → bs ≡ encode_utf8_all (c ∷ []) → t ≡ Number bs → BeginsWith alone text t after

@@ -1,6 +1,7 @@
 -- What the reader takes from the slices that are left of a text, and what it leaves where it only looks.
 use Rattle.std.proofs.Common.{◌≡◌, ◌≢◌, ℕ, ◌+◌, ◌*◌, ◌^◌, ◌<◌, ◌≤◌, Bool, true, false, not, ◌&&◌, ◌||◌, List, [], ◌∷◌, ◌++◌, drop, drop-drop, eqb, length, refl, sym, ap, subst, ◌∙◌, Some, inl, inr, arith, rules}
-use Rattle.std.proofs.{lemmas.Bool.cases_Bool, lemmas.Bool.Decides.nat_tests, lemmas.List.Elements.All-cons, lemmas.List.Elements.All-nil}
+use Rattle.std.proofs.lemmas.Bool.{and_right, cases_Bool, not-true, or_parts}
+use Rattle.std.proofs.{lemmas.Bool.Decides.nat_tests, lemmas.List.Elements.All-cons, lemmas.List.Elements.All-nil}
 use Rattle.std.specs.Str.{byte, chars}
 use Rattle.latex2mathml_formulas.specs.Characters.{◌∈◌, head, is_space}
 use Rattle.latex2mathml_formulas.specs.{Counts.backslash_count, Counts.backslashes, Cutting.slice, Cutting.slices_of, Grammar.first_or_end}
@@ -8,17 +9,13 @@ use Rattle.latex2mathml_formulas.specs.{Lexing.BeginsWith, Lexing.IsLongestRun, 
 use Rattle.latex2mathml_formulas.specs.Spelling.{Slice, SpellsAt, IsStep, begins_longer, character_token, takes_digit}
 use Rattle.latex2mathml_formulas.specs.Unread.{Takes, unread_in, token_list}
 use Rattle.latex2mathml_tokens.specs.Tok.{Tok, EOF}
-use Rattle.latex2mathml_formulas.proofs.{Fronts.no_bytes, Fronts.no_characters, Spellings.one_character, Spellings.only_space}
+use Rattle.latex2mathml_formulas.proofs.{Fronts.no_characters, Spellings.one_character, Spellings.only_space}
 use Rattle.latex2mathml_formulas.proofs.OneList.{Begun, begun, cut_end, cut_step}
 use Rattle.latex2mathml_formulas.proofs.{Taking.backslashes-cons, Taking.same_first, Tokenizing.step_shortens}
 
 and_true : (b : Bool) → (b && true) ≡ b
 and_true true = refl
 and_true false = refl
-
-pub and_false : (b : Bool) → (b && false) ≡ false
-and_false true = refl
-and_false false = refl
 
 -- a text that begins with no white space starts there
 pub starts_here : (takes : Bool) (text : List ℕ) (c : ℕ) (after : List ℕ) → text ≡ c ∷ after → is_space c ≡ false → IsStart takes text text takes
@@ -27,7 +24,7 @@ starts_here takes text c after e dark = ([], (refl, All-nil (λ x. is_space x �
 -- a text that begins with white space starts after it
 pub starts_behind : (takes : Bool) (text : List ℕ) (c : ℕ) (after start : List ℕ) → text ≡ c ∷ after → is_space c ≡ true → (space : List ℕ) × IsLongestRun is_space after space start → IsStart takes text start false
 starts_behind takes text c after start e light (space, run) =
-    (c ∷ space, (e ∙ ap (λ k. c ∷ k) run.0, All-cons (λ x. is_space x ≡ true) c space light run.1, run.2), sym (and_false takes))
+    (c ∷ space, (e ∙ ap (λ k. c ∷ k) run.0, All-cons (λ x. is_space x ≡ true) c space light run.1, run.2), sym (and_right takes false refl))
 
 -- the first slice of a text, from where it starts
 pub step_from : (takes alone : Bool) (text start : List ℕ) (t : Tok) (rest : List ℕ) → IsStart takes text start alone → (begins : BeginsWith alone start t rest) → IsStep takes text (slice begins.0 t) rest
@@ -50,7 +47,7 @@ none_left takes alone text start (space, run, e) f = cut_end takes text (only_sp
 -- an empty text has no slice
 pub none_of_nothing : (takes : Bool) (text : List ℕ) → true ≡ eqb (length text) 0 → slices_of takes (chars text) ≡ []
 none_of_nothing takes text e =
-    cut_end takes (chars text) (rw (no_characters text (no_bytes text e)) (All-nil (λ x. is_space x ≡ true)))
+    cut_end takes (chars text) (rw (no_characters text e) (All-nil (λ x. is_space x ≡ true)))
 
 -- where no slice is left, the end is taken
 pub nothing_taken : (slices : List Slice) (tokens comparisons : ℕ) → slices ≡ [] → Takes EOF (unread_in slices tokens comparisons) (unread_in slices tokens comparisons)
@@ -84,15 +81,10 @@ taken_uncounted takes alone text start c after t rest starts e dark begins no_di
 no_backslash : (c : ℕ) → begins_longer c ≡ false → c ≢ byte "\\"
 no_backslash c h = λ e. absurd (cc (ap begins_longer e, h))
 
-both_false : (a b : Bool) → not (a || b) ≡ true → (a ≡ false) × (b ≡ false)
-both_false true b h = absurd (cc h)
-both_false false true h = absurd (cc h)
-both_false false false h = (refl, refl)
-
 -- .. which is one character that stands for itself
 pub taken_character : (takes : Bool) (text : List ℕ) (c : ℕ) (after : List ℕ) (t : Tok) → text ≡ c ∷ after → not (begins_longer c || is_space c) ≡ true → t ≡ character_token c → takes_digit (Some t) ≡ false → IsTaken takes text t 0 false after
 taken_character takes text c after t e alone f no_digit =
-    let parts = both_false (begins_longer c) (is_space c) alone in
+    let parts = or_parts (begins_longer c) (is_space c) (not-true _ alone) in
     taken_uncounted takes takes text text c after t after (starts_here takes text c after e parts.1) e (no_backslash c parts.0) (one_character takes text c after t e parts.0 parts.1 f) no_digit
 
 -- .. which is a command

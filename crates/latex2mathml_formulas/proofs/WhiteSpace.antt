@@ -1,13 +1,13 @@
 -- White space at a place between two tokens that is no digit place leaves the token list as it was.
 use Rattle.std.proofs.Common.{◌≡◌, ℕ, Bool, true, false, ◌&&◌, IsTrue, List, [], ◌∷◌, ◌++◌, Option, Some, None, map, refl, sym, ap, subst, ◌∙◌, append_assoc, arith}
-use Rattle.std.proofs.{lemmas.Bool.Decides.nat_tests, lemmas.Str.chars-append}
+use Rattle.std.proofs.{lemmas.Bool.and_right, lemmas.Bool.Decides.nat_tests, lemmas.Str.chars-append}
 use Rattle.std.specs.{Char.is_ascii_digit, Char.is_ascii_alphabetic, List.AllPass, Str.IsUtf8, Str.chars}
 use Rattle.latex2mathml_formulas.specs.Characters.{Begins, Stops, head, is_empty, is_space}
 use Rattle.latex2mathml_formulas.specs.{Cutting.slices_of, Rendering.IsRendering, Rendering.IsFormulaRefusal}
 use Rattle.latex2mathml_formulas.specs.Places.{AreSlices, IsBetweenTokens, IsDigitPlace, IsReadAlike, SpaceChangesNothing, HasPlaces}
 use Rattle.latex2mathml_formulas.specs.Spelling.{SpellsAt, Slice, HasSlices, HasTokens, is_equals_sign, is_period, takes_digit, character, colon, colon_equals, number, digit, symbol_command, letter_command, lone_backslash}
 use Rattle.latex2mathml_tokens.specs.Tok.{Tok}
-use Rattle.latex2mathml_formulas.proofs.{OneList.at_most_one, OneList.cut, Passing.Each, Passing.each, Passing.passing, Starts.and_false}
+use Rattle.latex2mathml_formulas.proofs.{OneList.at_most_one, OneList.cut, Passing.Each, Passing.each, Passing.passing}
 use Rattle.latex2mathml_formulas.proofs.Tokenizing.{Dark, dark_front, spells_dark}
 
 -- a slice, where other characters may follow it
@@ -106,7 +106,7 @@ same_slices before after place no_digit_place (c ∷ cs) white =
     let some : head (place.left ++ after) ≡ None → ⊥ = λ none. some_stands place.left place.right _ dark (ap (λ x. head (place.left ++ x)) (sym place.after_is) ∙ none) in
     let earlier = slices_before_space false place.front _ (place.left ++ (c ∷ cs ++ after)) _ some (light_first place.left c cs place.right space white.0 after) place.slices in
     let spells = spells_apart _ _ _ _ _ (λ touching takes digit. no_digit_place (record { touching = touching; takes = takes; digit = digit })) place.spells in
-    slices_around place (c ∷ cs) earlier (passing is_space _ (gap_grown place.left (c ∷ cs) place.right space white)) (rw (gap_some place.left c (cs ++ place.right), and_false) spells)
+    slices_around place (c ∷ cs) earlier (passing is_space _ (gap_grown place.left (c ∷ cs) place.right space white)) (rw (gap_some place.left c (cs ++ place.right), and_right _ false refl) spells)
 
 -- texts with the same slices
 

@@ -30,7 +30,7 @@ pub(crate) struct Reader<'a> {
 
 impl<'a> Model for Reader<'a> {
     ghost use Rattle.std.specs.Prelude.{◌+◌, ◌*◌, ◌<◌, ◌^◌, length};
-    ghost use Rattle.std.specs.Str.{chars, IsUtf8};
+    ghost use Rattle.std.specs.Str.{chars};
     ghost use Rattle.latex2mathml_formulas.specs.Cutting.{slices_of};
     ghost use Rattle.latex2mathml_formulas.specs.Unread.{Unread, unread_in};
 
@@ -38,8 +38,7 @@ impl<'a> Model for Reader<'a> {
 
     ghost view = { λ r. unread_in (slices_of r.takes_digit (chars r.rest.now)) r.tokens r.comparisons };
 
-    ghost invariant = { λ r. IsUtf8 r.rest.now
-        × (r.tokens + length (chars r.rest.now) < 2 ^ 64)
+    ghost invariant = { λ r. (r.tokens + length (chars r.rest.now) < 2 ^ 64)
         × (r.comparisons + 9 * length (chars r.rest.now) < 2 ^ 68) };
 }
 

@@ -1,6 +1,6 @@
 //! A text, character by character and run by run.
 ghost use Rattle.std.specs.Prelude.{◌≡◌, ◌∷◌, ◌==◌, ◌++◌, ℕ, [], List, IfNone, IfSome, MatchOption};
-ghost use Rattle.std.specs.{Char.is_ascii, Str.chars, Str.encode_utf8_all, Str.IsUtf8};
+ghost use Rattle.std.specs.{Char.is_ascii, Str.chars, Str.encode_utf8_all};
 ghost use Rattle.latex2mathml_formulas.specs.Characters;
 ghost use Rattle.latex2mathml_formulas.specs.{Characters.Stops, Characters.head, Lexing.in_class, Lexing.IsLongestRun};
 
@@ -39,7 +39,6 @@ pub(crate) fn is_space(c: char) -> bool
 pub(crate) fn first_ascii(text: &str) -> Option<(char, &str)>
     ensures first { IfSome result (λ found. chars text.now ≡ found.0 ∷ chars found.1.now) }
     ensures none { IfNone result (Stops is_ascii (head (chars text.now))) }
-    ensures utf8 { IfSome result (λ found. IsUtf8 found.1.now) }
 {
     let Some(&byte) = text.as_bytes().first() else {
         return None;
@@ -54,9 +53,8 @@ pub(crate) fn first_ascii(text: &str) -> Option<(char, &str)>
 /// The first character and what follows it.
 #[inline(always)]
 pub(crate) fn first_char(text: &str) -> Option<(char, &str)>
-    ensures first { MatchOption result (chars text.now ≡ [])
+    ensures { MatchOption result (chars text.now ≡ [])
         (λ found. chars text.now ≡ found.0 ∷ chars found.1.now) }
-    ensures utf8 { IfSome result (λ found. IsUtf8 found.1.now) }
 {
     match first_ascii(text) {
         Some(found) => Some(found),
@@ -69,9 +67,8 @@ pub(crate) fn first_char(text: &str) -> Option<(char, &str)>
 #[inline(never)]
 #[tactic(auto, using(std::proofs::lemmas::Str::chars_past_char))]
 fn decode(text: &str) -> Option<(char, &str)>
-    ensures first { MatchOption result (chars text.now ≡ [])
+    ensures { MatchOption result (chars text.now ≡ [])
         (λ found. chars text.now ≡ found.0 ∷ chars found.1.now) }
-    ensures utf8 { IfSome result (λ found. IsUtf8 found.1.now) }
 {
     let mut characters = text.chars();
     let first = characters.next()?;
@@ -80,9 +77,8 @@ fn decode(text: &str) -> Option<(char, &str)>
 
 /// What follows this character, if the text begins with it.
 pub(crate) fn after_char(text: &str, c: char) -> Option<&str>
-    ensures first { MatchOption result (Stops (λ x. x == c) (head (chars text.now)))
+    ensures { MatchOption result (Stops (λ x. x == c) (head (chars text.now)))
         (λ rest. chars text.now ≡ c ∷ chars rest.now) }
-    ensures utf8 { IfSome result (λ rest. IsUtf8 rest.now) }
 {
     let (first, rest) = first_char(text)?;
     if first == c { Some(rest) } else { None }
@@ -92,9 +88,8 @@ pub(crate) fn after_char(text: &str, c: char) -> Option<&str>
 /// characters.
 #[inline(always)]
 pub(crate) fn skip_run(class: Class, text: &str) -> &str
-    ensures run { (front : List ℕ) ×
+    ensures { (front : List ℕ) ×
         IsLongestRun (in_class class) (chars text.now) front (chars result.now) }
-    ensures utf8 { IsUtf8 result.now }
 {
     let mut rest = text;
     while let Some((c, after)) = first_ascii(rest) {
@@ -109,9 +104,8 @@ pub(crate) fn skip_run(class: Class, text: &str) -> &str
 /// What stands after the white space at the start of the text.
 #[inline(never)]
 pub(crate) fn skip_space(text: &str) -> &str
-    ensures run { (space : List ℕ) ×
+    ensures { (space : List ℕ) ×
         IsLongestRun Characters.is_space (chars text.now) space (chars result.now) }
-    ensures utf8 { IsUtf8 result.now }
 {
     skip_run(Class::Space, text)
 }

@@ -1,6 +1,6 @@
 //! The slice at the start of a text, and the lexeme that it is.
 ghost use Rattle.std.specs.Prelude.{◌≡◌, ◌≢◌, ◌≤◌, ◌∷◌, ◌||◌, [], Bool, false, not, IsFalse, Some, MatchOption};
-ghost use Rattle.std.specs.{Char.is_ascii_digit, Str.byte, Str.chars, Str.IsUtf8};
+ghost use Rattle.std.specs.{Char.is_ascii_digit, Str.byte, Str.chars};
 ghost use Rattle.latex2mathml_formulas.specs.{Characters.Begins, Characters.is_space, Spelling.begins_longer, Spelling.character_token};
 ghost use Rattle.latex2mathml_formulas.specs.Lexing.{BeginsWith, BeginsWithName, BeginsWithNumber, IsStart};
 ghost use Rattle.latex2mathml_formulas.specs.Spelling;
@@ -31,7 +31,6 @@ pub(crate) fn find_start<'a>(text: &'a str, takes: bool) -> Start<'a>
     ensures start { IsStart takes (chars text.now) (chars result.text.now) result.alone }
     ensures first { MatchOption result.first (chars result.text.now ≡ [])
         (λ found. chars result.text.now ≡ found.0 ∷ chars found.1.now) }
-    ensures utf8 { IsUtf8 result.text.now }
 {
     let first = first_char(text);
     if let Some((c, after)) = first {
@@ -74,31 +73,21 @@ pub(crate) fn slice_at<'a>(
     requires no_backslash { c ≢ byte "\\" }
     ensures lexeme { BeginsWith alone (chars text.now) (lexeme_tok result.0) (chars result.1.now) }
     ensures no_digit { IsFalse (Spelling.takes_digit (Some (lexeme_tok result.0))) }
-    ensures utf8 { IsUtf8 result.1.now }
 {
     if c.is_ascii_digit() {
         if alone {
             return (Lexeme::Number(before(text, after)), after);
         }
-        return number(text);
+        let rest = skip_number(text);
+        return (Lexeme::Number(before(text, rest)), rest);
     }
     if c == ':' {
-        return colon(after);
+        return match after_char(after, '=') {
+            Some(rest) => (Lexeme::Paren(Paren::Assign), rest),
+            None => (Lexeme::Operator(':'), after),
+        };
     }
     (character(c), after)
-}
-
-/// The lexeme of a colon and what follows it. The text begins after the colon.
-fn colon<'a>(text: &'a str) -> (Lexeme<'a>, &'a str)
-    ensures lexeme { (alone : Bool) →
-        BeginsWith alone (byte ":" ∷ chars text.now) (lexeme_tok result.0) (chars result.1.now) }
-    ensures no_digit { IsFalse (Spelling.takes_digit (Some (lexeme_tok result.0))) }
-    ensures utf8 { IsUtf8 result.1.now }
-{
-    match after_char(text, '=') {
-        Some(rest) => (Lexeme::Paren(Paren::Assign), rest),
-        None => (Lexeme::Operator(':'), text),
-    }
 }
 
 /// Whether the character is a slice, whatever stands around it.
@@ -135,23 +124,11 @@ pub(crate) fn character(c: char) -> Lexeme<'static>
     }
 }
 
-/// The number at the start of the text, and what follows it.
-fn number<'a>(text: &'a str) -> (Lexeme<'a>, &'a str)
-    requires { Begins is_ascii_digit (chars text.now) }
-    ensures lexeme { BeginsWith false (chars text.now) (lexeme_tok result.0) (chars result.1.now) }
-    ensures no_digit { IsFalse (Spelling.takes_digit (Some (lexeme_tok result.0))) }
-    ensures utf8 { IsUtf8 result.1.now }
-{
-    let rest = skip_number(text);
-    (Lexeme::Number(before(text, rest)), rest)
-}
-
 /// What stands after the number at the start of the text.
 #[inline(never)]
 fn skip_number(text: &str) -> &str
     requires { Begins is_ascii_digit (chars text.now) }
-    ensures number { BeginsWithNumber (chars text.now) (chars result.now) }
-    ensures utf8 { IsUtf8 result.now }
+    ensures { BeginsWithNumber (chars text.now) (chars result.now) }
 {
     let behind = skip_run(Class::Digit, text);
     match after_char(behind, '.') {
@@ -167,7 +144,6 @@ pub(crate) fn command<'a>(text: &'a str) -> (Lexeme<'a>, &'a str, u64)
         BeginsWith alone (byte "\\" ∷ chars text.now) (lexeme_tok result.0) (chars result.1.now) }
     ensures at_least { 1 ≤ result.2 }
     ensures at_most { result.2 ≤ 9 }
-    ensures utf8 { IsUtf8 result.1.now }
 {
     let rest = skip_command_name(text);
     let (lexeme, compared) = Lexeme::of_command(before(text, rest));
@@ -176,8 +152,7 @@ pub(crate) fn command<'a>(text: &'a str) -> (Lexeme<'a>, &'a str, u64)
 
 /// What stands after the name of the command. The text begins after the backslash.
 fn skip_command_name(text: &str) -> &str
-    ensures name { BeginsWithName (chars text.now) (chars result.now) }
-    ensures utf8 { IsUtf8 result.now }
+    ensures { BeginsWithName (chars text.now) (chars result.now) }
 {
     let Some((c, after)) = first_char(text) else {
         return text;

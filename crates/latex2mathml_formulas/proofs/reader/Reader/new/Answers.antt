@@ -5,5 +5,4 @@ use Rattle.latex2mathml_formulas.proofs.reader.Reader.new.Goals as goal
 pub invariant_of-result : goal.invariant_of-result
 invariant_of-result c =
     let k : length c.args.text.now < 2 ^ 64 = search rules in
-    let all = fits _ _ c.utf8.text refl k in
-    (c.utf8.text, all.0, all.1)
+    fits _ _ c.utf8.text refl k

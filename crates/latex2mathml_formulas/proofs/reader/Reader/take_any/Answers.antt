@@ -11,8 +11,7 @@ returns-in_default c = rw (← c.self.view_is) (nothing_taken _ _ _ (none_left _
 pub invariant_of-self : goal.invariant_of-self
 invariant_of-self c =
     let taken = taken_command _ _ _ _ _ c.in-Some.c _ _ _ _ c.find_start-start.ensures.start (rw c.in-Some.is at c.find_start-start.ensures.first) c.if-c-eq92.true (c.command-compared.ensures.lexeme _) c.takes_digit-self-inside.ensures c.command-compared.ensures.at_least c.command-compared.ensures.at_most in
-    let fits = fits_taken _ _ _ _ _ _ _ _ _ taken (ap (λ k. c.self.inside.comparisons + k) c.from.ensures) c.self.invariant.1 c.self.invariant.2 in
-    (c.command-compared.ensures.utf8, fits.0, fits.1)
+    fits_taken _ _ _ _ _ _ _ _ _ taken (ap (λ k. c.self.inside.comparisons + k) c.from.ensures) c.self.invariant.0 c.self.invariant.1
 
 pub returns-then-c-eq92 : goal.returns-then-c-eq92
 returns-then-c-eq92 c =

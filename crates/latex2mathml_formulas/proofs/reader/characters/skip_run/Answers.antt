@@ -1,4 +1,4 @@
-use Rattle.std.proofs.Common.{◌≡◌, ℕ, Bool, true, List, [], ◌∷◌, ◌++◌, sym, ap, ◌∙◌, append_assoc}
+use Rattle.std.proofs.Common.{◌≡◌, ℕ, Bool, true, List, [], ◌∷◌, ◌++◌, sym, ap, ◌∙◌, append_assoc, rules}
 use Rattle.std.proofs.lemmas.List.Elements.{All-append, All-cons, All-nil}
 use Rattle.std.specs.List.{AllPass}
 use Rattle.latex2mathml_formulas.specs.Lexing.{in_class}
@@ -11,6 +11,6 @@ more_run p text rest c after (front, e, pass) f passes =
 
 pub loop-c-preserved : goal.loop-c-preserved
 loop-c-preserved c = record {
-  utf8 = c.in-Some.ensures.utf8;
+  utf8 = search rules;
   front = more_run (in_class c.args.class) _ _ c.in-Some.c _ c.loop-c.invariant.front c.in-Some.ensures.first (cc);
 }
