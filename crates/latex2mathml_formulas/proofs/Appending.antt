@@ -72,7 +72,8 @@ node_begun input to fs ts t none same = rw none (token_begun input [] ts input t
 
 -- a token without parts
 pub leaf_begun : (input place to : List Tok) (fs : List Frame) (ts : List Tree) (t : Tok) (x : Tree) → fs ≡ [] → input ≡ t ∷ place → to ≡ place → rule t ≡ gives x → Made core (inside input fs ts) (Read x to)
-leaf_begun input place to fs ts t x none same kept is = rw kept (node_begun input place fs ts t none same _ (gives_read (rule t) x place is))
+leaf_begun input place to fs ts t x none same kept is =
+    subst (λ l. Made core (inside input fs ts) (Read x l)) (sym kept) (node_begun input place fs ts t none same _ (gives_read (rule t) x place is))
 
 -- .. after which no mark stands
 pub leaf_read : (input place to : List Tok) (t : Tok) (x : Tree) (mark : Option Mark) → input ≡ t ∷ place → to ≡ place → rule t ≡ gives x → mark ≡ None → MarkStands mark (first place) → Reads node input (Read x to)
