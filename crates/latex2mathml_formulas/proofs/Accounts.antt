@@ -1,5 +1,5 @@
 -- What a whole reading answers and counts, from what its parts do.
-use Rattle.std.proofs.Common.{◌≡◌, ℕ, ◌+◌, ◌≤◌, Bool, false, IsTrue, List, [], ◌∷◌, cond, drop, length, sym, take, Some, None, Result, Ok, Err, ap, ◌∙◌, arith}
+use Rattle.std.proofs.Common.{◌≡◌, ℕ, ◌+◌, ◌≤◌, Bool, false, IsTrue, List, [], ◌∷◌, cond, drop, length, take, Some, None, Result, Ok, Err, ap, ◌∙◌, arith}
 use Rattle.std.specs.Prelude.{OnOk, is_ok}
 use Rattle.std.proofs.{lemmas.List.length-map, lemmas.List.Sums.sum_by-take-drop}
 use Rattle.std.specs.Str.{chars, IsUtf8}
@@ -20,13 +20,10 @@ pub whole_list : (text : List ℕ) (l : List Tok) → l ≡ token_list (slices_o
 whole_list text l e = (slices_of false text, cut false text, e)
 
 pub token_count : {A E : Type 0} {text : List ℕ} (r : Result A E) {old new : Unread} {n : ℕ} → old.list ≡ token_list (slices_of false text) → old.tokens ≡ 0 → GoesOn old new → OnOk r (new.list ≡ []) → n ≡ new.tokens → IsTokenCount text (is_ok r) n
-token_count {A} {E} {text} r {old} {new} e none goes all same =
+token_count {text = text} r {old} {new} e none goes all same =
     let whole : length old.list ≡ length (slices_of false text) = ap length e ∙ length-map (slices_of false text) (λ s. s.token) in
-    (slices_of false text, cut false text, omega arith, λ done. omega (arith, ap length (left r all done)))
-  where
-    left : (r : Result A E) → OnOk r (new.list ≡ []) → IsTrue (is_ok r) → new.list ≡ []
-    left (Ok x) all done = all
-    left (Err x) all done = cc
+    let left : IsTrue (is_ok r) → new.list ≡ [] = grind arith in
+    (slices_of false text, cut false text, omega arith, λ done. omega (arith, ap length (left done)))
 
 -- a refusal that has this has that as well
 pub refused_so : {A : Type 0} {P Q : Refusal → Type 0} (r : Result A LatexError) → IfRefused r P → ((q : Refusal) → P q → Q q) → IfRefused r Q
@@ -41,8 +38,7 @@ refusal_count text r {old} {new} e none goes h same =
 pub comparison_count : (text : List ℕ) (old new : Unread) (taken n : ℕ) → old.slices ≡ slices_of false text → old.tokens ≡ 0 → old.backslashes ≡ backslashes (slices_of false text) → old.comparisons ≡ 0 → GoesOn old new → new.backslashes ≡ backslashes new.slices → taken ≡ new.tokens → n ≡ new.comparisons → IsComparisonCount text taken n
 comparison_count text old new taken n is start all none goes left same_taken same =
     let slices = slices_of false text in
-    let stood : old.slices ≡ drop old.tokens slices = is ∙ ap (λ k. drop k slices) (sym start) in
-    let stands : new.slices ≡ drop taken slices = goes.rest slices stood ∙ ap (λ k. drop k slices) (sym same_taken) in
+    let stands : new.slices ≡ drop taken slices = rw same_taken (goes.rest slices (rw start is)) in
     let unread : new.backslashes ≡ backslashes (drop taken slices) = left ∙ ap backslashes stands in
     let parted : backslashes (take taken slices) + backslashes (drop taken slices) ≡ backslashes slices = sum_by-take-drop (λ s. cond (begins_with_backslash s.text) 1 0) slices taken in
     (slices, cut false text, omega arith, omega arith)

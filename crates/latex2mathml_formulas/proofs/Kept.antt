@@ -1,22 +1,21 @@
 -- What is read of tokens whose sizes hold no dollar sign is a tree in which no function has an argument and whose print holds
 -- no dollar sign, or a refusal that is not for dollar signs. Only `keeps` names tokens: it has a line for each rule of which
 -- `search` does not find that it is kept.
-use Rattle.std.proofs.Common.{arith, ◌≢◌, ℕ, Bool, List, [], ◌∷◌, Option, Some, None, refl, codes, cond, sym, subst}
+use Rattle.std.proofs.Common.{arith, ◌≢◌, ℕ, List, [], ◌∷◌, Option, Some, None, refl, subst}
 use Rattle.std.proofs.lemmas.List.Folds.{list_all-append}
-use Rattle.std.specs.Str.{bytes_eq, chars, encode_utf8_all}
+use Rattle.std.specs.Str.{chars, encode_utf8_all}
 use Rattle.latex2mathml_trees.specs.{Arguments.HasNoArgument, Arguments.HaveNoArgument, Style.styled, Style.all_styled}
-use Rattle.latex2mathml_trees.specs.Productions.{environment_tree, fence_of, fenced_matrix, matrix_of, matrix_members, stretched_operator, group_tree}
-use Rattle.latex2mathml_trees.specs.Tree.{Tree, Trees, letter, row, no_trees, more_trees, trees_of}
+use Rattle.latex2mathml_trees.specs.Productions.{environment_tree, fence_of, matrix_of, matrix_members, group_tree}
+use Rattle.latex2mathml_trees.specs.Tree.{Tree, Trees, row, no_trees, more_trees, trees_of}
 use Rattle.latex2mathml_formulas.specs.{Dollars.IsDollarFree, Dollars.free_both, Rendering.IsFormulaRefusal, Rendering.IsRendering}
-use Rattle.latex2mathml_formulas.specs.Grammar.{environment, sized, stretched_or_refused, with_fence, Sort, Rule, gives, refuses, reads_part, reads_members, reads_sign, takes_token, sees_token, takes_letters, rule, Outcome, Read, Refused, first_or_end, AreLetters, Reads, core_at_end, core_begun, single_read, node_read, ReadsRule, rule_gives, rule_refuses, part_read, part_refused, members_read, members_refused, sign_stands, sign_missing, token_taken, token_at_end, token_seen, letters_taken, ReadsAll, formula_ends, group_ends, never_closed, member_read, later_refused, member_refused, Refuses, ReadsFormula}
+use Rattle.latex2mathml_formulas.specs.Grammar.{environment, with_fence, Sort, Rule, gives, refuses, reads_part, reads_members, reads_sign, takes_token, sees_token, takes_letters, rule, Outcome, Read, Refused, first_or_end, AreLetters, Reads, core_at_end, core_begun, single_read, node_read, ReadsRule, rule_gives, rule_refuses, part_read, part_refused, members_read, members_refused, sign_stands, sign_missing, token_taken, token_at_end, token_seen, letters_taken, ReadsAll, formula_ends, group_ends, never_closed, member_read, later_refused, member_refused, Refuses, ReadsFormula}
 use Rattle.latex2mathml_formulas.specs.{RenderingLaws.IsNeverForDollars, RenderingLaws.RendersDollarFree, Spelling.HasTokens}
 use Rattle.latex2mathml_tokens.specs.{Refusal.InvalidNumberOfDollarSigns, declared.attribute.Variant.Variant}
-use Rattle.latex2mathml_tokens.specs.Tok.{Tok, EOF, Begin, Paren, LBrace, Left, Right, Middle, Sqrt, Style, Big, Binom}
+use Rattle.latex2mathml_tokens.specs.Tok.{Tok, EOF, Begin, LBrace, Left, Right, Middle, Sqrt, Style, Big, Binom}
 use Rattle.latex2mathml_tokens.specs.declared.attribute.ColumnAlign.TheVariants as align
 use Rattle.latex2mathml_formulas.proofs.DollarTokens.{IsFree, AreFree, free_tokens}
 use Rattle.latex2mathml_formulas.proofs.DollarTexts.{free_content, free_decimal, free_display, free_letter, free_members, free_operator, free_parts, free_pieces, free_style_open, free_value}
 use Rattle.latex2mathml_trees.specs.Print.{print, prints, members_print}
-use Rattle.latex2mathml_tokens.specs.{Attributes.display_text}
 
 abbrev IsKept : Tree → Type 0
 IsKept x = HasNoArgument x × IsDollarFree (print x)
@@ -35,66 +34,42 @@ Keeps (takes_token then) = (t : Tok) → Keeps (then t)
 Keeps (sees_token then) = (t : Tok) → Keeps (then t)
 Keeps (takes_letters then) = (cs : List ℕ) → Keeps (then cs)
 
-keeps_group : (xs : List Tree) → AreKept (trees_of xs) → IsKept (group_tree xs)
-keeps_group [] h = (tt, refl)
-keeps_group (x ∷ []) h = (h.0.0, (free_parts (print x) [] h.1).0)
-keeps_group (x ∷ y ∷ ys) h = (h.0, free_both (prints (trees_of (x ∷ y ∷ ys))) _ h.1 refl)
+keeps_group : (xs : List Tree) → HaveNoArgument (trees_of xs) → IsDollarFree (prints (trees_of xs)) → IsKept (group_tree xs)
+keeps_group xs none free = grind (arith, list_all-append)
 
 mutual
-  keeps_style : (v : Variant) (x : Tree) → IsKept x → IsKept (styled v x)
-  keeps_style v (letter c own) h = (tt, free_letter c v)
-  keeps_style v (row members) h =
-      let each = keeps_styles v members (h.0, (free_parts (prints members) _ h.1).0) in
+  keeps_style : (v : Variant) (x : Tree) → HasNoArgument x → IsDollarFree (print x) → IsKept (styled v x)
+  keeps_style v (row members) none free =
+      let each = keeps_styles v members none (free_parts (prints members) _ free).0 in
       (each.0, free_both (prints (all_styled v members)) _ each.1 refl)
-  keeps_style v x h = h
+  keeps_style v x none free = grind (arith, free_letter)
 
-  keeps_styles : (v : Variant) (xs : Trees) → AreKept xs → AreKept (all_styled v xs)
-  keeps_styles v no_trees h = h
-  keeps_styles v (more_trees x rest) h =
-      let each = free_parts (print x) (prints rest) h.1 in
-      let one = keeps_style v x (h.0.0, each.0) in
-      let others = keeps_styles v rest (h.0.1, each.1) in
-      ((one.0, others.0), free_both (print (styled v x)) _ one.1 others.1)
-
-keeps_size : (size : List ℕ) (t : Tok) → IsDollarFree size → Keeps (sized size t)
-keeps_size size (Paren text) h = (tt, simp (list_all-append, free_value size h, free_content))
-keeps_size size t h = λ e. cc
+  keeps_styles : (v : Variant) (xs : Trees) → HaveNoArgument xs → IsDollarFree (prints xs) → AreKept (all_styled v xs)
+  keeps_styles v no_trees none free = (tt, refl)
+  keeps_styles v (more_trees x rest) none free =
+      let each = free_parts (print x) (prints rest) free in
+      grind (arith, list_all-append, keeps_style v x none.0 each.0, keeps_styles v rest none.1 each.1)
 
 keeps_fence : (place t : Tok) (fence : Option (List ℕ)) (then : List ℕ → Rule) → ((text : List ℕ) → Keeps (then text)) → Keeps (with_fence place t fence then)
 keeps_fence place t fence then h = grind arith
 
-keeps_stretch : (t : Tok) (x : Tree) → Keeps (stretched_or_refused t (stretched_operator x))
-keeps_stretch t x = grind (arith, list_all-append, free_content)
-
-keeps_spread : (x : Tree) → IsKept x → HaveNoArgument (matrix_members x) × IsDollarFree (members_print (matrix_members x))
-keeps_spread (row members) h = (h.0, free_members members (free_parts (prints members) _ h.1).0)
-keeps_spread x h = ((h.0, tt), free_members (more_trees x no_trees) (free_both (print x) [] h.1 refl))
-
-keeps_choice : (name : List ℕ) (b : Bool) (x : Tree) (others : Option Tree) → IsKept x → Keeps (environment name others) → Keeps (environment name (cond b (Some x) others))
-keeps_choice name b x others h i = grind arith
-
 keeps_environment : (name : List ℕ) (x : Tree) → IsKept x → Keeps (environment name (environment_tree name x))
 keeps_environment name x h =
-    let members = keeps_spread x h in
+    let members : HaveNoArgument (matrix_members x) × IsDollarFree (members_print (matrix_members x)) = grind (arith, list_all-append, free_members) in
     let free : IsDollarFree (print (matrix_of align.Center x)) = free_both (members_print (matrix_members x)) _ members.1 refl in
-    let fenced = λ (rest : List ℕ) (k : IsDollarFree rest). free_both (print (matrix_of align.Center x)) rest free k in
-    keeps_choice name (bytes_eq name (codes "matrix")) (matrix_of align.Center x) _ (members.0, free)
-    (keeps_choice name (bytes_eq name (codes "align")) (matrix_of align.Left x) _ (members.0, free)
-    (keeps_choice name (bytes_eq name (codes "pmatrix")) (fenced_matrix (codes "(") (codes ")") x) _ (members.0, fenced _ refl)
-    (keeps_choice name (bytes_eq name (codes "bmatrix")) (fenced_matrix (codes "[") (codes "]") x) _ (members.0, fenced _ refl)
-    (keeps_choice name (bytes_eq name (codes "vmatrix")) (fenced_matrix (codes "|") (codes "|") x) None (members.0, fenced _ refl) (λ e. cc)))))
+    grind (arith, members, free, list_all-append)
 
 -- the rule of each token
 keeps : (t : Tok) → IsFree t → Keeps (rule t)
-keeps LBrace h = λ xs none free. keeps_group xs (none, free)
-keeps Sqrt h = (λ xs none free x. (let degree = keeps_group xs (none, free) in search free_both), λ x. search free_both)
+keeps LBrace h = keeps_group
+keeps Sqrt h = (λ xs none free x. (let degree = keeps_group xs none free in search free_both), λ x. search free_both)
 keeps (Binom None) h = λ x a p y b q. ((a, b), simp (list_all-append, p, q, free_decimal))
 keeps (Binom (Some display)) h = λ x a p y b q. (((a, b), tt), simp (list_all-append, p, q, free_decimal, free_style_open))
-keeps (Style variant) h = λ x none free. keeps_style variant x (none, free)
-keeps (Big size) h = λ t. keeps_size size t h
-keeps Left h = λ t. keeps_fence Left t (fence_of t) _ (λ opening xs none free u. keeps_fence Right u (fence_of u) _ (λ close. (let group = keeps_group xs (none, free) in search (free_both, free_content))))
-keeps Middle h = λ t x none free. keeps_stretch t x
-keeps Begin h = λ before cs behind xs none free again ds last. keeps_environment (encode_utf8_all cs) (group_tree xs) (keeps_group xs (none, free))
+keeps (Style variant) h = keeps_style variant
+keeps (Big size) h = λ t. grind (arith, list_all-append, free_value size h, free_content)
+keeps Left h = λ t. keeps_fence Left t (fence_of t) _ (λ opening xs none free u. keeps_fence Right u (fence_of u) _ (λ close. (let group = keeps_group xs none free in search (free_both, free_content))))
+keeps Middle h = λ t x none free. grind (arith, list_all-append, free_content)
+keeps Begin h = λ before cs behind xs none free again ds last. keeps_environment (encode_utf8_all cs) (group_tree xs) (keeps_group xs none free)
 keeps t h = search free_pieces depth 8
 
 -- what is read is kept, and the tokens after it are free
@@ -147,8 +122,7 @@ reading_is_kept text ts xs h d = (read_all d (free_tokens None text ts h)).0
 pub dollar_free : (text : List ℕ) → RendersDollarFree text
 unfolding IsRendering
 dollar_free text display markup (ts, h, d) =
-    subst IsDollarFree (sym d.2)
-    (free_both (display_text display) _ (free_display display) (free_both (prints (trees_of d.0)) _ (reading_is_kept (chars text) ts d.0 h d.1).1 refl))
+    rw d.2 (search (free_both, free_display, (reading_is_kept (chars text) ts d.0 h d.1).1))
 
 -- no formula is refused for dollar signs
 pub never_dollars : (text : List ℕ) → IsNeverForDollars text

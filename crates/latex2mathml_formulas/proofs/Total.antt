@@ -16,15 +16,10 @@ with_outcome : {A : Type 0} {P Q : Outcome A → Type 0} {j k : ℕ} → Comes A
 with_outcome (comes_to x m fits d) h f = comes_to x m (omega arith) (f (Read x m) d)
 with_outcome (is_refused r d) h f = is_refused r (f (Refused r) d)
 
--- a part that has an outcome, and then what follows it
-part_total : {s : Sort} {then : Tree → Rule} {l : List Tok} {j k : ℕ} → Comes Tree (Reads s l) j → j ≤ k → ((x : Tree) (m : List Tok) → length m ≤ j → Comes Tree (ReadsRule (then x) m) (length m)) → Comes Tree (ReadsRule (reads_part s then) l) k
-part_total (comes_to x m fits d) h follow = with_outcome (follow x m fits) (omega arith) (λ o. part_read d)
-part_total (is_refused r d) h follow = is_refused r (part_refused d)
-
--- members that have an outcome, and then what follows them
-members_total : {end : Tok} {then : List Tree → Rule} {l : List Tok} {k : ℕ} → Comes (List Tree) (ReadsAll (Some end) l) k → ((xs : List Tree) (m : List Tok) → length m ≤ k → Comes Tree (ReadsRule (then xs) m) (length m)) → Comes Tree (ReadsRule (reads_members end then) l) k
-members_total (comes_to xs m fits d) follow = with_outcome (follow xs m fits) fits (λ o. members_read d)
-members_total (is_refused r d) follow = is_refused r (members_refused d)
+-- a part or members that have an outcome, and then what follows them
+after : {A : Type 0} {P : Outcome A → Type 0} {then : A → Rule} {r : Rule} {l : List Tok} {j k : ℕ} → Comes A P j → j ≤ k → ((x : A) (m : List Tok) → length m ≤ j → Comes Tree (ReadsRule (then x) m) (length m)) → ((x : A) (m : List Tok) (o : Outcome Tree) → P (Read x m) → ReadsRule (then x) m o → ReadsRule r l o) → ((q : Refusal) → P (Refused q) → ReadsRule r l (Refused q)) → Comes Tree (ReadsRule r l) k
+after (comes_to x m fits d) h follow read refused = with_outcome (follow x m fits) (omega arith) (λ o. read x m o d)
+after (is_refused q d) h follow read refused = is_refused q (refused q d)
 
 -- a sign that stands first, and what follows it, or what is read otherwise
 sign_total : {t : Tok} {a b : Rule} (l : List Tok) → ((m : List Tok) → length m < length l → Comes Tree (ReadsRule a m) (length m)) → Comes Tree (ReadsRule b l) (length l) → Comes Tree (ReadsRule (reads_sign t a b) l) (length l)
@@ -59,9 +54,9 @@ rule_total : (k : ℕ) → HasOutcomes k → (r : Rule) (l : List Tok) → lengt
 rule_total k has (gives x) l h = comes_to x l (omega arith) rule_gives
 rule_total k has (refuses r) l h = is_refused r rule_refuses
 rule_total k has (reads_part s then) l h =
-    part_total (has.of_sort s l h) (omega arith) (λ x m fits. rule_total k has (then x) m (omega arith))
+    after (has.of_sort s l h) (omega arith) (λ x m fits. rule_total k has (then x) m (omega arith)) (λ x m o. part_read) (λ q. part_refused)
 rule_total k has (reads_members end then) l h =
-    members_total (has.of_all (Some end) l h) (λ xs m fits. rule_total k has (then xs) m (omega arith))
+    after (has.of_all (Some end) l h) (omega arith) (λ xs m fits. rule_total k has (then xs) m (omega arith)) (λ xs m o. members_read) (λ q. members_refused)
 rule_total k has (reads_sign t a b) l h =
     sign_total l (λ m fits. rule_total k has a m (omega arith)) (rule_total k has b l h)
 rule_total k has (takes_token then) [] h = with_outcome (rule_total k has (then EOF) [] h) (omega arith) (λ o. token_at_end)
@@ -78,7 +73,7 @@ core_total k has (t ∷ l) h = with_outcome (rule_total k has (rule t) l (omega 
 -- so a single has one
 single_total : (k : ℕ) → HasOutcomes k → (l : List Tok) → length l < suc k → Comes Tree (Reads single l) (length l - 1)
 single_total k has l h =
-    let read = part_total {k = length l - 1} (core_total k has l h) (omega arith) (λ x m fits. sign_total m (λ n fewer. comes_to _ n (omega arith) rule_gives) (comes_to x m (omega arith) rule_gives)) in
+    let read = after {k = length l - 1} (core_total k has l h) (omega arith) (λ x m fits. sign_total m (λ n fewer. comes_to _ n (omega arith) rule_gives) (comes_to x m (omega arith) rule_gives)) (λ x m o. part_read) (λ q. part_refused) in
     with_outcome read (omega arith) (λ o. single_read)
 
 -- so each of the three has one
@@ -87,7 +82,7 @@ sort_total k has core l h = core_total k has l h
 sort_total k has single l h = single_total k has l h
 sort_total k has node l h =
     let script = λ (r : Rule) (n : List Tok) (fewer : length n < length l - 1). rule_total k has r n (omega arith) in
-    let read = part_total {k = length l - 1} (single_total k has l h) (omega arith) (λ x m fits. sign_total m (λ n fewer. script _ n (omega arith)) (sign_total m (λ n fewer. script _ n (omega arith)) (comes_to x m (omega arith) rule_gives))) in
+    let read = after {k = length l - 1} (single_total k has l h) (omega arith) (λ x m fits. sign_total m (λ n fewer. script _ n (omega arith)) (sign_total m (λ n fewer. script _ n (omega arith)) (comes_to x m (omega arith) rule_gives))) (λ x m o. part_read) (λ q. part_refused) in
     with_outcome read (omega arith) (λ o. node_read)
 
 -- a member that has an outcome, and then the members after it

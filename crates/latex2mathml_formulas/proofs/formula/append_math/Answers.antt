@@ -23,14 +23,12 @@ nodes-preserved c =
     }
 
 pub nodes-smaller : goal.nodes-smaller
-nodes-smaller c =
-    let found = stood c.take-lexeme.result c.nodes.parser.reader.list c.take-lexeme.new.self.list c.in_default.not-EOF c.take-lexeme.ensures.token c.take-lexeme.ensures.list in
-    omega (arith, ap length found, c.in_ok-is_read.ensures.counted.counts.tokens, c.in_ok-is_read.ensures.counted.counts.more)
+nodes-smaller c = grind (arith, stood)
 
 pub returns-in_err-is_read-clause-counted : goal.returns-in_err-is_read-clause-counted
 returns-in_err-is_read-clause-counted c =
-    let found = stood c.take-lexeme.result c.nodes.parser.reader.list c.take-lexeme.new.self.list c.in_default.not-EOF c.take-lexeme.ensures.token c.take-lexeme.ensures.list in
-    counted_on 0 0 _ _ _ c.nodes.invariant.counted (counted_taken _ c.nodes.parser _ _ found c.take-lexeme.ensures.counts refl c.in_err-is_read.ensures.counted)
+    let found = stood _ _ _ c.in_default.not-EOF c.take-lexeme.ensures.token c.take-lexeme.ensures.list in
+    counted_on 0 0 _ _ _ c.nodes.invariant.counted (counted_taken _ _ _ _ found c.take-lexeme.ensures.counts refl c.in_err-is_read.ensures.counted)
 
 pub returns-then-not-is_read : goal.returns-then-not-is_read
 returns-then-not-is_read c =
@@ -40,7 +38,7 @@ returns-then-not-is_read c =
     record {
       rendering = tt;
       refused = formula_refused c.refusal.ensures.refusal found refused c.nodes.invariant.nodes;
-      within = within_node _ c.refusal.ensures.refusal refused c.nodes.invariant.nodes (omega (arith, ap length found, c.in_ok-is_read.ensures.counted.counts.tokens, c.in_ok-is_read.ensures.counted.counts.more, c.refusal.ensures.counted.counts.tokens, c.refusal.ensures.counted.counts.more));
+      within = within_node _ c.refusal.ensures.refusal refused c.nodes.invariant.nodes (grind (arith, found));
       all = tt;
       counted = counted_on 0 0 _ _ _ (counted_on 0 0 _ _ _ c.nodes.invariant.counted counted) c.refusal.ensures.counted;
     }
