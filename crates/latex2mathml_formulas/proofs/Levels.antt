@@ -114,9 +114,9 @@ node_due (part single K) o k = k
 node_due l o k = k
 
 -- a prime is taken, where more than a core is due
-pub prime_taken : (l : Level) (x : Tree) (place to : List Tok) → due_of l ≢ due.Core → place ≡ prime ∷ to → RuleLeads (gives x) (Made core l) place → Made single l (Read (superscript x prime_mark) to)
-prime_taken (part core K) x place to h same k = absurd (h refl)
-prime_taken l x place to h same k = (given k).to _ (sign_stands same rule_gives)
+pub prime_taken : (l : Level) (x : Tree) (to : List Tok) → due_of l ≢ due.Core → RuleLeads (gives x) (Made core l) (prime ∷ to) → Made single l (Read (superscript x prime_mark) to)
+prime_taken (part core K) x to h k = absurd (h refl)
+prime_taken l x to h k = (given k).to _ (sign_stands refl rule_gives)
 
 -- a sign is taken, where a script may follow: a node is due
 pub sign_taken : (l : Level) (sign : Sign) (x : Tree) (place to : List Tok) → takes_script (due_of l) ≡ true → place ≡ sign_token sign ∷ to → Made single l (Read x place) → RuleLeads (reads_part node (λ y. gives (script sign x y))) (Made node l) to

@@ -26,8 +26,8 @@ pub put_on : (input : List Tok) (fs gs : List Frame) (f : Frame) (ts : List Tree
 put_on input fs gs f ts place e k = subst (λ l. Leads l place) (sym (inside_push input fs gs f ts e)) (entered (standing_of f ts) (sort_made f) _ place k)
 
 -- a frame is taken off
-pub taken_off : (input : List Tok) (fs gs : List Frame) (f : Frame) (ts : List Tree) (o : Outcome Tree) → gs ≡ fs ++ f ∷ [] → Accepts (inside input gs ts) o → Accepts (within input fs f ts) o
-taken_off input fs gs f ts o e k = subst (λ l. Accepts l o) (inside_push input fs gs f ts e) k
+pub taken_off : (input : List Tok) (fs : List Frame) (f : Frame) (ts : List Tree) (o : Outcome Tree) → Accepts (inside input (fs ++ f ∷ []) ts) o → Accepts (within input fs f ts) o
+taken_off input fs f ts o k = subst (λ l. Accepts l o) (inside_push input fs _ f ts refl) k
 
 -- What is due.
 
@@ -54,8 +54,8 @@ may_begin_at_end (due.Member end) h = h end refl
 may_begin_at_end d h = tt
 
 -- no token is left
-pub nothing_begun : (input : List Tok) (fs : List Frame) (ts : List Tree) (d : Due) → d ≡ innermost fs → ((end : GroupEnd) → d ≡ due.Member end → ⊥) → Leads (inside input fs ts) [] → RuleLeads (rule EOF) (Made core (inside input fs ts)) []
-nothing_begun input fs ts d e h k = begun_at_end (inside input fs ts) (subst (λ x. MayBegin x []) (e ∙ sym (due_of_inside input fs ts)) (may_begin_at_end d h)) k
+pub nothing_begun : (input : List Tok) (fs : List Frame) (ts : List Tree) → ((end : GroupEnd) → innermost fs ≡ due.Member end → ⊥) → Leads (inside input fs ts) [] → RuleLeads (rule EOF) (Made core (inside input fs ts)) []
+nothing_begun input fs ts h k = begun_at_end (inside input fs ts) (subst (λ x. MayBegin x []) (sym (due_of_inside input fs ts)) (may_begin_at_end (innermost fs) h)) k
 
 -- Refusals.
 

@@ -11,18 +11,6 @@ returns-in-Members-clause-holds c = λ input k.
     let enough = c.requires.trees in
     c.put_back.ensures.holds input (member_read input p.frames.stack.items _ _ (trees_in p.parts) (omega arith) (rw c.in-Members.is at k))
 
-pub returns-in-Operand-clause-holds : goal.returns-in-Operand-clause-holds
-returns-in-Operand-clause-holds c = λ input k.
-    c.put.ensures.holds input (last_read input c.args.self.now _ (rw c.in-Operand.is at c.requires.fit) (rw c.in-Operand.is at k))
-
-pub returns-in-Last-clause-holds : goal.returns-in-Last-clause-holds
-returns-in-Last-clause-holds c = λ input k.
-    c.put-in-Last.ensures.holds input (last_read input c.args.self.now _ (rw c.in-Last.is at c.requires.fit) (rw c.in-Last.is at k))
-
-pub returns-in-First-clause-holds : goal.returns-in-First-clause-holds
-returns-in-First-clause-holds c = λ input k.
-    c.put_back-in-First.ensures.holds input (first_read input c.args.self.now _ (rw c.in-First.is at c.requires.fit) (rw c.in-First.is at k))
-
 pub returns-in_ok-put-in-Script-clause-holds : goal.returns-in_ok-put-in-Script-clause-holds
 returns-in_ok-put-in-Script-clause-holds c = λ input k.
     let p = c.args.self.now in

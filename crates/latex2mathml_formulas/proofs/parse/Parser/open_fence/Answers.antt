@@ -12,9 +12,3 @@ returns-in_default-clause-holds c = λ input k.
     let p = c.args.self.now in
     c.refuse_fence.ensures.holds input
     (core_refused input p.frames.stack.items (trees_in p.parts) (rw c.in_default.ensures at (taken c.take-got.ensures.token c.take-got.ensures.list k)))
-
-pub returns-in_default-clause-step : goal.returns-in_default-clause-step
-returns-in_default-clause-step c = record {
-  counted = counted_skipped c.args.self.now _ _ 1 c.take-got.ensures.list c.take-got.ensures.counts refl c.refuse_fence.ensures.step.counted;
-  follows = search rules;
-}
