@@ -37,7 +37,7 @@ impl<'a> Parser<'a> {
     }
 
     /// Gives a frame, which was taken off, the part that it waits for.
-    #[tactic(auto, using(crate::proofs::Combining::last_read, crate::proofs::Combining::first_read))]
+    #[tactic(auto, using(crate::proofs::Combining::member_read, crate::proofs::Combining::last_read, crate::proofs::Combining::first_read))]
     fn deliver(&mut self, frame: Frame<'a>) -> Result<State, AllocError>
         requires fit { unfit frame ≡ 0 }
         requires trees { HasTrees (tree_count frame + 1) self.old }
@@ -103,7 +103,6 @@ impl<'a> Parser<'a> {
     }
 
     /// Stretches the operator that is the last tree, or refuses the lexeme that stood after `\middle`.
-    #[tactic(auto, using(crate::proofs::Stacks::core_refused))]
     fn end_stretch(&mut self, got: Lexeme<'a>) -> Result<State, AllocError>
         requires { HasTrees 1 self.old }
         ensures holds { (input : List Tok) → GoesOnBy (stretched_or_refused (lexeme_tok got.entry) (stretched_operator (top (trees_in self.old.parts)))) 1 input self.old → IfOk result (Holds input self.new) }
