@@ -1,10 +1,11 @@
 -- The sizes that tokens of a text have hold no dollar sign.
-use Rattle.std.proofs.Common.{◌≡◌, ℕ, Bool, true, List, [], ◌∷◌, Option, map, inl, inr, sym, subst}
+use Rattle.std.proofs.Common.{arith, ◌≡◌, ℕ, Bool, true, List, [], ◌∷◌, Option, map, inl, inr, sym, subst}
+use Rattle.std.proofs.lemmas.Bool.Decides.{nat_tests}
 use Rattle.std.specs.List.{list_all}
 use Rattle.latex2mathml_formulas.specs.Dollars.{is_other}
-use Rattle.latex2mathml_formulas.specs.Spelling.{Slice, HasSlices, HasTokens, takes_digit}
+use Rattle.latex2mathml_formulas.specs.Spelling.{Slice, HasSlices, HasTokens, character_token, takes_digit}
 use Rattle.latex2mathml_tokens.specs.Tok.{Tok, Big}
-use Rattle.latex2mathml_formulas.proofs.Sights.{IsKnown, IsPlain, known, of_character}
+use Rattle.latex2mathml_formulas.proofs.Sights.{IsKnown, IsPlain, known}
 
 -- the size of the token, if it is one, holds no dollar sign
 abbrev pub IsFree : Tok → Type 0
@@ -19,9 +20,11 @@ free_plain : (t : Tok) → IsPlain t → IsFree t
 free_plain (Big size) h = h
 free_plain t h = tt
 
+free_character : (c : ℕ) → IsFree (character_token c)
+free_character c = grind (arith, nat_tests)
+
 free_known : (w : List ℕ) (t : Tok) → IsKnown w t → IsFree t
-free_known w t (inl (c, e, f)) =
-    subst IsFree (sym f) (of_character IsFree c (λ h. tt) (λ h. tt) (λ h. tt) (λ h. tt) tt tt tt tt tt tt)
+free_known w t (inl (c, e, f)) = subst IsFree (sym f) (free_character c)
 free_known w t (inr plain) = free_plain t plain
 
 -- the tokens of slices

@@ -108,15 +108,15 @@ unscripted (part single K) x place h i k = k
 unscripted l x place h i k = k.to _ (sign_missing h (sign_missing i rule_gives))
 
 -- a node is a node wherever it is due
-pub node_due : (l : Level) (o : Outcome Tree) → Made node l o → Accepts l o
-node_due (part core K) o k = k
-node_due (part single K) o k = k
-node_due l o k = k
+pub node_due : (l : Level) (x : Tree) (place : List Tok) → RuleLeads (gives x) (Made node l) place → Accepts l (Read x place)
+node_due (part core K) x place k = given k
+node_due (part single K) x place k = given k
+node_due l x place k = given k
 
 -- a prime is taken, where more than a core is due
-pub prime_taken : (l : Level) (x : Tree) (place to : List Tok) → due_of l ≢ due.Core → place ≡ prime ∷ to → RuleLeads (gives x) (Made core l) place → Made single l (Read (superscript x prime_mark) to)
-prime_taken (part core K) x place to h same k = absurd (h refl)
-prime_taken l x place to h same k = (given k).to _ (sign_stands same rule_gives)
+pub prime_taken : (l : Level) (x : Tree) (to : List Tok) → due_of l ≢ due.Core → RuleLeads (gives x) (Made core l) (prime ∷ to) → Made single l (Read (superscript x prime_mark) to)
+prime_taken (part core K) x to h k = absurd (h refl)
+prime_taken l x to h k = (given k).to _ (sign_stands refl rule_gives)
 
 -- a sign is taken, where a script may follow: a node is due
 pub sign_taken : (l : Level) (sign : Sign) (x : Tree) (place to : List Tok) → takes_script (due_of l) ≡ true → place ≡ sign_token sign ∷ to → Made single l (Read x place) → RuleLeads (reads_part node (λ y. gives (script sign x y))) (Made node l) to
@@ -132,35 +132,28 @@ passed (u ∷ us) to t e f = cc
 
 -- Refusals.
 
-as_refused : (s t : Sort) (K : Outcome Tree → Type 0) (r : Refusal) → As s t K (Refused r) → K (Refused r)
+-- a core, a single or a node that refuses
+pub as_refused : (s t : Sort) (K : Outcome Tree → Type 0) (r : Refusal) → As s t K (Refused r) → K (Refused r)
 as_refused core single K r k = k
 as_refused core node K r k = k
 as_refused single node K r k = k
 as_refused s t K r k = k
 
--- a core, a single or a node that refuses
-pub made_refused : (s : Sort) (l : Level) (r : Refusal) → Made s l (Refused r) → Accepts l (Refused r)
-made_refused s l r k = as_refused s (sort_of l) (Accepts l) r k
-
 -- what is begun at a level refuses there
 pub entered_refused : (f : Standing) (s : Sort) (l : Level) (r : Refusal) → Accepts (level_of_rule f s l) (Refused r) → Accepts l (Refused r)
-entered_refused (awaits_part t then) s l r k = made_refused s l r k
-entered_refused (awaits_members end then) s l r k = made_refused s l r k
+entered_refused (awaits_part t then) s l r k = as_refused s (sort_of l) (Accepts l) r k
+entered_refused (awaits_members end then) s l r k = as_refused s (sort_of l) (Accepts l) r k
 
 -- a group that is open where no token is left
 pub unclosed : (l : Level) (end : GroupEnd) → due_of l ≡ due.Member end → Leads l [] → Accepts l (Refused (UnexpectedToken (end_token end) EOF))
-unclosed (part core K) end e k = cc
-unclosed (part single K) end e k = cc
-unclosed (part node K) end e k = cc
 unclosed (members other K) end e k =
     let same : end ≡ other = cc in
     rw same (k _ never_closed)
-
--- a rule without parts is read at once
-pub gives_read : (r : Rule) (x : Tree) (place : List Tok) → r ≡ gives x → ReadsRule r place (Read x place)
-gives_read r x place is = rw is rule_gives
+unclosed (part core K) end e k = cc
+unclosed (part s K) end e k = cc
 
 -- a token without parts, after which no mark stands, is a node
 pub lone_node : (t : Tok) (x : Tree) (l place : List Tok) → l ≡ t ∷ place → rule t ≡ gives x → first place ≢ Some prime → first place ≢ Some Underscore → first place ≢ Some Circumflex → Reads node l (Read x place)
 lone_node t x l place stood is h i j =
-    rw stood (node_read (part_read (single_read (part_read (core_begun (gives_read (rule t) x place is)) (sign_missing h rule_gives))) (sign_missing i (sign_missing j rule_gives))))
+    let read : ReadsRule (rule t) place (Read x place) = rw is rule_gives in
+    rw stood (node_read (part_read (single_read (part_read (core_begun read) (sign_missing h rule_gives))) (sign_missing i (sign_missing j rule_gives))))

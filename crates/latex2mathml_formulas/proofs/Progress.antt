@@ -25,7 +25,7 @@ pub OpensFor-trans : (a b c : Unread) (l m n : ℕ) → OpensFor a b l m → Ope
 OpensFor-trans a b c l m n h i = record { taken = omega arith; openers = omega arith }
 
 -- a token is taken, and a frame is opened for the one before it
-pub OpensFor-one : (t : Tok) (a b : Unread) (m n : ℕ) → a.list ≡ t ∷ b.list → GoesOn a b → n ≤ m + 1 → OpensFor a b (m + 1) (n + opens t)
+pub OpensFor-one : (t : Tok) (a b : Unread) (m n : ℕ) → a.list ≡ t ∷ b.list → GoesOn a b → n ≤ m → OpensFor a b m (n + opens t)
 OpensFor-one t a b m n stood counts h =
     let shorter : length a.list ≡ 1 + length b.list = ap length stood ∙ omega arith in
     let fewer : openers a.list ≡ opens t + openers b.list = ap openers stood ∙ sum_by-cons opens t b.list in

@@ -1,16 +1,16 @@
 -- The first character of a text, after white space, shows whether the first token is a prime, a sign or an opening bracket.
-use Rattle.std.proofs.Common.{◌≡◌, ◌≢◌, ◌⊎◌, inl, inr, ℕ, Bool, true, false, not, ◌&&◌, ◌==◌, List, [], ◌∷◌, ◌++◌, codes, Option, Some, None, unwrap_or, refl, sym, ap, subst, ◌∙◌, cond, nat_eq}
-use Rattle.std.proofs.{lemmas.Bool.and_parts, lemmas.Bool.both_ways, lemmas.Bool.cond_both}
+use Rattle.std.proofs.Common.{◌≡◌, ◌≢◌, ◌⊎◌, inl, inr, ℕ, Bool, true, false, not, ◌&&◌, ◌==◌, List, [], ◌∷◌, ◌++◌, codes, Option, Some, None, unwrap_or, refl, sym, ap, subst, ◌∙◌, cond, nat_eq, arith}
+use Rattle.std.proofs.{lemmas.Bool.and_parts, lemmas.Bool.both_ways, lemmas.Bool.Decides.nat_tests}
 use Rattle.std.specs.{Char.encode_utf8, Char.is_ascii_alphabetic, List.list_all, Str.byte, Str.bytes_eq, Str.encode_utf8_all}
 use Rattle.latex2mathml_tokens.specs.Commands.{command_entries, command_token, entry_token}
 use Rattle.latex2mathml_formulas.specs.Characters.{◌∈◌, head}
 use Rattle.latex2mathml_formulas.specs.{Cutting.first_slice, Cutting.slice, Cutting.slices_of, Dollars.is_other}
-use Rattle.latex2mathml_formulas.specs.{Grammar.first, Lexing.BeginsWith, Lexing.IsStart, Marks.IsSeen, Marks.Shows}
+use Rattle.latex2mathml_formulas.specs.{Grammar.first, Grammar.prime, Lexing.BeginsWith, Lexing.IsStart, Marks.IsSeen, Marks.Shows}
 use Rattle.latex2mathml_formulas.specs.Spelling.{Slice, SpellsAt, character_token, character, colon, colon_equals, number, digit, symbol_command, letter_command, lone_backslash, is_operator, is_paren, takes_digit}
 use Rattle.latex2mathml_formulas.specs.Unread.{token_list}
 use Rattle.latex2mathml_tokens.specs.Tok.{Tok, Illegal, EOF, Paren, LBrace, RBrace, Underscore, Circumflex, Ampersand, Big, Operator, Letter, Command}
 use Rattle.latex2mathml_tokens.specs.declared.attribute.Variant.TheVariants.{Normal, Italic}
-use Rattle.latex2mathml_formulas.proofs.{FirstSlices.slice_of, OneList.Begun, OneList.begun, OneList.cut_step, OneList.only}
+use Rattle.latex2mathml_formulas.proofs.{FirstSlices.slice_of, OneList.Begun, OneList.begun, OneList.cut_step}
 use Rattle.latex2mathml_formulas.proofs.Starts.{none_left, step_from}
 
 -- the token is no end of a formula, no prime, no sign and no opening bracket, and no size with a dollar sign
@@ -26,33 +26,26 @@ is_plain t = true
 abbrev pub IsPlain : Tok → Type 0
 IsPlain t = is_plain t ≡ true
 
-abbrev entries_are_plain : List (List ℕ × Tok) → Bool
-entries_are_plain [] = true
-entries_are_plain (r ∷ rs) = is_plain r.1 && entries_are_plain rs
-
 -- computed over the whole table
-plain-command_entries : entries_are_plain command_entries ≡ true
+plain-command_entries : list_all (λ r. is_plain r.1) command_entries ≡ true
 unfolding command_entries encode_utf8
 plain-command_entries = refl
 
-abbrev found_is_plain : Option Tok → Bool
-found_is_plain None = true
-found_is_plain (Some t) = is_plain t
+-- the first entry is found, or a later one
+found_first : (t other : Tok) (later : Option Tok) (p : Bool) → IsPlain t → IsPlain (unwrap_or later other) → IsPlain (unwrap_or (cond p (Some t) later) other)
+found_first t other later true h l = h
+found_first t other later false h l = l
 
-plain_entry : (rs : List (List ℕ × Tok)) (name : List ℕ) → entries_are_plain rs ≡ true → found_is_plain (entry_token rs name) ≡ true
+plain_entry : (rs : List (List ℕ × Tok)) (name : List ℕ) → list_all (λ r. is_plain r.1) rs ≡ true → IsPlain (unwrap_or (entry_token rs name) (Command name))
 plain_entry [] name h = refl
 plain_entry (r ∷ rs) name h =
-    let parts = and_parts (is_plain r.1) (entries_are_plain rs) h in
-    cond_both (bytes_eq r.0 name) (Some r.1) (entry_token rs name) (λ o. found_is_plain o ≡ true) (λ _. parts.0) (λ _. plain_entry rs name parts.1)
-
-unwrapped : (o : Option Tok) (name : List ℕ) → found_is_plain o ≡ true → IsPlain (unwrap_or o (Command name))
-unwrapped None name h = refl
-unwrapped (Some t) name h = h
+    let parts = and_parts (is_plain r.1) (list_all (λ r. is_plain r.1) rs) h in
+    found_first r.1 (Command name) (entry_token rs name) (bytes_eq r.0 name) parts.0 (plain_entry rs name parts.1)
 
 -- so is the token of a command
 plain_command : (name : List ℕ) → IsPlain (command_token name)
 unfolding command_token
-plain_command name = unwrapped (entry_token command_entries name) name (plain_entry command_entries name plain-command_entries)
+plain_command name = plain_entry command_entries name plain-command_entries
 
 -- a slice is one character that stands for itself, or its token is plain
 abbrev pub IsKnown : List ℕ → Tok → Type 0
@@ -68,36 +61,8 @@ known alone w next t (symbol_command c a e f) = inr (subst IsPlain (sym f) (plai
 known alone w next t (letter_command c cs e a s f) = inr (subst IsPlain (sym f) (plain_command (encode_utf8_all (c ∷ cs))))
 known alone w next t (lone_backslash e n f) = inr (subst IsPlain (sym f) refl)
 
--- what a character that stands for itself is: one of these tokens
-either : (P : Tok → Type 0) (p : Bool) (s t : Tok) → (p ≡ true → P s) → P t → P (cond p s t)
-either P true s t x y = x refl
-either P false s t x y = y
-
-pub of_character : (P : Tok → Type 0) (c : ℕ) → (is_operator c ≡ true → P (Operator c)) → (is_paren c ≡ true → P (Paren (c ∷ []))) → ((c ∈ "_") ≡ true → P Underscore) → ((c ∈ "^") ≡ true → P Circumflex) → P LBrace → P RBrace → P Ampersand → P (Illegal 0) → P (Letter c Italic) → P (Letter c Normal) → P (character_token c)
-of_character P c operator paren underscore circumflex lbrace rbrace ampersand illegal italic normal =
-    either P (is_operator c) (Operator c) _ operator
-    (either P (is_paren c) (Paren (c ∷ [])) _ paren
-    (either P (c ∈ "{") LBrace _ (λ h. lbrace)
-    (either P (c ∈ "}") RBrace _ (λ h. rbrace)
-    (either P (c ∈ "_") Underscore _ underscore
-    (either P (c ∈ "^") Circumflex _ circumflex
-    (either P (c ∈ "&") Ampersand _ (λ h. ampersand)
-    (either P (nat_eq c 0) (Illegal 0) _ (λ h. illegal)
-    (either P (is_ascii_alphabetic c) (Letter c Italic) (Letter c Normal) (λ h. italic) normal))))))))
-
--- the character whose token is t, where there is one alone, or else c
-abbrev named_by : Tok → ℕ → ℕ
-named_by (Operator d) c = d
-named_by (Paren (d ∷ ds)) c = d
-named_by Underscore c = byte "_"
-named_by Circumflex c = byte "^"
-named_by t c = c
-
-named : (c : ℕ) → named_by (character_token c) c ≡ c
-named c = of_character (λ t. named_by t c ≡ c) c (λ h. refl) (λ h. refl) (λ h. sym (only (byte "_") c h)) (λ h. sym (only (byte "^") c h)) refl refl refl refl refl refl
-
 pub no_end : (c : ℕ) → character_token c ≢ EOF
-no_end c = of_character (λ t. t ≢ EOF) c (λ h e. cc) (λ h e. cc) (λ h e. cc) (λ h e. cc) (λ e. cc) (λ e. cc) (λ e. cc) (λ e. cc) (λ e. cc) (λ e. cc)
+no_end c e = grind (arith, nat_tests)
 
 -- the slice at the start of a text, whose first character is c
 abbrev Found : Bool → List ℕ → ℕ → Type 0
@@ -114,19 +79,18 @@ found takes alone text c after starts =
     let w : List ℕ = b.2.0 in
     (alone, after, w, b.1, b.0, slices_of (takes_digit (Some b.0)) b.1, cut_step takes text (slice w b.0) b.1 (step_from takes alone text (c ∷ after) b.0 b.1 starts b.2), ap (first_slice alone) b.2.1 ∙ slice_of alone w b.1 b.0 b.2.2, b.2.1, known alone w (head b.1) b.0 b.2.2)
 
-first_same : (c x : ℕ) (after w rest : List ℕ) → c ∷ after ≡ w ++ rest → w ≡ x ∷ [] → c ≡ x
-first_same c x after w rest e f = cc (e ∙ ap (λ v. v ++ rest) f)
-
-told : (c d : ℕ) (after w rest : List ℕ) (t : Tok) → ((x : ℕ) → named_by (character_token d) x ≡ d) → is_plain (character_token d) ≡ false → c ∷ after ≡ w ++ rest → IsKnown w t → t ≡ character_token d → c ≡ d
-told c d after w rest t names plain split (inl k) e = first_same c k.0 after w rest split k.1 ∙ sym (named k.0) ∙ ap (λ s. named_by s k.0) (sym k.2 ∙ e) ∙ names k.0
-told c d after w rest t names plain split (inr k) e = absurd (both_ways (is_plain t) (ap is_plain e ∙ plain) k)
+told : (c d : ℕ) (after w rest : List ℕ) (t : Tok) → ((x : ℕ) → character_token x ≡ character_token d → x ≡ d) → is_plain (character_token d) ≡ false → c ∷ after ≡ w ++ rest → IsKnown w t → t ≡ character_token d → c ≡ d
+told c d after w rest t alone_so plain split (inl k) e =
+    let same : c ≡ k.0 = cc (split ∙ ap (λ v. v ++ rest) k.1) in
+    same ∙ alone_so k.0 (sym k.2 ∙ e)
+told c d after w rest t alone_so plain split (inr k) e = absurd (both_ways (is_plain t) (ap is_plain e ∙ plain) k)
 
 -- a character that stands for itself shows its token
-shows : (takes : Bool) (text : List ℕ) (c d : ℕ) → ((alone : Bool) (after : List ℕ) → (first_slice alone (d ∷ after)).token ≡ character_token d) → ((x : ℕ) → named_by (character_token d) x ≡ d) → is_plain (character_token d) ≡ false → Found takes text c → Shows d c (token_list (slices_of takes text))
-shows takes text c d itself names plain (alone, after, w, rest, t, ss, whole, slice_is, split, k) =
+shows : (takes : Bool) (text : List ℕ) (c d : ℕ) → ((alone : Bool) (after : List ℕ) → (first_slice alone (d ∷ after)).token ≡ character_token d) → ((x : ℕ) → character_token x ≡ character_token d → x ≡ d) → is_plain (character_token d) ≡ false → Found takes text c → Shows d c (token_list (slices_of takes text))
+shows takes text c d itself alone_so plain (alone, after, w, rest, t, ss, whole, slice_is, split, k) =
     let stands : first (token_list (slices_of takes text)) ≡ Some t = ap (λ xs. first (token_list xs)) whole in (
       λ e. stands ∙ ap Some (ap (λ s. s.token) (sym slice_is) ∙ ap (λ x. (first_slice alone (x ∷ after)).token) e ∙ itself alone after),
-      λ e. told c d after w rest t names plain split k (cc (stands, e)),
+      λ e. told c d after w rest t alone_so plain split k (cc (stands, e)),
     )
 
 some_left : (takes : Bool) (text : List ℕ) (c : ℕ) → Found takes text c → token_list (slices_of takes text) ≢ []
@@ -135,10 +99,10 @@ some_left takes text c (alone, after, w, rest, t, ss, whole, slice_is, split, k)
 seen_character : (takes : Bool) (text : List ℕ) (c : ℕ) → Found takes text c → IsSeen (Some c) (token_list (slices_of takes text))
 seen_character takes text c f = (
   some_left takes text c f,
-  shows takes text c (byte "'") (λ alone after. refl) (λ x. refl) refl f,
-  shows takes text c (byte "_") (λ alone after. refl) (λ x. refl) refl f,
-  shows takes text c (byte "^") (λ alone after. refl) (λ x. refl) refl f,
-  shows takes text c (byte "[") (λ alone after. refl) (λ x. refl) refl f,
+  shows takes text c (byte "'") (λ alone after. refl) (λ x e. grind (arith, nat_tests)) refl f,
+  shows takes text c (byte "_") (λ alone after. refl) (λ x e. grind (arith, nat_tests)) refl f,
+  shows takes text c (byte "^") (λ alone after. refl) (λ x e. grind (arith, nat_tests)) refl f,
+  shows takes text c (byte "[") (λ alone after. refl) (λ x e. grind (arith, nat_tests)) refl f,
 )
 
 pub seen : (takes alone : Bool) (text start : List ℕ) (c : ℕ) (after : List ℕ) → IsStart takes text start alone → start ≡ c ∷ after → IsSeen (Some c) (token_list (slices_of takes text))

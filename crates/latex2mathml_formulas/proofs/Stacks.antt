@@ -1,16 +1,16 @@
 -- Frames put on the parser's stack and taken off it, beside the trees that were read.
-use Rattle.std.proofs.Common.{◌≡◌, List, [], ◌∷◌, ◌++◌, drop, refl, sym, ap, subst, ◌∙◌, reverse}
+use Rattle.std.proofs.Common.{◌≡◌, ℕ, List, [], ◌∷◌, ◌++◌, drop, refl, sym, ap, subst, ◌∙◌, reverse}
 use Rattle.std.proofs.lemmas.List.{reverse-append}
 use Rattle.latex2mathml_formulas.specs.Frames.{awaits, enter, first_due, innermost, inside, inside_all, sort_made, standing_of, tree_count, whole, within}
 use Rattle.latex2mathml_formulas.specs.Grammar.{core, node, Outcome, Reads, Refused, refuses, rule, rule_refuses}
-use Rattle.latex2mathml_formulas.specs.Levels.{due_of, end_token, Leads, Level, Made, MayBegin, RuleLeads, Accepts, remaining}
+use Rattle.latex2mathml_formulas.specs.Levels.{due_of, end_token, Leads, Level, Made, MayBegin, RuleLeads, Accepts, remaining, sort_of}
 use Rattle.latex2mathml_trees.specs.Tree.{Tree}
 use Rattle.latex2mathml_tokens.specs.{Refusal.Refusal, Refusal.UnexpectedToken, Tok.Tok, Tok.EOF}
-use Rattle.latex2mathml_formulas.specs.{declared.parse.frames.Due.Due, declared.parse.frames.Frame.Frame}
+use Rattle.latex2mathml_formulas.specs.{Steps.level, declared.parse.Parser.Parser, declared.parse.frames.Due.Due, declared.parse.frames.Frame.Frame}
 use Rattle.latex2mathml_formulas.specs.declared.parse.frames.Due.TheVariants as due
 use Rattle.latex2mathml_formulas.specs.declared.parse.frames.Frame.TheVariants as frame
 use Rattle.latex2mathml_formulas.specs.declared.parse.frames.GroupEnd.{GroupEnd}
-use Rattle.latex2mathml_formulas.proofs.Levels.{begun, begun_at_end, entered, entered_refused, made_refused, unclosed}
+use Rattle.latex2mathml_formulas.proofs.Levels.{as_refused, begun, begun_at_end, entered, entered_refused, unclosed}
 
 -- The innermost frame.
 
@@ -26,8 +26,8 @@ pub put_on : (input : List Tok) (fs gs : List Frame) (f : Frame) (ts : List Tree
 put_on input fs gs f ts place e k = subst (λ l. Leads l place) (sym (inside_push input fs gs f ts e)) (entered (standing_of f ts) (sort_made f) _ place k)
 
 -- a frame is taken off
-pub taken_off : (input : List Tok) (fs gs : List Frame) (f : Frame) (ts : List Tree) (o : Outcome Tree) → gs ≡ fs ++ f ∷ [] → Accepts (inside input gs ts) o → Accepts (within input fs f ts) o
-taken_off input fs gs f ts o e k = subst (λ l. Accepts l o) (inside_push input fs gs f ts e) k
+pub taken_off : (input : List Tok) (fs : List Frame) (f : Frame) (ts : List Tree) (o : Outcome Tree) → Accepts (inside input (fs ++ f ∷ []) ts) o → Accepts (within input fs f ts) o
+taken_off input fs f ts o k = subst (λ l. Accepts l o) (inside_push input fs _ f ts refl) k
 
 -- What is due.
 
@@ -54,8 +54,8 @@ may_begin_at_end (due.Member end) h = h end refl
 may_begin_at_end d h = tt
 
 -- no token is left
-pub nothing_begun : (input : List Tok) (fs : List Frame) (ts : List Tree) (d : Due) → d ≡ innermost fs → ((end : GroupEnd) → d ≡ due.Member end → ⊥) → Leads (inside input fs ts) [] → RuleLeads (rule EOF) (Made core (inside input fs ts)) []
-nothing_begun input fs ts d e h k = begun_at_end (inside input fs ts) (subst (λ x. MayBegin x []) (e ∙ sym (due_of_inside input fs ts)) (may_begin_at_end d h)) k
+pub nothing_begun : (input : List Tok) (fs : List Frame) (ts : List Tree) → ((end : GroupEnd) → innermost fs ≡ due.Member end → ⊥) → Leads (inside input fs ts) [] → RuleLeads (rule EOF) (Made core (inside input fs ts)) []
+nothing_begun input fs ts h k = begun_at_end (inside input fs ts) (subst (λ x. MayBegin x []) (sym (due_of_inside input fs ts)) (may_begin_at_end (innermost fs) h)) k
 
 -- Refusals.
 
@@ -64,8 +64,8 @@ inside_refused input [] ts r k = k
 inside_refused input (f ∷ fs) ts r k = inside_refused input fs _ r (entered_refused (standing_of f ts) (sort_made f) _ r k)
 
 -- a core that refuses refuses the node of the formula
-pub core_refused : (input : List Tok) (fs : List Frame) (ts : List Tree) {r : Refusal} {place : List Tok} → RuleLeads (refuses r) (Made core (inside input fs ts)) place → Reads node input (Refused r)
-core_refused input fs ts {r} k = inside_refused input (reverse fs) ts r (made_refused core (inside input fs ts) r (k.to _ rule_refuses))
+pub core_refused : (n : ℕ) (input : List Tok) (p : Parser) {r : Refusal} {place : List Tok} → RuleLeads (refuses r) (Made core (level n input p)) place → Reads node input (Refused r)
+core_refused n input p {r} k = inside_refused input (reverse p.frames.stack.items) _ r (as_refused core (sort_of (level n input p)) _ r (k.to _ rule_refuses))
 
 -- a group that is open at the end refuses it
 pub group_open : (input : List Tok) (fs : List Frame) (ts : List Tree) (end : GroupEnd) → innermost fs ≡ due.Member end → Leads (inside input fs ts) [] → Reads node input (Refused (UnexpectedToken (end_token end) EOF))

@@ -144,6 +144,7 @@ impl<'a> Parser<'a> {
     }
 
     /// What is due where no token is left: an open group is refused, and any other part is `EOF`, marked as an error.
+    #[tactic(auto, using(crate::proofs::Stacks::group_open, crate::proofs::Stacks::nothing_begun))]
     fn at_end(&mut self) -> Result<State, AllocError>
         requires { HasTrees 0 self.old }
         ensures holds { (input : List Tok) → Leads (level 0 input self.old) [] → self.old.reader.list ≡ []

@@ -222,6 +222,7 @@ impl<'a> Parser<'a> {
     }
 
     /// A fence, which must stand next, and the members after it.
+    #[tactic(auto, using(crate::proofs::Stepping::counted_skipped))]
     fn open_fence(&mut self) -> Result<State, AllocError>
         requires { HasTrees 0 self.old }
         ensures holds { (input : List Tok) → GoesOnBy (rule Left) 0 input self.old → IfOk result (Holds input self.new) }

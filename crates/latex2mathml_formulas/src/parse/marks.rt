@@ -14,6 +14,7 @@ use std::alloc::AllocError;
 
 impl<'a> Parser<'a> {
     /// Goes on after a core, with a prime or a script if one follows.
+    #[tactic(auto, using(crate::proofs::Levels::unprimed, crate::proofs::Levels::unscripted))]
     pub(crate) fn after_core(&mut self) -> Result<State, AllocError>
         requires { HasTrees 1 self.old }
         ensures holds { (input : List Tok) → Holds input self.old State.Core → IfOk result (Holds input self.new) }
@@ -29,6 +30,7 @@ impl<'a> Parser<'a> {
     }
 
     /// Goes on after a core that a prime follows: the prime is taken, unless a core is due.
+    #[tactic(auto, using(crate::proofs::Levels::given, crate::proofs::Levels::prime_taken, crate::proofs::Stacks::due_of_inside))]
     fn after_prime(&mut self) -> Result<State, AllocError>
         requires prime { first self.old.reader.list ≡ Some prime }
         requires trees { HasTrees 1 self.old }
@@ -44,6 +46,7 @@ impl<'a> Parser<'a> {
     }
 
     /// Goes on after a single, with a script if one follows.
+    #[tactic(auto, using(crate::proofs::Levels::unscripted))]
     fn after_single(&mut self) -> Result<State, AllocError>
         requires { HasTrees 1 self.old }
         ensures holds { (input : List Tok) → Made a_single (level 1 input self.old) (last_tree_read self.old) → IfOk result (Holds input self.new) }

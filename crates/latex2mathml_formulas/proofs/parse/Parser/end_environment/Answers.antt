@@ -1,5 +1,4 @@
 use Rattle.std.proofs.Common.{◌+◌, add-one, drop}
-use Rattle.latex2mathml_parts.specs.Forests.{trees_in}
 use Rattle.latex2mathml_formulas.proofs.{Levels.after_name, Stacks.core_refused}
 use Rattle.latex2mathml_formulas.proofs.parse.Parser.end_environment.Goals as goal
 
@@ -10,8 +9,7 @@ returns-then-branch-clause-holds c = λ input k.
 
 pub returns-clause-holds : goal.returns-clause-holds
 returns-clause-holds c = λ input k.
-    let p = c.args.self.now in
     let none = rw c.if-branch.false at c.in_ok-environment.ensures in
     c.refuse.ensures.holds input
     (rw (c.in_ok-name.ensures.ok, c.name.ensures, none.1)
-    (core_refused input p.frames.stack.items (drop (c.args.count + 1) (trees_in p.parts)) (rw none.0 at (after_name c.skip_name.ensures.name k))))
+    (core_refused (c.args.count + 1) input c.args.self.now (rw none.0 at (after_name c.skip_name.ensures.name k))))

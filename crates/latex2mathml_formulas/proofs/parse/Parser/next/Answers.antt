@@ -1,6 +1,6 @@
-use Rattle.std.proofs.Common.{length, refl, ap, arith}
+use Rattle.std.proofs.Common.{rules, length, refl, ap, arith}
 use Rattle.latex2mathml_parts.specs.Forests.{trees_in}
-use Rattle.latex2mathml_formulas.proofs.{Beginning.stood, Stacks.token_begun, Stepping.counted_taken, Stepping.follows_within}
+use Rattle.latex2mathml_formulas.proofs.{Beginning.stood, Stacks.token_begun, Stepping.counted_taken}
 use Rattle.latex2mathml_formulas.proofs.parse.Parser.next.Goals as goal
 
 pub returns : goal.returns
@@ -10,8 +10,5 @@ returns c =
     let shorter = ap length found in
     record {
       holds = λ input k. c.begin_any.ensures.holds input (token_begun input p.frames.stack.items (trees_in p.parts) p.reader.list _ _ (rw (found, ← c.due.ensures) (c.if-ends_at.ensures _)) found k);
-      step = record {
-        counted = counted_taken _ p _ _ found c.take-lexeme.ensures.counts refl c.begin_any.ensures.step.counted;
-        follows = follows_within c.begin_any.result c.begin_any.new.self _ _ (omega arith) c.begin_any.ensures.step.follows;
-      };
+      step = record { counted = counted_taken _ p _ _ found c.take-lexeme.ensures.counts refl c.begin_any.ensures.step.counted; follows = search rules };
     }

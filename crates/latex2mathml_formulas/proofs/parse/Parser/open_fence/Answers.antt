@@ -1,5 +1,4 @@
 use Rattle.std.proofs.Common.{rules, refl}
-use Rattle.latex2mathml_parts.specs.Forests.{trees_in}
 use Rattle.latex2mathml_formulas.proofs.{Levels.taken, Stacks.core_refused, Stepping.counted_skipped}
 use Rattle.latex2mathml_formulas.proofs.parse.Parser.open_fence.Goals as goal
 
@@ -9,12 +8,4 @@ returns-clause-holds c = λ input k.
 
 pub returns-in_default-clause-holds : goal.returns-in_default-clause-holds
 returns-in_default-clause-holds c = λ input k.
-    let p = c.args.self.now in
-    c.refuse_fence.ensures.holds input
-    (core_refused input p.frames.stack.items (trees_in p.parts) (rw c.in_default.ensures at (taken c.take-got.ensures.token c.take-got.ensures.list k)))
-
-pub returns-in_default-clause-step : goal.returns-in_default-clause-step
-returns-in_default-clause-step c = record {
-  counted = counted_skipped c.args.self.now _ _ 1 c.take-got.ensures.list c.take-got.ensures.counts refl c.refuse_fence.ensures.step.counted;
-  follows = search rules;
-}
+    c.refuse_fence.ensures.holds input (core_refused 0 input c.args.self.now (rw c.in_default.ensures at (taken c.take-got.ensures.token c.take-got.ensures.list k)))

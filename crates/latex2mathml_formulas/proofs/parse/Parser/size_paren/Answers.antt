@@ -1,5 +1,4 @@
 use Rattle.std.proofs.Common.{rules, refl}
-use Rattle.latex2mathml_parts.specs.Forests.{trees_in}
 use Rattle.latex2mathml_formulas.proofs.{Beginning.not_sized, Levels.taken, Stacks.core_refused}
 use Rattle.latex2mathml_formulas.proofs.Stepping.{counted_none, counted_skipped}
 use Rattle.latex2mathml_formulas.proofs.parse.Parser.size_paren.Goals as goal
@@ -10,10 +9,9 @@ returns-in-Paren-clause-holds c = λ input k.
 
 pub returns-in_ok-got-in_default-clause-holds : goal.returns-in_ok-got-in_default-clause-holds
 returns-in_ok-got-in_default-clause-holds c = λ input k.
-    let p = c.args.self.now in
     c.refuse.ensures.holds input
     (rw c.in_ok-got-in_default.ensures
-    (core_refused input p.frames.stack.items (trees_in p.parts) (rw (not_sized _ c.take.result c.in_default.not-Paren) at (taken c.take.ensures.token c.take.ensures.list k))))
+    (core_refused 0 input c.args.self.now (rw (not_sized _ c.take.result c.in_default.not-Paren) at (taken c.take.ensures.token c.take.ensures.list k))))
 
 pub returns-in_ok-got-in_default-clause-step : goal.returns-in_ok-got-in_default-clause-step
 returns-in_ok-got-in_default-clause-step c = record {

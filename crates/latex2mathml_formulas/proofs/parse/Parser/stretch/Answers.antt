@@ -27,6 +27,6 @@ returns-clause-taken c =
       more = λ h.
           let found : p.reader.list ≡ lexeme_tok got ∷ to.list = stood got p.reader.list to.list h c.take-got.ensures.token c.take-got.ensures.list in
           let one : length p.reader.list ≡ 1 + length to.list = ap length found ∙ omega arith in
-          (omega arith, omega arith, OpensFor-one (lexeme_tok got) p.reader to p.frames.greatest c.open.new.self.greatest found c.take-got.ensures.counts (omega arith));
+          (omega arith, omega arith, OpensFor-one (lexeme_tok got) p.reader to (p.frames.greatest + 1) c.open.new.self.greatest found c.take-got.ensures.counts (omega arith));
       falls = omega arith;
     }
