@@ -1,5 +1,5 @@
 -- The first character of a text, after white space, shows whether the first token is a prime, a sign or an opening bracket.
-use Rattle.std.proofs.Common.{◌≡◌, ◌≢◌, ◌⊎◌, inl, inr, ℕ, Bool, true, false, not, ◌&&◌, ◌==◌, List, [], ◌∷◌, ◌++◌, codes, Option, Some, None, unwrap_or, refl, sym, ap, subst, ◌∙◌, cond, nat_eq}
+use Rattle.std.proofs.Common.{◌≡◌, ◌≢◌, ◌⊎◌, inl, inr, ℕ, Bool, true, false, not, ◌&&◌, ◌==◌, List, [], ◌∷◌, ◌++◌, codes, Option, Some, None, unwrap_or, refl, sym, ap, subst, ◌∙◌, nat_eq}
 use Rattle.std.proofs.{lemmas.Bool.and_parts, lemmas.Bool.both_ways, lemmas.Bool.cond_both}
 use Rattle.std.specs.{Char.encode_utf8, Char.is_ascii_alphabetic, List.list_all, Str.byte, Str.bytes_eq, Str.encode_utf8_all}
 use Rattle.latex2mathml_tokens.specs.Commands.{command_entries, command_token, entry_token}
@@ -69,21 +69,17 @@ known alone w next t (letter_command c cs e a s f) = inr (subst IsPlain (sym f) 
 known alone w next t (lone_backslash e n f) = inr (subst IsPlain (sym f) refl)
 
 -- what a character that stands for itself is: one of these tokens
-either : (P : Tok → Type 0) (p : Bool) (s t : Tok) → (p ≡ true → P s) → P t → P (cond p s t)
-either P true s t x y = x refl
-either P false s t x y = y
-
 pub of_character : (P : Tok → Type 0) (c : ℕ) → (is_operator c ≡ true → P (Operator c)) → (is_paren c ≡ true → P (Paren (c ∷ []))) → ((c ∈ "_") ≡ true → P Underscore) → ((c ∈ "^") ≡ true → P Circumflex) → P LBrace → P RBrace → P Ampersand → P (Illegal 0) → P (Letter c Italic) → P (Letter c Normal) → P (character_token c)
 of_character P c operator paren underscore circumflex lbrace rbrace ampersand illegal italic normal =
-    either P (is_operator c) (Operator c) _ operator
-    (either P (is_paren c) (Paren (c ∷ [])) _ paren
-    (either P (c ∈ "{") LBrace _ (λ h. lbrace)
-    (either P (c ∈ "}") RBrace _ (λ h. rbrace)
-    (either P (c ∈ "_") Underscore _ underscore
-    (either P (c ∈ "^") Circumflex _ circumflex
-    (either P (c ∈ "&") Ampersand _ (λ h. ampersand)
-    (either P (nat_eq c 0) (Illegal 0) _ (λ h. illegal)
-    (either P (is_ascii_alphabetic c) (Letter c Italic) (Letter c Normal) (λ h. italic) normal))))))))
+    cond_both (is_operator c) (Operator c) _ P operator λ _.
+    cond_both (is_paren c) (Paren (c ∷ [])) _ P paren λ _.
+    cond_both (c ∈ "{") LBrace _ P (λ h. lbrace) λ _.
+    cond_both (c ∈ "}") RBrace _ P (λ h. rbrace) λ _.
+    cond_both (c ∈ "_") Underscore _ P underscore λ _.
+    cond_both (c ∈ "^") Circumflex _ P circumflex λ _.
+    cond_both (c ∈ "&") Ampersand _ P (λ h. ampersand) λ _.
+    cond_both (nat_eq c 0) (Illegal 0) _ P (λ h. illegal) λ _.
+    cond_both (is_ascii_alphabetic c) (Letter c Italic) (Letter c Normal) P (λ h. italic) (λ h. normal)
 
 -- the character whose token is t, where there is one alone, or else c
 abbrev named_by : Tok → ℕ → ℕ
@@ -114,11 +110,9 @@ found takes alone text c after starts =
     let w : List ℕ = b.2.0 in
     (alone, after, w, b.1, b.0, slices_of (takes_digit (Some b.0)) b.1, cut_step takes text (slice w b.0) b.1 (step_from takes alone text (c ∷ after) b.0 b.1 starts b.2), ap (first_slice alone) b.2.1 ∙ slice_of alone w b.1 b.0 b.2.2, b.2.1, known alone w (head b.1) b.0 b.2.2)
 
-first_same : (c x : ℕ) (after w rest : List ℕ) → c ∷ after ≡ w ++ rest → w ≡ x ∷ [] → c ≡ x
-first_same c x after w rest e f = cc (e ∙ ap (λ v. v ++ rest) f)
-
 told : (c d : ℕ) (after w rest : List ℕ) (t : Tok) → ((x : ℕ) → named_by (character_token d) x ≡ d) → is_plain (character_token d) ≡ false → c ∷ after ≡ w ++ rest → IsKnown w t → t ≡ character_token d → c ≡ d
-told c d after w rest t names plain split (inl k) e = first_same c k.0 after w rest split k.1 ∙ sym (named k.0) ∙ ap (λ s. named_by s k.0) (sym k.2 ∙ e) ∙ names k.0
+told c d after w rest t names plain split (inl k) e =
+    let same : c ≡ k.0 = cc (split ∙ ap (λ v. v ++ rest) k.1) in same ∙ sym (named k.0) ∙ ap (λ s. named_by s k.0) (sym k.2 ∙ e) ∙ names k.0
 told c d after w rest t names plain split (inr k) e = absurd (both_ways (is_plain t) (ap is_plain e ∙ plain) k)
 
 -- a character that stands for itself shows its token
@@ -129,20 +123,15 @@ shows takes text c d itself names plain (alone, after, w, rest, t, ss, whole, sl
       λ e. told c d after w rest t names plain split k (cc (stands, e)),
     )
 
-some_left : (takes : Bool) (text : List ℕ) (c : ℕ) → Found takes text c → token_list (slices_of takes text) ≢ []
-some_left takes text c (alone, after, w, rest, t, ss, whole, slice_is, split, k) = λ e. cc (ap token_list (sym whole) ∙ e)
-
-seen_character : (takes : Bool) (text : List ℕ) (c : ℕ) → Found takes text c → IsSeen (Some c) (token_list (slices_of takes text))
-seen_character takes text c f = (
-  some_left takes text c f,
-  shows takes text c (byte "'") (λ alone after. refl) (λ x. refl) refl f,
-  shows takes text c (byte "_") (λ alone after. refl) (λ x. refl) refl f,
-  shows takes text c (byte "^") (λ alone after. refl) (λ x. refl) refl f,
-  shows takes text c (byte "[") (λ alone after. refl) (λ x. refl) refl f,
-)
-
 pub seen : (takes alone : Bool) (text start : List ℕ) (c : ℕ) (after : List ℕ) → IsStart takes text start alone → start ≡ c ∷ after → IsSeen (Some c) (token_list (slices_of takes text))
-seen takes alone text start c after starts e = seen_character takes text c (found takes alone text c after (subst (λ s. IsStart takes text s alone) e starts))
+seen takes alone text start c after starts e =
+    let f : Found takes text c = found takes alone text c after (subst (λ s. IsStart takes text s alone) e starts) in (
+      λ none. cc (ap token_list (sym f.6) ∙ none),
+      shows takes text c (byte "'") (λ alone after. refl) (λ x. refl) refl f,
+      shows takes text c (byte "_") (λ alone after. refl) (λ x. refl) refl f,
+      shows takes text c (byte "^") (λ alone after. refl) (λ x. refl) refl f,
+      shows takes text c (byte "[") (λ alone after. refl) (λ x. refl) refl f,
+    )
 
 pub nothing_seen : (takes alone : Bool) (text start : List ℕ) → IsStart takes text start alone → start ≡ [] → IsSeen None (token_list (slices_of takes text))
 nothing_seen takes alone text start starts e = ap token_list (none_left takes alone text start starts e)
