@@ -1,5 +1,5 @@
 -- The first character of a text, and what stands in it before its end, byte by byte.
-use Rattle.std.proofs.Common.{◌≡◌, ℕ, ◌+◌, ◌-◌, ◌<◌, ◌≤◌, List, [], ◌∷◌, ◌++◌, take, drop, eqb, length, false, inl, inr, true, true-eqb, None, Some, refl, sym, ap, subst, ◌∙◌, arith}
+use Rattle.std.proofs.Common.{◌≡◌, ℕ, ◌+◌, ◌-◌, ◌<◌, ◌≤◌, List, [], ◌∷◌, ◌++◌, take, drop, eqb, length, inl, inr, true, true-eqb, None, Some, refl, sym, ap, ◌∙◌, arith}
 use Rattle.std.proofs.{Math.Seq.take-append_seam, lemmas.List.length-append, lemmas.Bool.cases_lt, lemmas.Bool.Decides.nat_tests}
 use Rattle.std.proofs.lemmas.Str.{chars_past_char, encode_ascii, encodes-append, encodes-chars, IsCharBoundary-after_ascii, IsCharBoundary-at_seam}
 use Rattle.std.specs.{Char.encode_utf8, Char.is_ascii, Prelude.slice_get}
@@ -22,25 +22,13 @@ pub front_bytes : (text rest front : List ℕ) → IsUtf8 text → IsUtf8 rest �
 front_bytes text rest front u v e =
     sym (encodes-chars text u) ∙ ap encode_utf8_all e ∙ encodes-append front (chars rest) ∙ ap (λ b. encode_utf8_all front ++ b) (encodes-chars rest v)
 
-seam : (text xs rest : List ℕ) → text ≡ xs ++ rest → length text - length rest ≡ length xs
-seam text xs rest e =
-    let whole : length text ≡ length xs + length rest = ap length e ∙ length-append xs rest in
-    omega arith
-
-pub end_fits : (text rest front : List ℕ) → IsUtf8 text → IsUtf8 rest → chars text ≡ front ++ chars rest → length rest ≤ length text
-end_fits text rest front u v e =
-    let whole : length text ≡ length (encode_utf8_all front) + length rest = ap length (front_bytes text rest front u v e) ∙ length-append (encode_utf8_all front) rest in
-    omega arith
-
-pub end_is_boundary : (text rest front : List ℕ) → IsUtf8 text → IsUtf8 rest → chars text ≡ front ++ chars rest → IsCharBoundary text (length text - length rest)
-end_is_boundary text rest front u v e =
+-- where the end of a text begins, which is a place between two characters, and what stands before it
+pub ends_at : (text rest front : List ℕ) → IsUtf8 text → IsUtf8 rest → chars text ≡ front ++ chars rest → (length rest ≤ length text) × IsCharBoundary text (length text - length rest) × (take (length text - length rest) text ≡ encode_utf8_all front)
+ends_at text rest front u v e =
     let bytes : text ≡ encode_utf8_all front ++ rest = front_bytes text rest front u v e in
-    subst (IsCharBoundary text) (sym (seam text (encode_utf8_all front) rest bytes)) (IsCharBoundary-at_seam text (encode_utf8_all front) rest bytes v)
-
-pub front_is : (text rest result : List ℕ) → IsUtf8 text → IsUtf8 rest → result ≡ take (length text - length rest) text → (front : List ℕ) → chars text ≡ front ++ chars rest → result ≡ encode_utf8_all front
-front_is text rest result u v f front e =
-    let bytes : text ≡ encode_utf8_all front ++ rest = front_bytes text rest front u v e in
-    f ∙ ap (λ n. take n text) (seam text (encode_utf8_all front) rest bytes) ∙ ap (take (length (encode_utf8_all front))) bytes ∙ take-append_seam (encode_utf8_all front) rest
+    let whole : length text ≡ length (encode_utf8_all front) + length rest = ap length bytes ∙ length-append (encode_utf8_all front) rest in
+    let seam : length text - length rest ≡ length (encode_utf8_all front) = omega arith in
+    (omega arith, rw seam (IsCharBoundary-at_seam text (encode_utf8_all front) rest bytes v), rw seam (ap (take (length (encode_utf8_all front))) bytes ∙ take-append_seam (encode_utf8_all front) rest))
 
 -- a text of no bytes has no character
 pub no_characters : (text : List ℕ) → true ≡ eqb (length text) 0 → chars text ≡ []
@@ -53,15 +41,12 @@ pub nothing_first : (text : List ℕ) → slice_get text 0 ≡ None → Stops is
 nothing_first [] e = rw (no_characters [] refl) tt
 nothing_first (x ∷ xs) e = absurd cc
 
-no_ascii : (c : ℕ) → 128 ≤ c → is_ascii c ≡ false
-no_ascii c h = grind (arith, nat_tests)
-
 wide_of : (cs text : List ℕ) (b : ℕ) → encode_utf8_all cs ≡ text → slice_get text 0 ≡ Some b → 128 ≤ b → Stops is_ascii (head cs)
 wide_of [] text b e f l = tt
 wide_of (c ∷ cs) text b e f l = elim (cases_lt c 128) [
   | inl h ↦ (let g : text ≡ c ∷ encode_utf8_all cs = sym e ∙ ap (λ bs. bs ++ encode_utf8_all cs) (encode_ascii c h) in
       let same : b ≡ c = cc (f, ap (λ t. slice_get t 0) g) in absurd (omega arith))
-  | inr h ↦ no_ascii c h
+  | inr h ↦ grind (arith, nat_tests)
 ]
 
 -- text that begins with another byte begins with a character that is not ASCII

@@ -11,7 +11,6 @@ pub mod Kept
 pub mod Levels
 pub mod MathElements
 pub mod Names
-pub mod Numbers
 pub mod OneList
 pub mod Passing
 pub mod Progress
@@ -23,7 +22,6 @@ pub mod Spellings
 pub mod Stacks
 pub mod Starts
 pub mod Stepping
-pub mod Taking
 pub mod Tokenizing
 pub mod Total
 pub mod Unique

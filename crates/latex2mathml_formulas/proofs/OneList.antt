@@ -6,7 +6,7 @@ use Rattle.latex2mathml_formulas.specs.Characters.{◌∈◌, Begins, Stops, hea
 use Rattle.std.proofs.lemmas.List.Elements.{All-nil, All-cons}
 use Rattle.latex2mathml_formulas.proofs.{Passing.each, FirstSlices.parted, FirstSlices.slice_of}
 use Rattle.latex2mathml_tokens.specs.{Among.is_among, Commands.command_token}
-use Rattle.latex2mathml_formulas.specs.Cutting.{slice, run_of, behind_run, first_slice, slices_within, slices_of}
+use Rattle.latex2mathml_formulas.specs.Cutting.{slice, slices_within, slices_of}
 use Rattle.latex2mathml_formulas.specs.{Lexing.BeginsWith, Lexing.BeginsWithNumber, Lexing.IsLongestRun, TokenLists.HasOneTokenList}
 use Rattle.latex2mathml_formulas.specs.Spelling.{Slice, IsStep, HasSlices, HasTokens, takes_digit, is_period, is_equals_sign, character_token, character, colon, colon_equals, number, digit, symbol_command, letter_command, lone_backslash}
 use Rattle.latex2mathml_tokens.specs.Tok.{Tok, Number, Command, Paren, Operator}
@@ -90,15 +90,11 @@ computed : (n : ℕ) (takes : Bool) (text : List ℕ) (ss : List Slice) → HasS
 unfolding slices_within
 computed zero takes text ss h l = absurd (omega arith)
 computed (suc n) takes text [] h l = rw (rw append-nil at (parted is_space text [] (each is_space text h) tt).1) refl
-computed (suc n) takes text (s ∷ ss) h l =
-    let space : List ℕ = h.1.0 in
-    let dark : Stops is_space (head (s.text ++ h.0)) × (is_empty (s.text ++ h.0) ≡ false) = dark_starts _ (dark_front s.text h.0 (spells_dark _ s.text _ s.token h.1.3)) in
-    let whole = parted is_space space (s.text ++ h.0) (each is_space space h.1.2) dark.0 in
-    let front : run_of is_space text ≡ space = ap (run_of is_space) h.1.1 ∙ whole.0 in
-    let behind : behind_run is_space text ≡ s.text ++ h.0 = ap (behind_run is_space) h.1.1 ∙ whole.1 in
-    let first : first_slice (takes && is_empty space) (s.text ++ h.0) ≡ s = slice_of (takes && is_empty space) s.text h.0 s.token h.1.3 in
-    let more : slices_within n (takes_digit (Some s.token)) h.0 ≡ ss = computed n (takes_digit (Some s.token)) h.0 ss h.2 (omega (arith, step_shortens takes text h.0 s h.1)) in
-    rw (behind, front, dark.1, first, drop-append_seam s.text h.0, more) refl
+computed (suc n) takes text (s ∷ ss) (rest, (space, whole, white, spells), later) l =
+    let dark = dark_starts _ (dark_front s.text rest (spells_dark _ s.text _ s.token spells)) in
+    let parts = parted is_space space (s.text ++ rest) (each is_space space white) dark.0 in
+    let more = computed n (takes_digit (Some s.token)) rest ss later (omega (arith, step_shortens takes text rest s (space, whole, white, spells))) in
+    rw (whole, parts.1, parts.0, dark.1, slice_of (takes && is_empty space) s.text rest s.token spells, drop-append_seam s.text rest, more) refl
 
 pub one_cut : (takes : Bool) (text : List ℕ) (ss : List Slice) → HasSlices takes text ss → slices_of takes text ≡ ss
 unfolding slices_of

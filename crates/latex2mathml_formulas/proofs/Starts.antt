@@ -1,17 +1,18 @@
 -- What the reader takes from the slices that are left of a text, and what it leaves where it only looks.
-use Rattle.std.proofs.Common.{◌≡◌, ◌≢◌, ℕ, ◌+◌, ◌*◌, ◌^◌, ◌<◌, ◌≤◌, Bool, true, false, not, ◌&&◌, ◌||◌, List, [], ◌∷◌, ◌++◌, drop, drop-drop, eqb, length, refl, sym, ap, subst, ◌∙◌, Some, inl, inr, arith, rules}
-use Rattle.std.proofs.lemmas.Bool.{and_right, cases_Bool, not-true, or_parts}
+use Rattle.std.proofs.Common.{◌≡◌, ◌≢◌, ℕ, ◌+◌, ◌*◌, ◌^◌, ◌<◌, ◌≤◌, Bool, true, false, not, ◌&&◌, ◌||◌, List, [], ◌∷◌, ◌++◌, drop, drop-drop, eqb, length, refl, sym, ap, subst, ◌∙◌, Some, arith, rules}
+use Rattle.std.proofs.lemmas.Bool.{and_right, cond_both, not-true, or_parts}
 use Rattle.std.proofs.{lemmas.Bool.Decides.nat_tests, lemmas.List.Elements.All-cons, lemmas.List.Elements.All-nil}
-use Rattle.std.specs.Str.{byte, chars}
-use Rattle.latex2mathml_formulas.specs.Characters.{◌∈◌, head, is_space}
-use Rattle.latex2mathml_formulas.specs.{Counts.backslash_count, Counts.backslashes, Cutting.slice, Cutting.slices_of, Grammar.first_or_end}
+use Rattle.std.proofs.lemmas.Str.{encodes-chars, length-le-encodes}
+use Rattle.std.specs.Str.{byte, chars, IsUtf8}
+use Rattle.latex2mathml_formulas.specs.Characters.{head, is_space}
+use Rattle.latex2mathml_formulas.specs.{Counts.backslash_count, Counts.backslashes, Counts.begins_with_backslash, Cutting.slice, Cutting.slices_of, Grammar.first_or_end}
 use Rattle.latex2mathml_formulas.specs.{Lexing.BeginsWith, Lexing.IsLongestRun, Lexing.IsStart, Marks.rest_of}
 use Rattle.latex2mathml_formulas.specs.Spelling.{Slice, SpellsAt, IsStep, begins_longer, character_token, takes_digit}
 use Rattle.latex2mathml_formulas.specs.Unread.{Takes, unread_in, token_list}
 use Rattle.latex2mathml_tokens.specs.Tok.{Tok, EOF}
 use Rattle.latex2mathml_formulas.proofs.{Fronts.no_characters, Spellings.one_character, Spellings.only_space}
-use Rattle.latex2mathml_formulas.proofs.OneList.{Begun, begun, cut_end, cut_step}
-use Rattle.latex2mathml_formulas.proofs.{Taking.backslashes-cons, Taking.same_first, Tokenizing.step_shortens}
+use Rattle.latex2mathml_formulas.proofs.OneList.{begun, cut_end, cut_step}
+use Rattle.latex2mathml_formulas.proofs.{Counting.count_one, Tokenizing.spells_dark, Tokenizing.step_shortens}
 
 and_true : (b : Bool) → (b && true) ≡ b
 and_true true = refl
@@ -36,10 +37,9 @@ pub same_slices : (takes alone : Bool) (text start : List ℕ) → IsStart takes
 same_slices takes alone text [] (space, run, e) =
     cut_end alone [] (All-nil (λ x. is_space x ≡ true)) ∙ sym (cut_end takes text (only_space text space [] run refl))
 same_slices takes alone text (c ∷ cs) (space, run, e) =
-    let first : Begun alone (c ∷ cs) = begun alone c cs run.2 in
-    let s : Slice = slice first.2.0 first.0 in
-    let here : IsStart alone (c ∷ cs) (c ∷ cs) alone = starts_here alone (c ∷ cs) c cs refl run.2 in
-    cut_step alone (c ∷ cs) s first.1 (step_from alone alone (c ∷ cs) (c ∷ cs) first.0 first.1 here first.2) ∙ sym (cut_step takes text s first.1 (step_from takes alone text (c ∷ cs) first.0 first.1 (space, run, e) first.2))
+    let (t, rest, begins) = begun alone c cs run.2 in
+    let here = step_from alone alone (c ∷ cs) (c ∷ cs) t rest (starts_here alone (c ∷ cs) c cs refl run.2) begins in
+    cut_step alone (c ∷ cs) _ rest here ∙ sym (cut_step takes text _ rest (step_from takes alone text (c ∷ cs) t rest (space, run, e) begins))
 
 pub none_left : (takes alone : Bool) (text start : List ℕ) → IsStart takes text start alone → start ≡ [] → slices_of takes text ≡ []
 none_left takes alone text start (space, run, e) f = cut_end takes text (only_space text space start run f)
@@ -52,6 +52,11 @@ none_of_nothing takes text e =
 -- where no slice is left, the end is taken
 pub nothing_taken : (slices : List Slice) (tokens comparisons : ℕ) → slices ≡ [] → Takes EOF (unread_in slices tokens comparisons) (unread_in slices tokens comparisons)
 nothing_taken slices tokens comparisons e = rw e (record { token = refl; list = refl; ended = λ _. refl; counts = search (rules, arith) })
+
+-- a slice begins with a backslash where the text that it begins does
+same_first : (alone : Bool) (w rest start : List ℕ) (t : Tok) → SpellsAt alone w (head rest) t → start ≡ w ++ rest → backslash_count w ≡ backslash_count start
+same_first alone [] rest start t s e = absurd (spells_dark alone [] (head rest) t s)
+same_first alone (c ∷ w) rest start t s e = ap backslash_count (sym e)
 
 -- a slice is taken, and n names were compared for it
 abbrev pub IsTaken : Bool → List ℕ → Tok → ℕ → Bool → List ℕ → Type 0
@@ -69,23 +74,17 @@ taken takes alone takes' text start t n rest starts begins e least most =
     let same : backslash_count begins.0 ≡ backslash_count start = same_first alone begins.0 rest start t begins.2 begins.1 in
     (begins.0, cut_step takes text (slice begins.0 t) rest step ∙ ap (λ b. slice begins.0 t ∷ slices_of b rest) (sym e), rw same least, rw same most, step_shortens takes text rest (slice begins.0 t) step)
 
-no_backslash_count : (c : ℕ) (after : List ℕ) → c ≢ byte "\\" → backslash_count (c ∷ after) ≡ 0
-no_backslash_count c after h = grind (arith, nat_tests)
-
 -- .. which is no command
 pub taken_uncounted : (takes alone : Bool) (text start : List ℕ) (c : ℕ) (after : List ℕ) (t : Tok) (rest : List ℕ) → IsStart takes text start alone → start ≡ c ∷ after → c ≢ byte "\\" → BeginsWith alone start t rest → takes_digit (Some t) ≡ false → IsTaken takes text t 0 false rest
 taken_uncounted takes alone text start c after t rest starts e dark begins no_digit =
-    let none : backslash_count start ≡ 0 = ap backslash_count e ∙ no_backslash_count c after dark in
+    let none : backslash_count start ≡ 0 = rw e (grind (arith, nat_tests)) in
     taken takes alone false text start t 0 rest starts begins (sym no_digit) (omega arith) (omega arith)
-
-no_backslash : (c : ℕ) → begins_longer c ≡ false → c ≢ byte "\\"
-no_backslash c h = λ e. absurd (cc (ap begins_longer e, h))
 
 -- .. which is one character that stands for itself
 pub taken_character : (takes : Bool) (text : List ℕ) (c : ℕ) (after : List ℕ) (t : Tok) → text ≡ c ∷ after → not (begins_longer c || is_space c) ≡ true → t ≡ character_token c → takes_digit (Some t) ≡ false → IsTaken takes text t 0 false after
 taken_character takes text c after t e alone f no_digit =
     let parts = or_parts (begins_longer c) (is_space c) (not-true _ alone) in
-    taken_uncounted takes takes text text c after t after (starts_here takes text c after e parts.1) e (no_backslash c parts.0) (one_character takes text c after t e parts.0 parts.1 f) no_digit
+    taken_uncounted takes takes text text c after t after (starts_here takes text c after e parts.1) e (λ b. cc (ap begins_longer b, parts.0)) (one_character takes text c after t e parts.0 parts.1 f) no_digit
 
 -- .. which is a command
 pub taken_command : (takes alone takes' : Bool) (text start : List ℕ) (c : ℕ) (after : List ℕ) (t : Tok) (n : ℕ) (rest : List ℕ) → IsStart takes text start alone → start ≡ c ∷ after → c ≡ byte "\\" → BeginsWith alone (byte "\\" ∷ after) t rest → takes' ≡ takes_digit (Some t) → 1 ≤ n → n ≤ 9 → IsTaken takes text t n takes' rest
@@ -99,7 +98,7 @@ pub token_taken : (takes : Bool) (text : List ℕ) (t : Tok) (n : ℕ) (takes' :
 token_taken takes text t n takes' rest tokens tokens' comparisons comparisons' h no_end e f =
     let s : Slice = slice h.0 t in
     let shorter : length (token_list (slices_of takes text)) ≡ 1 + length (token_list (slices_of takes' rest)) = ap (λ ss. length (token_list ss)) h.1 ∙ omega arith in
-    let fewer : backslashes (slices_of takes text) ≡ backslash_count h.0 + backslashes (slices_of takes' rest) = ap backslashes h.1 ∙ backslashes-cons s (slices_of takes' rest) in
+    let fewer : backslashes (slices_of takes text) ≡ backslash_count h.0 + backslashes (slices_of takes' rest) = ap backslashes h.1 ∙ count_one (λ k. begins_with_backslash k.text) s (slices_of takes' rest) in
     let least : backslash_count h.0 ≤ n = h.2 in
     let most : n ≤ 9 * backslash_count h.0 = h.3 in
     record {
@@ -117,12 +116,15 @@ token_taken takes text t n takes' rest tokens tokens' comparisons comparisons' h
 
 -- the counts stay below what their types hold
 
-one_at_most : (w : List ℕ) → backslash_count w ≤ 1
-one_at_most [] = omega arith
-one_at_most (c ∷ w) = elim (cases_Bool (c ∈ "\\")) [ inl h ↦ rw h (omega arith) | inr h ↦ rw h (omega arith) ]
-
 pub fits_taken : (takes : Bool) (text : List ℕ) (t : Tok) (n : ℕ) (takes' : Bool) (rest : List ℕ) (tokens comparisons comparisons' : ℕ) → IsTaken takes text t n takes' rest → comparisons' ≡ comparisons + n → tokens + length text < 2 ^ 64 → comparisons + 9 * length text < 2 ^ 68 → (tokens + 1 + length rest < 2 ^ 64) × (comparisons' + 9 * length rest < 2 ^ 68)
 fits_taken takes text t n takes' rest tokens comparisons comparisons' h e k l =
     let shorter : length rest < length text = h.4 in
     let most : n ≤ 9 * backslash_count h.0 = h.3 in
-    (omega arith, omega (arith, one_at_most h.0))
+    let one : backslash_count h.0 ≤ 1 = cond_both (begins_with_backslash h.0) 1 0 (λ k. k ≤ 1) (λ _. omega arith) (λ _. omega arith) in
+    (omega arith, omega arith)
+
+-- a text whose length fits a machine's word
+pub fits : (text : List ℕ) → IsUtf8 text → length text < 2 ^ 64 → (0 + length (chars text) < 2 ^ 64) × (0 + 9 * length (chars text) < 2 ^ 68)
+fits text u h =
+    let k : length (chars text) ≤ length text = rw (encodes-chars text u) at (length-le-encodes (chars text)) in
+    (omega arith, omega arith)

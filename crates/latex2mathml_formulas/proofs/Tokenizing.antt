@@ -38,12 +38,9 @@ dark_length : (w : List ℕ) → Dark w → 1 ≤ length w
 dark_length [] d = absurd d
 dark_length (c ∷ w) d = omega arith
 
-pub not_empty : (alone : Bool) (w : List ℕ) (next : Option ℕ) (t : Tok) → SpellsAt alone w next t → 1 ≤ length w
-not_empty alone w next t s = dark_length w (spells_dark alone w next t s)
-
 -- so a step leaves less of the text
 pub step_shortens : (takes : Bool) (text rest : List ℕ) (s : Slice) → IsStep takes text s rest → length rest < length text
 step_shortens takes text rest s step =
-    let some : 1 ≤ length s.text = not_empty _ _ _ _ step.3 in
+    let some : 1 ≤ length s.text = dark_length s.text (spells_dark _ _ _ _ step.3) in
     let whole : length text ≡ length step.0 + (length s.text + length rest) = ap length step.1 ∙ length-append step.0 (s.text ++ rest) ∙ ap (λ n. length step.0 + n) (length-append s.text rest) in
     omega arith

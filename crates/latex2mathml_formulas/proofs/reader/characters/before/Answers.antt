@@ -1,11 +1,12 @@
-use Rattle.latex2mathml_formulas.proofs.Fronts.{end_fits, end_is_boundary, front_is}
+use Rattle.std.proofs.Common.{◌∙◌}
+use Rattle.latex2mathml_formulas.proofs.Fronts.{ends_at}
 use Rattle.latex2mathml_formulas.proofs.reader.characters.before.Goals as goal
 
 pub overflow_sub-text : goal.overflow_sub-text
-overflow_sub-text c = end_fits _ _ _ c.utf8.text c.utf8.rest c.requires.1
+overflow_sub-text c = (ends_at _ _ _ c.utf8.text c.utf8.rest c.requires.1).0
 
 pub split_at-requires : goal.split_at-requires
-split_at-requires c = end_is_boundary _ _ _ c.utf8.text c.utf8.rest c.requires.1
+split_at-requires c = (ends_at _ _ _ c.utf8.text c.utf8.rest c.requires.1).1
 
 pub returns : goal.returns
-returns c = front_is _ _ _ c.utf8.text c.utf8.rest c.split_at.ensures.front
+returns c = λ front e. c.split_at.ensures.front ∙ (ends_at _ _ _ c.utf8.text c.utf8.rest e).2
