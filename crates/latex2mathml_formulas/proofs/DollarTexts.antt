@@ -1,14 +1,15 @@
 -- Texts that hold no dollar sign: escaped texts, numbers, and the prints of trees.
-use Rattle.std.proofs.Common.{arith, ◌≡◌, ℕ, zero, suc, ℤ, pos, negsuc, ◌+◌, ◌/◌, ◌%◌, ◌<◌, true, false, List, [], ◌∷◌, ◌++◌, Option, refl}
+use Rattle.std.proofs.Common.{arith, ◌≡◌, ℕ, ℤ, ◌+◌, ◌<◌, true, List, [], ◌∷◌, ◌++◌, Option, refl}
 use Rattle.std.specs.Char.{encode_utf8}
-use Rattle.std.specs.Fmt.{decimal, digits, digits_onto, digit_glyph}
+use Rattle.std.specs.Fmt.{decimal}
+use Rattle.latex2mathml_trees.proofs.ValueTexts.{decimal_passes, width_passes}
 use Rattle.std.proofs.{lemmas.Bool.Decides.nat_tests, lemmas.List.Folds.list_all-append}
 use Rattle.latex2mathml_tokens.specs.Attributes.{accent_text, display_text, variant_text}
 use Rattle.latex2mathml_formulas.specs.Dollars.{is_other, IsDollarFree, free_both, free_first, free_more, free_rest}
 use Rattle.latex2mathml_tokens.specs.Escape.{content, content_byte, content_char, value, value_byte}
 use Rattle.latex2mathml_trees.specs.Print.{print, prints, members_print, letter_print, operator_print, slashed_print, member_print, style_open}
 use Rattle.latex2mathml_trees.specs.Tree.{Tree, Trees, no_trees, more_trees}
-use Rattle.latex2mathml_trees.specs.Width.{width_text, thousandths_text, thousandths, after_point, trimmed}
+use Rattle.latex2mathml_trees.specs.Width.{width_text}
 use Rattle.latex2mathml_tokens.specs.{declared.DisplayStyle.DisplayStyle, declared.attribute.Accent.Accent, declared.attribute.Variant.Variant}
 
 -- Contents escape it.
@@ -30,32 +31,15 @@ pub free_value : (bs : List ℕ) → IsDollarFree bs → IsDollarFree (value bs)
 free_value [] h = refl
 free_value (b ∷ bs) h = free_both (value_byte b) _ (free_value_byte b (free_first b bs h)) (free_value bs (free_rest b bs h))
 
--- numbers
-other_digit : (d : ℕ) → is_other (48 + d) ≡ true
-other_digit d = grind (arith, nat_tests)
-
-other_glyph : (n : ℕ) → is_other (digit_glyph false (n % 10)) ≡ true
-other_glyph n = let h : n % 10 < 10 = omega arith in grind (arith, nat_tests)
-
-free_onto : (k n : ℕ) (acc : List ℕ) → IsDollarFree acc → IsDollarFree (digits_onto k 10 false n acc)
-free_onto zero n acc h = h
-free_onto (suc k) n acc h =
-    let more : IsDollarFree (digit_glyph false (n % 10) ∷ acc) = free_more _ acc (other_glyph n) h in
-    grind (arith, more, free_onto k (n / 10) (digit_glyph false (n % 10) ∷ acc) more)
+-- Numbers and widths hold none.
+other_digit : (d : ℕ) → d < 10 → is_other (48 + d) ≡ true
+other_digit d h = grind (arith, nat_tests)
 
 pub free_decimal : (n : ℕ) → IsDollarFree (decimal n)
-unfolding digits
-free_decimal n = free_onto 64 n [] refl
-
-free_point : (a b c : ℕ) → is_other a ≡ true → is_other b ≡ true → is_other c ≡ true → IsDollarFree (after_point (trimmed (a ∷ b ∷ c ∷ [])))
-free_point a b c h i j = grind arith
-
-free_thousandths : (t : ℕ) → IsDollarFree (thousandths_text t)
-free_thousandths t = free_both (decimal (t / 1000)) _ (free_decimal (t / 1000)) (free_point _ _ _ (other_digit (t % 1000 / 100 % 10)) (other_digit (t % 1000 / 10 % 10)) (other_digit (t % 1000 % 10)))
+free_decimal = decimal_passes is_other other_digit
 
 pub free_width : (n : ℤ) → IsDollarFree (width_text n)
-free_width (pos n) = free_thousandths (thousandths n)
-free_width (negsuc n) = free_thousandths (thousandths (suc n))
+free_width = width_passes is_other other_digit refl refl
 
 -- Prints. A literal at the front of a text computes away, so what is proved names only what stands between literals.
 free_variant : (variant : Variant) → IsDollarFree (variant_text variant)

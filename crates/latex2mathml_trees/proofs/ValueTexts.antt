@@ -1,10 +1,11 @@
 -- Texts that are values of attributes: any text that is escaped, and the texts of numbers and of widths as they are.
-use Rattle.std.proofs.Common.{◌≡◌, ℕ, zero, suc, ℤ, pos, negsuc, ◌+◌, ◌/◌, ◌%◌, ◌<◌, Bool, true, false, ◌&&◌, ◌==◌, IsTrue, List, [], ◌∷◌, ◌++◌, refl, ap, append-nil, arith, codes, cond, nat_eq}
+use Rattle.std.proofs.Common.{◌≡◌, ℕ, zero, suc, ℤ, pos, negsuc, ◌+◌, ◌/◌, ◌%◌, ◌<◌, Bool, true, false, ◌&&◌, ◌==◌, IsTrue, List, [], ◌∷◌, ◌++◌, refl, ap, ◌∙◌, append-nil, arith, codes, cond, map, nat_eq}
 use Rattle.std.specs.Fmt.{decimal, digits, digits_onto, digit_glyph}
 use Rattle.std.specs.List.{flat_map, list_all}
-use Rattle.std.proofs.{lemmas.Bool.Decides.nat_tests, lemmas.Grind.flat_map-append, lemmas.List.Folds.list_all-append}
+use Rattle.std.proofs.{lemmas.Bool.Decides.nat_tests, lemmas.Grind.flat_map-append, lemmas.List.Folds.list_all-append, lemmas.List.Folds.list_all-map}
 use Rattle.latex2mathml_tokens.specs.Escape.{value}
 use Rattle.latex2mathml_trees.specs.Markup.{named, Part, refers, plain, is_part, spell_part}
+use Rattle.latex2mathml_trees.proofs.Runs.{plain-spells}
 use Rattle.latex2mathml_trees.specs.Width.{width_text, thousandths_text, after_point, trimmed, keep, three_digits, thousandths}
 
 -- the text has parts, as a value has
@@ -42,44 +43,42 @@ pub escaped : (bs : List ℕ) → IsValue (value bs)
 escaped [] = no_text
 escaped (b ∷ bs) = beside (tested (b == 34) (b == 36) (b == 38) (b == 60) (b == 62) b refl refl refl refl) (escaped bs)
 
--- numbers
+-- Numbers and widths: what holds of each digit, and of a period and a minus sign, holds of each byte of them.
+module _ (passes : ℕ → Bool) (digit_passes : (d : ℕ) → d < 10 → IsTrue (passes (48 + d))) where
+  glyph_passes : (n : ℕ) → IsTrue (passes (digit_glyph false (n % 10)))
+  glyph_passes n = let h : n % 10 < 10 = omega arith in grind (arith, digit_passes (n % 10) h)
+
+  onto_passes : (k n : ℕ) (acc : List ℕ) → IsTrue (list_all passes acc) → IsTrue (list_all passes (digits_onto k 10 false n acc))
+  onto_passes zero n acc h = h
+  onto_passes (suc k) n acc h =
+      let more : IsTrue (list_all passes (digit_glyph false (n % 10) ∷ acc)) = ap (λ b. b && list_all passes acc) (glyph_passes n) ∙ h in
+      grind (arith, more, onto_passes k (n / 10) (digit_glyph false (n % 10) ∷ acc) more)
+
+  pub decimal_passes : (n : ℕ) → IsTrue (list_all passes (decimal n))
+  unfolding digits
+  decimal_passes n = onto_passes 64 n [] refl
+
+  point_passes : (a b c : ℕ) → IsTrue (passes 46) → IsTrue (passes a) → IsTrue (passes b) → IsTrue (passes c) → IsTrue (list_all passes (after_point (trimmed (a ∷ b ∷ c ∷ []))))
+  point_passes a b c point h i j = grind arith
+
+  thousandths_pass : IsTrue (passes 46) → (t : ℕ) → IsTrue (list_all passes (thousandths_text t))
+  thousandths_pass point t =
+      let n = t % 1000 in
+      let tail = point_passes _ _ _ point (digit_passes (n / 100 % 10) (omega arith)) (digit_passes (n / 10 % 10) (omega arith)) (digit_passes (n % 10) (omega arith)) in
+      list_all-append passes (decimal (t / 1000)) _ ∙ ap (λ b. b && list_all passes (after_point (trimmed (three_digits n)))) (decimal_passes (t / 1000)) ∙ tail
+
+  pub width_passes : IsTrue (passes 46) → IsTrue (passes 45) → (n : ℤ) → IsTrue (list_all passes (width_text n))
+  width_passes point minus (pos n) = thousandths_pass point (thousandths n)
+  width_passes point minus (negsuc n) = ap (λ b. b && list_all passes (thousandths_text (thousandths (suc n)))) minus ∙ thousandths_pass point (thousandths (suc n))
+
+plain_text : (bs : List ℕ) → IsTrue (list_all (λ b. is_part (plain b)) bs) → IsValue bs
+plain_text bs h = record { parts = map plain bs; are_parts = list_all-map is_part plain bs ∙ h; spelled = plain-spells bs }
+
 plain_digit : (d : ℕ) → d < 10 → IsTrue (is_part (plain (48 + d)))
 plain_digit d h = grind (arith, nat_tests)
 
-plain_glyph : (n : ℕ) → IsTrue (is_part (plain (digit_glyph false (n % 10))))
-plain_glyph n = let h : n % 10 < 10 = omega arith in grind (arith, nat_tests)
-
-plain_onto : (k n : ℕ) (acc : List ℕ) → IsValue acc → IsValue (digits_onto k 10 false n acc)
-plain_onto zero n acc h = h
-plain_onto (suc k) n acc h =
-    let more = plain_before (digit_glyph false (n % 10)) (plain_glyph n) h in
-    elim (nat_eq (n / 10) 0) as (λ b. IsValue (cond b (digit_glyph false (n % 10) ∷ acc) (digits_onto k 10 false (n / 10) (digit_glyph false (n % 10) ∷ acc)))) [
-      | true ↦ more
-      | false ↦ plain_onto k (n / 10) (digit_glyph false (n % 10) ∷ acc) more
-    ]
-
 pub plain_decimal : (n : ℕ) → IsValue (decimal n)
-unfolding digits
-plain_decimal n = plain_onto 64 n [] no_text
-
--- widths
-plain_keep : (d : ℕ) (xs : List ℕ) → d < 10 → IsValue xs → IsValue (keep (48 + d) xs)
-plain_keep d [] h x =
-    elim (48 + d == 48) as (λ b. IsValue (cond b [] ((48 + d) ∷ []))) [
-      | true ↦ no_text
-      | false ↦ one_part (plain (48 + d)) (plain_digit d h)
-    ]
-plain_keep d (y ∷ ys) h x = plain_before (48 + d) (plain_digit d h) x
-
-plain_point : (xs : List ℕ) → IsValue xs → IsValue (after_point xs)
-plain_point [] x = x
-plain_point (y ∷ ys) x = plain_before 46 refl x
-
-plain_thousandths : (t : ℕ) → IsValue (thousandths_text t)
-plain_thousandths t =
-    let n = t % 1000 in
-    beside (plain_decimal (t / 1000)) (plain_point (trimmed (three_digits n)) (plain_keep (n / 100 % 10) _ (omega arith) (plain_keep (n / 10 % 10) _ (omega arith) (plain_keep (n % 10) [] (omega arith) no_text))))
+plain_decimal n = plain_text (decimal n) (decimal_passes _ plain_digit n)
 
 pub plain_width : (n : ℤ) → IsValue (width_text n)
-plain_width (pos n) = plain_thousandths (thousandths n)
-plain_width (negsuc n) = plain_before 45 refl (plain_thousandths (thousandths (suc n)))
+plain_width n = plain_text (width_text n) (width_passes _ plain_digit refl refl n)

@@ -1,4 +1,4 @@
-use Rattle.std.proofs.Common.{append-nil, arith, length, refl, sym, ap}
+use Rattle.std.proofs.Common.{append-nil, arith, refl, sym, ap}
 use Rattle.latex2mathml_formulas.specs.Counts.{no_node}
 use Rattle.latex2mathml_tokens.specs.Lexemes.{lexeme_tok}
 use Rattle.latex2mathml_formulas.proofs.Appending.{finished, formula_refused, one_node, within_node}
