@@ -1,16 +1,16 @@
 -- How many nodes and lists are in lists of nodes.
 use Rattle.std.proofs.Common.{◌≡◌, ℕ, zero, suc, ◌+◌, ◌<◌, List, [], ◌∷◌, ◌++◌, length, get_or, ap, arith}
-use Rattle.latex2mathml_nodes.specs.{declared.ast.Node.Node, Nodes.tree, Nodes.trees, Chains.hung_in}
-use Rattle.latex2mathml_trees.specs.Weight.{weight, weights}
+use Rattle.latex2mathml_nodes.specs.{declared.ast.Node.Node, Nodes.tree, Nodes.trees}
+use Rattle.latex2mathml_trees.specs.Weight.{counts, weight, weights}
 
 weights-push : (xs : List Node) (x : Node) → weights (trees (xs ++ x ∷ [])) ≡ weights (trees xs) + weight (tree x) + 1
 weights-push [] x = omega arith
 weights-push (y ∷ ys) x = omega (arith, weights-push ys x)
 
 -- a link of several members has a last one that is whole
-pub hung_in-push : (all xs : List Node) (x : Node) → all ≡ xs ++ x ∷ [] → 0 < length xs → hung_in (trees all) ≡ hung_in (trees xs) + weight (tree x) + 1
-hung_in-push all [] x e h = absurd (omega arith)
-hung_in-push all (y ∷ ys) x e h = rw e (omega (arith, weights-push ys x))
+pub hung-push : (all xs : List Node) (x : Node) → all ≡ xs ++ x ∷ [] → 0 < length xs → counts 0 (trees all) ≡ counts 0 (trees xs) + weight (tree x) + 1
+hung-push all [] x e h = absurd (omega arith)
+hung-push all (y ∷ ys) x e h = rw e (omega (arith, weights-push ys x))
 
 -- all members weigh more than the one at index i
 pub weights_at : (xs : List Node) (i : ℕ) (x : Node) → i < length xs → x ≡ get_or xs i x → weight (tree x) < weights (trees xs)

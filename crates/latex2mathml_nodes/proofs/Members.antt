@@ -1,5 +1,5 @@
 -- Two lists of nodes with the same trees, member by member.
-use Rattle.std.proofs.Common.{◌≡◌, ℕ, suc, ◌+◌, ◌<◌, List, [], ◌∷◌, ◌++◌, length, get_or, take, ap, arith}
+use Rattle.std.proofs.Common.{◌≡◌, ℕ, suc, ◌+◌, ◌<◌, List, [], ◌∷◌, length, get_or, map, take, ap, arith}
 use Rattle.std.proofs.{lemmas.Grind.common_steps, lemmas.List.take_more}
 use Rattle.latex2mathml_nodes.specs.{declared.ast.Node.Node, Nodes.tree, Nodes.trees}
 
@@ -14,11 +14,6 @@ same_at [] ys i x y h p q e = absurd (omega arith)
 same_at (a ∷ xs) (b ∷ ys) (suc i) x y h p q e = same_at xs ys i x y (omega arith) p q cc
 same_at (a ∷ xs) ys i x y h p q e = cc
 
-push : (xs ys : List Node) (x y : Node) → trees xs ≡ trees ys → tree x ≡ tree y → trees (xs ++ x ∷ []) ≡ trees (ys ++ y ∷ [])
-push [] [] x y e f = cc
-push (a ∷ xs) (b ∷ ys) x y e f = let more : trees (xs ++ x ∷ []) ≡ trees (ys ++ y ∷ []) = push xs ys x y (cc) f in cc
-push xs ys x y e f = cc
-
 -- one more member at index i
-pub same_more : (xs ys : List Node) (i : ℕ) (x y : Node) → i < length xs → i < length ys → x ≡ get_or xs i x → y ≡ get_or ys i y → trees (take i xs) ≡ trees (take i ys) → tree x ≡ tree y → trees (take (i + 1) xs) ≡ trees (take (i + 1) ys)
-same_more xs ys i x y h k p q e f = grind (arith, common_steps, push, take_more xs i x h, take_more ys i y k)
+pub same_more : (xs ys : List Node) (i : ℕ) (x y : Node) → i < length xs → i < length ys → x ≡ get_or xs i x → y ≡ get_or ys i y → map tree (take i xs) ≡ map tree (take i ys) → tree x ≡ tree y → map tree (take (i + 1) xs) ≡ map tree (take (i + 1) ys)
+same_more xs ys i x y h k p q e f = grind (arith, common_steps, take_more xs i x h, take_more ys i y k)

@@ -1,9 +1,9 @@
 -- The markup of trees, as it is written: the parts of it that are fixed stand together.
 use Rattle.std.proofs.Common.{◌≡◌, ℕ, List, ◌++◌, append_assoc, codes, Some}
 use Rattle.std.specs.Fmt.{digits}
-use Rattle.latex2mathml_trees.specs.{Print.print, Tree.Tree, Tree.operator}
+use Rattle.latex2mathml_trees.specs.{Print.print, Print.style_open, Tree.Tree, Tree.operator}
 use Rattle.latex2mathml_trees.specs.Productions.{binomial_tree, coefficient, labelled_overbrace_tree, labelled_underbrace_tree}
-use Rattle.latex2mathml_tokens.specs.declared.DisplayStyle.TheVariants.{Block, Inline}
+use Rattle.latex2mathml_tokens.specs.declared.DisplayStyle.{DisplayStyle}
 
 pub three : (a x b rest : List ℕ) → (a ++ (x ++ b)) ++ rest ≡ a ++ (x ++ (b ++ rest))
 three a x b rest = simp append_assoc
@@ -12,13 +12,9 @@ pub coefficient_print : (x y : Tree) → codes "<mrow><mo stretchy=\"true\" form
 unfolding digits
 coefficient_print x y = simp append_assoc
 
-pub block_print : (x y : Tree) → codes "<mstyle displaystyle=\"true\"><mrow><mrow><mo stretchy=\"true\" form=\"prefix\">(</mo><mfrac linethickness=\"0\">" ++ (print x ++ (print y ++ codes "</mfrac><mo stretchy=\"true\" form=\"postfix\">)</mo></mrow></mrow></mstyle>")) ≡ print (binomial_tree (Some Block) x y)
+pub display_print : (d : DisplayStyle) (x y : Tree) → (style_open (Some d) ++ codes "<mrow><mrow><mo stretchy=\"true\" form=\"prefix\">(</mo><mfrac linethickness=\"0\">") ++ (print x ++ (print y ++ codes "</mfrac><mo stretchy=\"true\" form=\"postfix\">)</mo></mrow></mrow></mstyle>")) ≡ print (binomial_tree (Some d) x y)
 unfolding digits
-block_print x y = simp append_assoc
-
-pub inline_print : (x y : Tree) → codes "<mstyle displaystyle=\"false\"><mrow><mrow><mo stretchy=\"true\" form=\"prefix\">(</mo><mfrac linethickness=\"0\">" ++ (print x ++ (print y ++ codes "</mfrac><mo stretchy=\"true\" form=\"postfix\">)</mo></mrow></mrow></mstyle>")) ≡ print (binomial_tree (Some Inline) x y)
-unfolding digits
-inline_print x y = simp append_assoc
+display_print d x y = simp append_assoc
 
 pub overbraced_print : (c : ℕ) (label x : Tree) → codes "<mover>" ++ (print x ++ (codes "<mover>" ++ (print (operator c) ++ (print label ++ codes "</mover></mover>")))) ≡ print (labelled_overbrace_tree c label x)
 overbraced_print c label x = simp append_assoc

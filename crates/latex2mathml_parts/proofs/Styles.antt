@@ -1,9 +1,10 @@
 -- Trees in a style. No style changes a tree that is neither a letter nor a row.
 use Rattle.std.proofs.Common.{◌≡◌, ◌+◌, Option, None, Some, refl, ap}
+use Rattle.std.specs.Option.{option_or}
 use Rattle.latex2mathml_trees.specs.{Style.all_styled, Style.styled, Weight.weight, Weight.weights}
 use Rattle.latex2mathml_trees.specs.Tree.{Tree, Trees, no_trees, more_trees, letter, row}
 use Rattle.latex2mathml_tokens.specs.declared.attribute.Variant.{Variant}
-use Rattle.latex2mathml_parts.specs.Forms.{all_in, given, in_style, outer}
+use Rattle.latex2mathml_parts.specs.Forms.{all_in, in_style}
 
 -- no style changes nothing
 mutual
@@ -39,16 +40,13 @@ mutual
   weights_in s (more_trees x rest) = cc (weight_in s x, weights_in s rest)
 
 -- of two styles the outer one stays
-given_outer : (s o : Option Variant) (v : Variant) → given s (given o v) ≡ given (outer s o) v
-given_outer None o v = refl
-given_outer (Some w) o v = refl
-
 mutual
-  twice : (s o : Option Variant) (x : Tree) → in_style s (in_style o x) ≡ in_style (outer s o) x
-  twice s o (letter c own) = ap (letter c) (given_outer s o own)
+  twice : (s o : Option Variant) (x : Tree) → in_style s (in_style o x) ≡ in_style (option_or s o) x
+  twice None o (letter c own) = refl
+  twice (Some v) o (letter c own) = refl
   twice s o (row xs) = ap row (all_twice s o xs)
   twice s o x = refl
 
-  pub all_twice : (s o : Option Variant) (xs : Trees) → all_in s (all_in o xs) ≡ all_in (outer s o) xs
+  pub all_twice : (s o : Option Variant) (xs : Trees) → all_in s (all_in o xs) ≡ all_in (option_or s o) xs
   all_twice s o no_trees = refl
   all_twice s o (more_trees x rest) = cc (twice s o x, all_twice s o rest)

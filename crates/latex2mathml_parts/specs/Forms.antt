@@ -1,25 +1,15 @@
 -- What the entries of the list of parts make of the trees before them.
-use Rattle.std.specs.Prelude.{ℕ, ◌<◌, List, [], ◌∷◌, Option, Some, None, true, drop, length, reverse, slice_index_or, suc, take}
+use Rattle.std.specs.Prelude.{ℕ, ◌<◌, List, [], ◌∷◌, Option, true, drop, length, reverse, slice_index_or, suc, take, unwrap_or}
 use Rattle.std.specs.Char.{encode_utf8}
 use Rattle.latex2mathml_trees.specs.Tree.{Tree, Trees, function, letter, matrix, row, slashed, stretched, undefined, words, no_trees, more_trees, trees_of}
 use Rattle.latex2mathml_tokens.specs.{Names.paren_text, declared.attribute.Variant.Variant}
 use Rattle.latex2mathml_parts.specs.{Parts.arity, Parts.put, Parts.top, declared.form.Form.Form}
 use Rattle.latex2mathml_parts.specs.declared.form.Form.TheVariants as form
 
--- the variant of a letter in a style
-abbrev pub given : Option Variant → Variant → Variant
-given None own = own
-given (Some variant) own = variant
-
--- the style of letters in what has a style of its own: the outer one stays
-abbrev pub outer : Option Variant → Option Variant → Option Variant
-outer None own = own
-outer (Some variant) own = Some variant
-
 abbrev mutual
   -- a tree in a style, where there is one
   pub in_style : Option Variant → Tree → Tree
-  in_style style (letter c own) = letter c (given style own)
+  in_style style (letter c own) = letter c (unwrap_or style own)
   in_style style (row members) = row (all_in style members)
   in_style style x = x
 

@@ -1,9 +1,9 @@
 //! From parts to markup.
-ghost use Rattle.std.specs.Prelude.{◌≡◌, ◌+◌, ◌<◌, ◌≤◌, ◌++◌, [], IfOk, OnOk, length, string_bytes, None};
+ghost use Rattle.std.specs.Prelude.{◌≡◌, ◌+◌, ◌<◌, ◌≤◌, ◌++◌, IfOk, OnOk, length, string_bytes, None};
 ghost use Rattle.latex2mathml_trees.specs.{Print.print, Tree.slashed};
 ghost use Rattle.latex2mathml_parts.specs.Forests.{IsPlace, tree_at, trees_at, trees_in};
 ghost use Rattle.latex2mathml_parts.specs.Forms.{HasText, arity_of, in_style, put_form};
-ghost use Rattle.latex2mathml_parts.specs.{Parts.arity, Parts.put, Parts.top, Shapes.print_weight};
+ghost use Rattle.latex2mathml_parts.specs.{Parts.top, Shapes.print_weight};
 ghost use Rattle.latex2mathml_parts.specs.Works.{AreIn, IsIn, IsNext, Leaves, Writes, work_print, work_weight};
 
 mod fences;
@@ -18,10 +18,9 @@ use crate::kind::Kind;
 use crate::parts::Parts;
 use crate::work::{Work, Works};
 use crate::write::fences::Elements;
-use crate::write::groups::{Group, outer};
+use crate::write::groups::Group;
 use crate::write::leaves::{
-    letter_variant, write_brace, write_char, write_letter, write_operator, write_sign,
-    write_slashed, write_text,
+    write_brace, write_char, write_letter, write_operator, write_sign, write_slashed, write_text,
 };
 use latex2mathml_tokens::attribute::Variant;
 use latex2mathml_trees::append::append_undefined;
@@ -31,24 +30,16 @@ use std::alloc::AllocError;
 impl Parts<'_> {
     /// Writes the markup of the last tree after the text. It does not recurse: what is still to be written stands in
     /// `works`. The only `Err` is out of memory, for that list or for the text.
+    #[tactic(auto, using(crate::proofs::Styles::plain, crate::proofs::Forests::all_taken, std::proofs::lemmas::Grind::common_steps))]
     pub fn write(&self, works: &mut Works, out: &mut String) -> Result<(), AllocError>
         requires { 0 < length (trees_in self.now) }
         ensures { OnOk result (string_bytes out.new ≡ string_bytes out.old ++ print (top (trees_in self.now))) }
     {
-        works.list.clear();
-        self.write_last(&mut works.list, out)
-    }
-
-    /// Writes the last tree of the list.
-    #[tactic(auto, using(crate::proofs::Styles::plain, crate::proofs::Forests::all_taken, std::proofs::lemmas::Grind::common_steps))]
-    fn write_last(&self, works: &mut Vec<Work>, out: &mut String) -> Result<(), AllocError>
-        requires some { 0 < length (trees_in self.now) }
-        requires empty { works.old.items ≡ [] }
-        ensures { OnOk result (string_bytes out.new ≡ string_bytes out.old ++ print (top (trees_in self.now))) }
-    {
-        self.push_work(Work::Tree(self.len(), None), works)?;
-        'works: while let Some(work) = works.pop() {
-            self.write_work(work, works, out)?;
+        let list = &mut works.list;
+        list.clear();
+        self.push_work(Work::Tree(self.len(), None), list)?;
+        'works: while let Some(work) = list.pop() {
+            self.write_work(work, list, out)?;
         }
         Ok(())
     }
@@ -140,9 +131,22 @@ impl Parts<'_> {
             (print_weight (top (put_form self.now.texts form.entry (trees_at self.now end)))) works.new.items) }
     {
         match form {
-            Form::Of(kind) => return self.write_kind(kind, style, end, works, out),
+            Form::Of(Kind::Letter(c, own)) => write_letter(c, style.unwrap_or(own), out)?,
+            Form::Of(kind) => match kind {
+                Kind::Number(_)
+                | Kind::Operator(_)
+                | Kind::Paren(_)
+                | Kind::Ampersand
+                | Kind::NewLine
+                | Kind::Space(_)
+                | Kind::Function(_)
+                | Kind::Limit(_)
+                | Kind::SizedParen(_, _) => write_leaf(kind, out)?,
+                _ => return self.write_operands(kind, end, works, out),
+            },
+            // Of two styles the outer one stays.
             Form::Row(count, own) => {
-                self.write_group(Group::Row, count, outer(style, own), end, works, out)?;
+                self.write_group(Group::Row, count, style.or(own), end, works, out)?;
             }
             Form::Matrix(count, own, align) => {
                 self.write_group(Group::Matrix(align), count, own, end, works, out)?;
@@ -175,39 +179,5 @@ impl Parts<'_> {
             return Ok(None);
         }
         Ok(Some(end))
-    }
-
-    /// Writes what stands first of the tree of a part of this kind, after so many parts, and puts what follows on the
-    /// list.
-    #[inline(always)]
-    fn write_kind(
-        &self,
-        kind: Kind,
-        style: Option<Variant>,
-        end: usize,
-        works: &mut Vec<Work>,
-        out: &mut String,
-    ) -> Result<Option<usize>, AllocError>
-        requires fits { arity kind ≤ length (trees_at self.now end) }
-        requires within { end ≤ length self.now.list }
-        requires inside { AreIn self.now works.old.items }
-        ensures print { IfOk result (Writes self.now (string_bytes out.old) works.old.items
-            (print (in_style style (top (put kind.entry (trees_at self.now end))))) (string_bytes out.new) works.new.items) }
-        ensures left { IfOk result (Leaves self.now works.old.items (print_weight (top (put kind.entry (trees_at self.now end)))) works.new.items) }
-    {
-        match kind {
-            Kind::Letter(c, own) => write_letter(c, letter_variant(style, own), out)?,
-            Kind::Number(_)
-            | Kind::Operator(_)
-            | Kind::Paren(_)
-            | Kind::Ampersand
-            | Kind::NewLine
-            | Kind::Space(_)
-            | Kind::Function(_)
-            | Kind::Limit(_)
-            | Kind::SizedParen(_, _) => write_leaf(kind, out)?,
-            _ => return self.write_operands(kind, end, works, out),
-        }
-        Ok(None)
     }
 }

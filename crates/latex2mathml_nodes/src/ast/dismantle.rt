@@ -1,8 +1,7 @@
 //! Dropping nodes of any depth.
 ghost use Rattle.std.specs.Prelude.{◌≡◌, ◌+◌, ◌<◌, IfSome, IsTrue};
-ghost use Rattle.latex2mathml_nodes.specs.{Nodes.tree, Nodes.trees, Chains.hung, Chains.hung_in};
-ghost use Rattle.latex2mathml_trees.specs.Weight.{weight, weights};
-ghost use Rattle.latex2mathml_nodes.specs.Held.{weight_of_parts, chain_weight_of_parts};
+ghost use Rattle.latex2mathml_nodes.specs.{Held.held, Held.hung, Nodes.tree, Nodes.trees};
+ghost use Rattle.latex2mathml_trees.specs.Weight.{counts, weight, weights};
 
 use crate::ast::Node;
 use std::mem;
@@ -30,8 +29,8 @@ impl Node {
     /// The nodes that the node was made of. Everything else in it is dropped.
     #[inline(always)]
     fn parts(self) -> Parts
-        ensures weight { weight (tree self) ≡ weight_of_parts result }
-        ensures hung { hung (tree self) ≡ chain_weight_of_parts result }
+        ensures weight { weight (tree self) ≡ held 1 result }
+        ensures hung { hung (tree self) ≡ held 0 result }
     {
         match self {
             Node::Letter(_, _)
@@ -103,7 +102,7 @@ pub(crate) fn dismantle(node: Node) {
 /// The parts of the first part, and the chain with its other parts. Where there are none, what hangs on the chain is
 /// next.
 fn step(parts: Parts, chain: Node) -> Option<(Parts, Node)>
-    ensures { IfSome result (λ p. weight_of_parts p.0 + hung (tree p.1) < weight_of_parts parts + hung (tree chain)) }
+    ensures { IfSome result (λ p. held 1 p.0 + hung (tree p.1) < held 1 parts + hung (tree chain)) }
 {
     match parts {
         Parts::None => next(chain),
@@ -119,7 +118,7 @@ fn step(parts: Parts, chain: Node) -> Option<(Parts, Node)>
 
 /// The parts of the first of two nodes, whose place the chain takes, or of the second if the first is a leaf.
 fn of_two(mut x: Box<Node>, y: Box<Node>, chain: Node) -> (Parts, Node)
-    ensures { weight_of_parts result.0 + hung (tree result.1)
+    ensures { held 1 result.0 + hung (tree result.1)
         < weight (tree x.value) + weight (tree y.value) + 2 + hung (tree chain) }
 {
     if x.is_leaf() {
@@ -142,7 +141,7 @@ fn drop_leaf(leaf: Node)
 
 /// The parts of the first member, whose place the chain takes.
 fn first_of_all(mut members: Vec<Node>, chain: Node) -> Option<(Parts, Node)>
-    ensures { IfSome result (λ p. weight_of_parts p.0 + hung (tree p.1)
+    ensures { IfSome result (λ p. held 1 p.0 + hung (tree p.1)
         < weights (trees members.items) + 1 + hung (tree chain)) }
 {
     if members.is_empty() {
@@ -155,7 +154,7 @@ fn first_of_all(mut members: Vec<Node>, chain: Node) -> Option<(Parts, Node)>
 
 /// The parts of the last part that hangs on the chain, and the rest of the chain.
 fn next(chain: Node) -> Option<(Parts, Node)>
-    ensures { IfSome result (λ p. weight_of_parts p.0 + hung (tree p.1) < hung (tree chain)) }
+    ensures { IfSome result (λ p. held 1 p.0 + hung (tree p.1) < hung (tree chain)) }
 {
     match chain.parts() {
         Parts::None => None,
@@ -171,7 +170,7 @@ fn next(chain: Node) -> Option<(Parts, Node)>
 /// The parts of the last member that has some, and the chain of the members before it. The first member is the chain
 /// before them.
 fn last_of_all(mut members: Vec<Node>) -> Option<(Parts, Node)>
-    ensures { IfSome result (λ p. weight_of_parts p.0 + hung (tree p.1) < hung_in (trees members.items)) }
+    ensures { IfSome result (λ p. held 1 p.0 + hung (tree p.1) < counts 0 (trees members.items)) }
 {
     'members: while let Some(last) = members.pop() {
         if members.is_empty() {

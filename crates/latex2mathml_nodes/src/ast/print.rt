@@ -3,12 +3,11 @@ ghost use Rattle.std.specs.Prelude.{Some, ◌++◌, codes};
 ghost use Rattle.std.specs.Fmt.{WritesOnOk};
 ghost use Rattle.latex2mathml_nodes.specs.Nodes.{tree, trees};
 ghost use Rattle.latex2mathml_tokens.specs.{Attributes.accent_text, Attributes.variant_text, Escape.content, Escape.content_char};
-ghost use Rattle.latex2mathml_trees.specs.Print.{member_print, members_print, print, prints};
-ghost use Rattle.latex2mathml_trees.specs.Tree.{applied, fenced, frac, matrix, row, sized_paren, slashed};
+ghost use Rattle.latex2mathml_trees.specs.{Print.member_print, Print.members_print, Print.print, Print.prints, Tree.applied};
 
 use crate::ast::Node;
 use latex2mathml_tokens::DisplayStyle;
-use latex2mathml_tokens::attribute::{Accent, ColumnAlign, LineThickness, Variant};
+use latex2mathml_tokens::attribute::{Accent, Variant};
 use latex2mathml_trees::text::{write_content, write_content_char, write_undefined, write_value};
 use latex2mathml_trees::width::write_space;
 use std::fmt;
@@ -25,6 +24,7 @@ impl fmt::Display for Node {
 
 /// The one place that says how each kind of node is printed.
 #[cycle(print)]
+#[tactic(auto, using(std::proofs::lemmas::Grind::common_steps, crate::specs::declared::ast::Node::the_lemmas))]
 fn write_node<W: fmt::Write>(node: &Node, f: &mut fmt::Formatter<W>) -> fmt::Result
     ensures { WritesOnOk W.write_str_gives f.old result (print (tree node.now)) f.new }
 {
@@ -43,10 +43,14 @@ fn write_node<W: fmt::Write>(node: &Node, f: &mut fmt::Formatter<W>) -> fmt::Res
             write_three("<msubsup>", target, sub, sup, "</msubsup>", f)
         }
         Node::OverOp(c, accent, x) => {
-            write_accented("<mover>", x, *c, *accent, "</mo></mover>", f)
+            f.write_str("<mover>")?;
+            write_node(x, f)?;
+            write_accent(*c, *accent, "</mo></mover>", f)
         }
         Node::UnderOp(c, accent, x) => {
-            write_accented("<munder>", x, *c, *accent, "</mo></munder>", f)
+            f.write_str("<munder>")?;
+            write_node(x, f)?;
+            write_accent(*c, *accent, "</mo></munder>", f)
         }
         Node::Overset { over, target } => write_two("<mover>", target, over, "</mover>", f),
         Node::Underset { under, target } => write_two("<munder>", target, under, "</munder>", f),
@@ -59,23 +63,57 @@ fn write_node<W: fmt::Write>(node: &Node, f: &mut fmt::Formatter<W>) -> fmt::Res
         Node::Sqrt(None, x) => write_one("<msqrt>", x, "</msqrt>", f),
         Node::Sqrt(Some(degree), x) => write_two("<mroot>", x, degree, "</mroot>", f),
         Node::Frac(numerator, denominator, thickness) => {
-            write_fraction(numerator, denominator, *thickness, f)
+            f.write_str("<mfrac")?;
+            thickness.fmt(f)?;
+            write_two(">", numerator, denominator, "</mfrac>", f)
         }
-        Node::Row(members) => write_row(members, f),
+        Node::Row(members) => {
+            f.write_str("<mrow>")?;
+            write_all(members, f)?;
+            f.write_str("</mrow>")
+        }
         Node::Fenced {
             opening,
             close,
             content,
-        } => write_fenced(opening, content, close, f),
+        } => {
+            f.write_str("<mrow><mo stretchy=\"true\" form=\"prefix\">")?;
+            write_content(opening, f)?;
+            f.write_str("</mo>")?;
+            write_node(content, f)?;
+            write_text(
+                "<mo stretchy=\"true\" form=\"postfix\">",
+                close,
+                "</mo></mrow>",
+                f,
+            )
+        }
         Node::StrechedOp(true, text) => write_text("<mo stretchy=\"true\">", text, "</mo>", f),
         Node::StrechedOp(false, text) => write_text("<mo stretchy=\"false\">", text, "</mo>", f),
         Node::OtherOperator(text) => write_text("<mo>", text, "</mo>", f),
-        Node::SizedParen { size, paren } => write_sized(size, paren, f),
+        Node::SizedParen { size, paren } => {
+            f.write_str("<mrow><mo maxsize=\"")?;
+            write_value(size, f)?;
+            f.write_str("\" minsize=\"")?;
+            write_value(size, f)?;
+            write_text("\">", paren, "</mo></mrow>", f)
+        }
         Node::Text(text) => write_text("<mtext>", text, "</mtext>", f),
-        Node::Matrix(members, align) => write_matrix(members, *align, f),
+        Node::Matrix(members, align) => {
+            f.write_str("<mtable")?;
+            align.fmt(f)?;
+            f.write_str("><mtr><mtd>")?;
+            write_members(members, f)?;
+            f.write_str("</mtd></mtr></mtable>")
+        }
         Node::Ampersand => f.write_str("<mtext>[PARSE ERROR: Ampersand]</mtext>"),
         Node::NewLine => f.write_str("<mtext>[PARSE ERROR: NewLine]</mtext>"),
-        Node::Slashed(x) => write_slashed(x, f),
+        // A letter and an operator show the slash, no other node does.
+        Node::Slashed(x) => match &**x {
+            Node::Letter(c, variant) => write_letter(*c, *variant, "&#x0338;</mi>", f),
+            Node::Operator(c) => write_char("<mo>", *c, "&#x0338;</mo>", f),
+            x => write_node(x, f),
+        },
         Node::Style(None, x) => write_one("<mstyle>", x, "</mstyle>", f),
         Node::Style(Some(DisplayStyle::Block), x) => {
             write_one("<mstyle displaystyle=\"true\">", x, "</mstyle>", f)
@@ -87,19 +125,8 @@ fn write_node<W: fmt::Write>(node: &Node, f: &mut fmt::Formatter<W>) -> fmt::Res
     }
 }
 
-/// Writes a letter or an operator with a slash through it, and any other node as it is.
 #[cycle(print)]
-fn write_slashed<W: fmt::Write>(x: &Node, f: &mut fmt::Formatter<W>) -> fmt::Result
-    ensures { WritesOnOk W.write_str_gives f.old result (print (slashed (tree x.now))) f.new }
-{
-    match x {
-        Node::Letter(c, variant) => write_letter(*c, *variant, "&#x0338;</mi>", f),
-        Node::Operator(c) => write_char("<mo>", *c, "&#x0338;</mo>", f),
-        _ => write_node(x, f),
-    }
-}
-
-#[cycle(print)]
+#[tactic(auto, using(crate::proofs::Chains::weights_at))]
 fn write_all<W: fmt::Write>(nodes: &[Node], f: &mut fmt::Formatter<W>) -> fmt::Result
     ensures { WritesOnOk W.write_str_gives f.old result (prints (trees nodes.now)) f.new }
 {
@@ -107,6 +134,18 @@ fn write_all<W: fmt::Write>(nodes: &[Node], f: &mut fmt::Formatter<W>) -> fmt::R
         write_node(node, f)?;
     }
     Ok(())
+}
+
+/// Writes the name of a function and its argument.
+#[cycle(print)]
+fn write_applied<W: fmt::Write>(name: &str, x: &Node, f: &mut fmt::Formatter<W>) -> fmt::Result
+    ensures { WritesOnOk W.write_str_gives f.old result (print (applied name.now (tree x.now)))
+        f.new }
+{
+    f.write_str("<mi>")?;
+    write_content(name, f)?;
+    f.write_str("</mi><mo>&#x2061;</mo>")?;
+    write_node(x, f)
 }
 
 /// Writes a node between two tags.
@@ -163,100 +202,8 @@ fn write_three<W: fmt::Write>(
     f.write_str(after)
 }
 
-/// Writes a node, and then the sign over it or under it.
 #[cycle(print)]
-fn write_accented<W: fmt::Write>(
-    before: &str,
-    x: &Node,
-    c: char,
-    accent: Accent,
-    after: &str,
-    f: &mut fmt::Formatter<W>,
-) -> fmt::Result
-    ensures { WritesOnOk W.write_str_gives f.old result
-        (before.now ++ (print (tree x.now) ++ (codes "<mo accent=\"" ++ (accent_text accent
-        ++ (codes "\">" ++ (content_char c ++ after.now)))))) f.new }
-{
-    f.write_str(before)?;
-    write_node(x, f)?;
-    write_accent(c, accent, after, f)
-}
-
-#[cycle(print)]
-fn write_fraction<W: fmt::Write>(
-    a: &Node,
-    b: &Node,
-    thickness: LineThickness,
-    f: &mut fmt::Formatter<W>,
-) -> fmt::Result
-    ensures { WritesOnOk W.write_str_gives f.old result
-        (print (frac (tree a.now) (tree b.now) thickness)) f.new }
-{
-    f.write_str("<mfrac")?;
-    thickness.fmt(f)?;
-    write_two(">", a, b, "</mfrac>", f)
-}
-
-#[cycle(print)]
-fn write_fenced<W: fmt::Write>(
-    opening: &str,
-    x: &Node,
-    close: &str,
-    f: &mut fmt::Formatter<W>,
-) -> fmt::Result
-    ensures { WritesOnOk W.write_str_gives f.old result
-        (print (fenced opening.now close.now (tree x.now))) f.new }
-{
-    f.write_str("<mrow><mo stretchy=\"true\" form=\"prefix\">")?;
-    write_content(opening, f)?;
-    f.write_str("</mo>")?;
-    write_node(x, f)?;
-    write_text(
-        "<mo stretchy=\"true\" form=\"postfix\">",
-        close,
-        "</mo></mrow>",
-        f,
-    )
-}
-
-/// Writes the name of a function and its argument.
-#[cycle(print)]
-fn write_applied<W: fmt::Write>(name: &str, x: &Node, f: &mut fmt::Formatter<W>) -> fmt::Result
-    ensures { WritesOnOk W.write_str_gives f.old result (print (applied name.now (tree x.now)))
-        f.new }
-{
-    f.write_str("<mi>")?;
-    write_content(name, f)?;
-    f.write_str("</mi><mo>&#x2061;</mo>")?;
-    write_node(x, f)
-}
-
-#[cycle(print)]
-fn write_row<W: fmt::Write>(members: &[Node], f: &mut fmt::Formatter<W>) -> fmt::Result
-    ensures { WritesOnOk W.write_str_gives f.old result (print (row (trees members.now))) f.new }
-{
-    f.write_str("<mrow>")?;
-    write_all(members, f)?;
-    f.write_str("</mrow>")
-}
-
-#[cycle(print)]
-fn write_matrix<W: fmt::Write>(
-    members: &[Node],
-    align: ColumnAlign,
-    f: &mut fmt::Formatter<W>,
-) -> fmt::Result
-    ensures { WritesOnOk W.write_str_gives f.old result
-        (print (matrix (trees members.now) align)) f.new }
-{
-    f.write_str("<mtable")?;
-    align.fmt(f)?;
-    f.write_str("><mtr><mtd>")?;
-    write_members(members, f)?;
-    f.write_str("</mtd></mtr></mtable>")
-}
-
-#[cycle(print)]
+#[tactic(auto, using(crate::proofs::Chains::weights_at))]
 fn write_members<W: fmt::Write>(members: &[Node], f: &mut fmt::Formatter<W>) -> fmt::Result
     ensures { WritesOnOk W.write_str_gives f.old result (members_print (trees members.now)) f.new }
 {
@@ -320,9 +267,8 @@ fn write_letter<W: fmt::Write>(
         (codes "<mi mathvariant=\"" ++ (variant_text variant ++ (codes "\">"
         ++ (content_char c ++ after.now)))) f.new }
 {
-    write!(f, "<mi mathvariant=\"{variant}\">")?;
-    write_content_char(c, f)?;
-    f.write_str(after)
+    write!(f, "<mi mathvariant=\"{variant}")?;
+    write_char("\">", c, after, f)
 }
 
 /// Writes the sign over or under a node, and what stands after it.
@@ -336,19 +282,6 @@ fn write_accent<W: fmt::Write>(
         (codes "<mo accent=\"" ++ (accent_text accent ++ (codes "\">"
         ++ (content_char c ++ after.now)))) f.new }
 {
-    write!(f, "<mo accent=\"{accent}\">")?;
-    write_content_char(c, f)?;
-    f.write_str(after)
-}
-
-/// Writes a parenthesis of a size of its own.
-fn write_sized<W: fmt::Write>(size: &str, paren: &str, f: &mut fmt::Formatter<W>) -> fmt::Result
-    ensures { WritesOnOk W.write_str_gives f.old result
-        (print (sized_paren size.now paren.now)) f.new }
-{
-    f.write_str("<mrow><mo maxsize=\"")?;
-    write_value(size, f)?;
-    f.write_str("\" minsize=\"")?;
-    write_value(size, f)?;
-    write_text("\">", paren, "</mo></mrow>", f)
+    write!(f, "<mo accent=\"{accent}")?;
+    write_char("\">", c, after, f)
 }

@@ -1,7 +1,7 @@
 //! Groups of trees: rows and matrices.
 ghost use Rattle.std.specs.Prelude.{◌≡◌, ◌+◌, ◌<◌, ◌≤◌, ◌++◌, OnOk, length, reverse, string_bytes, sum_by, take, None};
 ghost use Rattle.latex2mathml_trees.specs.{Print.print, Tree.trees_of};
-ghost use Rattle.latex2mathml_parts.specs.{Forests.IsPlace, Forests.tree_at, Forests.trees_at, Forms.all_in, Forms.outer};
+ghost use Rattle.latex2mathml_parts.specs.{Forests.IsPlace, Forests.tree_at, Forests.trees_at, Forms.all_in};
 ghost use Rattle.latex2mathml_parts.specs.Groups.{group_close, group_open, member_in, members_in, tree_of_group};
 ghost use Rattle.latex2mathml_parts.specs.Shapes.{print_weight};
 ghost use Rattle.latex2mathml_parts.specs.Works.{AreIn, IsIn, Leaves, Writes, due, load, work_print, work_weight};
@@ -41,16 +41,6 @@ impl Group {
             Group::Row => "</mrow>",
             Group::Matrix(_) => "</mtd></mtr></mtable>",
         }
-    }
-}
-
-/// The style of letters in a row that has a style of its own: the outer one stays.
-pub(crate) fn outer(style: Option<Variant>, own: Option<Variant>) -> Option<Variant>
-    ensures { result ≡ outer style own }
-{
-    match style {
-        None => own,
-        Some(variant) => Some(variant),
     }
 }
 

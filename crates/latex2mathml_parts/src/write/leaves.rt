@@ -2,7 +2,7 @@
 ghost use Rattle.std.specs.Prelude.{◌≡◌, ◌++◌, ℕ, List, [], IfOk, MatchBool, OnOk, codes, string_bytes};
 ghost use Rattle.latex2mathml_trees.specs.Print.{print};
 ghost use Rattle.latex2mathml_trees.specs.Tree.{Tree, letter, number, operator, sized_paren, slashed, space};
-ghost use Rattle.latex2mathml_parts.specs.{Forms.given, Forms.put_form, Parts.arity, Parts.put, Parts.top, Shapes.sign_print};
+ghost use Rattle.latex2mathml_parts.specs.{Forms.put_form, Parts.arity, Parts.put, Parts.top, Shapes.sign_print};
 ghost use Rattle.latex2mathml_tokens.specs.{Escape.content, Escape.content_char, Names.paren_text, Names.size_text};
 ghost use Rattle.latex2mathml_tokens.specs.declared.attribute.Variant.TheVariants.{Italic};
 
@@ -36,16 +36,6 @@ pub fn write_leaf(kind: Kind, out: &mut String) -> Result<(), AllocError>
         Kind::Limit(name) => out.push_str(limit_markup(name)),
         Kind::SizedParen(size, paren) => write_sized(size, paren, out),
         _ => unreachable!(),
-    }
-}
-
-/// The variant of a letter in a style.
-pub(crate) fn letter_variant(style: Option<Variant>, own: Variant) -> Variant
-    ensures { result ≡ given style own }
-{
-    match style {
-        None => own,
-        Some(variant) => variant,
     }
 }
 

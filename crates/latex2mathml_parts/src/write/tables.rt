@@ -92,15 +92,9 @@ pub(crate) fn digit_markup(digits: &[u8]) -> Option<&'static str>
 pub(crate) fn space_markup(width: i32) -> Option<&'static str>
     ensures { IfSome result (λ markup. markup.now ≡ print (space width)) }
 {
-    match width {
-        3 => Some("<mspace width=\"0.167em\"/>"),
-        4 => Some("<mspace width=\"0.222em\"/>"),
-        5 => Some("<mspace width=\"0.278em\"/>"),
-        18 => Some("<mspace width=\"1em\"/>"),
-        36 => Some("<mspace width=\"2em\"/>"),
-        -3 => Some("<mspace width=\"-0.167em\"/>"),
-        _ => None,
-    }
+    elements!(width, "<mspace width=\"", "em\"/>",;
+        3 => "0.167"; 4 => "0.222"; 5 => "0.278"; 18 => "1"; 36 => "2"; -3 => "-0.167"
+    )
 }
 
 /// The tag before a letter that has this style.

@@ -1,5 +1,5 @@
 -- The members before the index are the same; and how much is in what each function has still to compare.
-use Rattle.std.proofs.Common.{◌≡◌, ◌+◌, ◌*◌, length, take}
+use Rattle.std.proofs.Common.{◌≡◌, ◌+◌, ◌*◌, length, map, take}
 use Rattle.latex2mathml_nodes.specs.{Layers.weight_within, Layers.within, Nodes.tree, Nodes.trees}
 use Rattle.latex2mathml_trees.specs.Weight.{weight, weights}
 use Rattle.latex2mathml_nodes.proofs.ast.equality.+same.Given as goal
@@ -7,7 +7,7 @@ use Rattle.latex2mathml_nodes.proofs.ast.equality.+same.Given as goal
 abbrev pub invariant-same_members-loop-i : goal.invariant-same_members-loop-i
 invariant-same_members-loop-i l = record {
   lengths : length l.a ≡ length l.b;
-  so_far : trees (take l.i l.a) ≡ trees (take l.i l.b);
+  so_far : map tree (take l.i l.a) ≡ map tree (take l.i l.b);
 }
 
 abbrev pub decreases-same_contents : goal.decreases-same_contents

@@ -16,9 +16,6 @@ invariant-write_members-loop-node g l =
 abbrev pub decreases-write_node : goal.decreases-write_node
 decreases-write_node g l = 6 * weight (tree l.node.now)
 
-abbrev pub decreases-write_slashed : goal.decreases-write_slashed
-decreases-write_slashed g l = 6 * weight (tree l.x.now) + 1
-
 abbrev pub decreases-write_one : goal.decreases-write_one
 decreases-write_one g l = 6 * weight (tree l.a.now) + 1
 
@@ -28,29 +25,14 @@ decreases-write_two g l = 6 * (weight (tree l.a.now) + weight (tree l.b.now)) + 
 abbrev pub decreases-write_three : goal.decreases-write_three
 decreases-write_three g l = 6 * (weight (tree l.a.now) + weight (tree l.b.now) + weight (tree l.c.now)) + 1
 
-abbrev pub decreases-write_accented : goal.decreases-write_accented
-decreases-write_accented g l = 6 * weight (tree l.x.now) + 1
-
-abbrev pub decreases-write_fraction : goal.decreases-write_fraction
-decreases-write_fraction g l = 6 * (weight (tree l.a.now) + weight (tree l.b.now)) + 2
-
-abbrev pub decreases-write_fenced : goal.decreases-write_fenced
-decreases-write_fenced g l = 6 * weight (tree l.x.now) + 1
-
 abbrev pub decreases-write_applied : goal.decreases-write_applied
 decreases-write_applied g l = 6 * weight (tree l.x.now) + 1
 
 abbrev pub decreases-write_all : goal.decreases-write_all
 decreases-write_all g l = 6 * weights (trees l.nodes.now)
 
-abbrev pub decreases-write_row : goal.decreases-write_row
-decreases-write_row g l = 6 * weights (trees l.members.now) + 1
-
 abbrev pub decreases-write_member : goal.decreases-write_member
 decreases-write_member g l = 6 * weight (tree l.node.now) + 1
 
 abbrev pub decreases-write_members : goal.decreases-write_members
 decreases-write_members g l = 6 * weights (trees l.members.now)
-
-abbrev pub decreases-write_matrix : goal.decreases-write_matrix
-decreases-write_matrix g l = 6 * weights (trees l.members.now) + 1

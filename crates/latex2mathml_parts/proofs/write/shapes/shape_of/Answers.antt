@@ -1,7 +1,8 @@
 use Rattle.std.proofs.Common.{drop, refl}
 use Rattle.std.specs.Char.{encode_utf8}
+use Rattle.latex2mathml_tokens.specs.declared.DisplayStyle.TheVariants.{Block, Inline}
 use Rattle.latex2mathml_parts.specs.Parts.{top}
-use Rattle.latex2mathml_parts.proofs.Markups.{block_print, coefficient_print, inline_print, overbraced_print, underbraced_print}
+use Rattle.latex2mathml_parts.proofs.Markups.{coefficient_print, display_print, overbraced_print, underbraced_print}
 use Rattle.latex2mathml_parts.proofs.write.shapes.shape_of.Goals as goal
 
 pub returns-in-Primed-clause-print : goal.returns-in-Primed-clause-print
@@ -17,13 +18,13 @@ pub returns-in-Binom-Some-Block-clause-print : goal.returns-in-Binom-Some-Block-
 returns-in-Binom-Some-Block-clause-print c =
     let some = rw c.in-Binom-Some-Block.is at c.in-Binom-Some-Block.field-0-is in
     let block = rw (c.in-Binom-Some-Block.is, some) at c.in-Binom-Some-Block.field-0-0-is in
-    rw (c.around-in-Binom-Some-Block.ensures, c.in-Binom-Some-Block.is, some, block) (λ f style ts. block_print (top (drop 1 ts)) (top ts))
+    rw (c.around-in-Binom-Some-Block.ensures, c.in-Binom-Some-Block.is, some, block) (λ f style ts. display_print Block (top (drop 1 ts)) (top ts))
 
 pub returns-in-Binom-Some-Inline-clause-print : goal.returns-in-Binom-Some-Inline-clause-print
 returns-in-Binom-Some-Inline-clause-print c =
     let some = rw c.in-Binom-Some-Inline.is at c.in-Binom-Some-Inline.field-0-is in
     let inline = rw (c.in-Binom-Some-Inline.is, some) at c.in-Binom-Some-Inline.field-0-0-is in
-    rw (c.around-in-Binom-Some-Inline.ensures, c.in-Binom-Some-Inline.is, some, inline) (λ f style ts. inline_print (top (drop 1 ts)) (top ts))
+    rw (c.around-in-Binom-Some-Inline.ensures, c.in-Binom-Some-Inline.is, some, inline) (λ f style ts. display_print Inline (top (drop 1 ts)) (top ts))
 
 pub returns-in-OverbraceWith-clause-print : goal.returns-in-OverbraceWith-clause-print
 returns-in-OverbraceWith-clause-print c = rw (c.around-in-OverbraceWith.ensures, c.in-OverbraceWith.is) (λ f style ts. overbraced_print c.in-OverbraceWith.c (top ts) (top (drop 1 ts)))
