@@ -1,5 +1,5 @@
 -- Trees that are made of the last trees, and where they lead.
-use Rattle.std.proofs.Common.{◌≡◌, ℕ, suc, ◌+◌, ◌-◌, ◌≤◌, List, [], ◌∷◌, ◌++◌, length, drop, take, reverse, refl, sym, ap, ◌∙◌, arith, add-one, append_assoc, append-nil}
+use Rattle.std.proofs.Common.{◌≡◌, ℕ, suc, ◌+◌, ◌-◌, ◌≤◌, List, [], ◌∷◌, ◌++◌, length, drop, drop-drop, take, reverse, refl, sym, ap, ◌∙◌, arith, add-one, append_assoc, append-nil}
 use Rattle.std.proofs.{lemmas.List.reverse-append, Math.Seq.drop-nil}
 use Rattle.latex2mathml_formulas.specs.Frames.{after_members, end_of, innermost, inside, one_of_pair, standing_of, tree_count, two_of_pair, within}
 use Rattle.latex2mathml_formulas.specs.Grammar.{core, gives, Read, group_ends}
@@ -29,10 +29,9 @@ first_operand kind.Sqrt x ts = refl
 first_operand k x ts = refl
 
 pub drop_from_one : (n : ℕ) (ts : List Tree) → 1 ≤ n → drop n ts ≡ drop (n - 1) (drop 1 ts)
-drop_from_one n [] h = drop-nil n ∙ sym (drop-nil (n - 1))
-drop_from_one n (t ∷ ts) h =
-    let same : n ≡ suc (n - 1) = omega arith in
-    ap (λ m. drop m (t ∷ ts)) same
+drop_from_one n ts h =
+    let same : n ≡ 1 + (n - 1) = omega arith in
+    ap (λ m. drop m ts) same ∙ sym (drop-drop (n - 1) 1 ts)
 
 -- the last operand of a part is read
 pub last_read : (input : List Tok) (p : Parser) (k : Kind) → 1 - arity k ≡ 0 → Accepts (within input p.frames.stack.items (frame.Operand k) (drop 1 (trees_in p.parts))) (last_tree_read p) → GoesOnBy (gives (top (put k (trees_in p.parts)))) (arity k) input p
@@ -49,14 +48,10 @@ first_read input p k fits m =
 -- One single, or two.
 
 pub arity_of_one : (p : Pair) → arity (one_of_pair p) ≡ 1
-arity_of_one (pair.BigOp c Sub) = refl
-arity_of_one (pair.Integral c Sub) = refl
-arity_of_one p = refl
+arity_of_one p = grind (arith)
 
 pub arity_of_two : (p : Pair) → arity (two_of_pair p) ≡ 2
-arity_of_two (pair.BigOp c Sub) = refl
-arity_of_two (pair.Integral c Sub) = refl
-arity_of_two p = refl
+arity_of_two p = grind (arith)
 
 -- Members.
 

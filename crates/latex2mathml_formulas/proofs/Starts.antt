@@ -12,17 +12,13 @@ use Rattle.latex2mathml_formulas.proofs.{Fronts.no_bytes, Fronts.no_characters, 
 use Rattle.latex2mathml_formulas.proofs.OneList.{Begun, begun, cut_end, cut_step}
 use Rattle.latex2mathml_formulas.proofs.{Taking.backslashes-cons, Taking.same_first, Tokenizing.step_shortens}
 
-and_true : (b : Bool) → (b && true) ≡ b
-and_true true = refl
-and_true false = refl
-
 pub and_false : (b : Bool) → (b && false) ≡ false
 and_false true = refl
 and_false false = refl
 
 -- a text that begins with no white space starts there
 pub starts_here : (takes : Bool) (text : List ℕ) (c : ℕ) (after : List ℕ) → text ≡ c ∷ after → is_space c ≡ false → IsStart takes text text takes
-starts_here takes text c after e dark = ([], (refl, All-nil (λ x. is_space x ≡ true), rw e dark), sym (and_true takes))
+starts_here takes text c after e dark = ([], (refl, All-nil (λ x. is_space x ≡ true), rw e dark), grind (arith))
 
 -- a text that begins with white space starts after it
 pub starts_behind : (takes : Bool) (text : List ℕ) (c : ℕ) (after start : List ℕ) → text ≡ c ∷ after → is_space c ≡ true → (space : List ℕ) × IsLongestRun is_space after space start → IsStart takes text start false
@@ -68,28 +64,17 @@ taken takes alone takes' text start t n rest starts begins e least most =
     let same : backslash_count begins.0 ≡ backslash_count start = same_first alone begins.0 rest start t begins.2 begins.1 in
     (begins.0, cut_step takes text (slice begins.0 t) rest step ∙ ap (λ b. slice begins.0 t ∷ slices_of b rest) (sym e), rw same least, rw same most, step_shortens takes text rest (slice begins.0 t) step)
 
-no_backslash_count : (c : ℕ) (after : List ℕ) → c ≢ byte "\\" → backslash_count (c ∷ after) ≡ 0
-no_backslash_count c after h = grind (arith, nat_tests)
-
 -- .. which is no command
 pub taken_uncounted : (takes alone : Bool) (text start : List ℕ) (c : ℕ) (after : List ℕ) (t : Tok) (rest : List ℕ) → IsStart takes text start alone → start ≡ c ∷ after → c ≢ byte "\\" → BeginsWith alone start t rest → takes_digit (Some t) ≡ false → IsTaken takes text t 0 false rest
 taken_uncounted takes alone text start c after t rest starts e dark begins no_digit =
-    let none : backslash_count start ≡ 0 = ap backslash_count e ∙ no_backslash_count c after dark in
+    let none : backslash_count start ≡ 0 = rw e (grind (arith, nat_tests)) in
     taken takes alone false text start t 0 rest starts begins (sym no_digit) (omega arith) (omega arith)
-
-no_backslash : (c : ℕ) → begins_longer c ≡ false → c ≢ byte "\\"
-no_backslash c h = λ e. absurd (cc (ap begins_longer e, h))
-
-both_false : (a b : Bool) → not (a || b) ≡ true → (a ≡ false) × (b ≡ false)
-both_false true b h = absurd (cc h)
-both_false false true h = absurd (cc h)
-both_false false false h = (refl, refl)
 
 -- .. which is one character that stands for itself
 pub taken_character : (takes : Bool) (text : List ℕ) (c : ℕ) (after : List ℕ) (t : Tok) → text ≡ c ∷ after → not (begins_longer c || is_space c) ≡ true → t ≡ character_token c → takes_digit (Some t) ≡ false → IsTaken takes text t 0 false after
 taken_character takes text c after t e alone f no_digit =
-    let parts = both_false (begins_longer c) (is_space c) alone in
-    taken_uncounted takes takes text text c after t after (starts_here takes text c after e parts.1) e (no_backslash c parts.0) (one_character takes text c after t e parts.0 parts.1 f) no_digit
+    let parts : (begins_longer c ≡ false) × (is_space c ≡ false) = grind (arith) in
+    taken_uncounted takes takes text text c after t after (starts_here takes text c after e parts.1) e (λ h. absurd (cc (ap begins_longer h, parts.0))) (one_character takes text c after t e parts.0 parts.1 f) no_digit
 
 -- .. which is a command
 pub taken_command : (takes alone takes' : Bool) (text start : List ℕ) (c : ℕ) (after : List ℕ) (t : Tok) (n : ℕ) (rest : List ℕ) → IsStart takes text start alone → start ≡ c ∷ after → c ≡ byte "\\" → BeginsWith alone (byte "\\" ∷ after) t rest → takes' ≡ takes_digit (Some t) → 1 ≤ n → n ≤ 9 → IsTaken takes text t n takes' rest
@@ -123,12 +108,9 @@ counts_taken takes text t n takes' rest tokens tokens' comparisons comparisons' 
 
 -- the counts stay below what their types hold
 
-nine_more : (n a m k : ℕ) → n ≤ 9 * a → a ≤ 1 → m < k → n + 9 * m ≤ 9 * k
-nine_more n a m k h i l = omega arith
-
 one_at_most : (w : List ℕ) → backslash_count w ≤ 1
 one_at_most [] = omega arith
-one_at_most (c ∷ w) = elim (cases_Bool (c ∈ "\\")) [ inl h ↦ rw h (omega arith) | inr h ↦ rw h (omega arith) ]
+one_at_most (c ∷ w) = grind (arith, nat_tests)
 
 pub fits_tokens : (takes : Bool) (text : List ℕ) (t : Tok) (n : ℕ) (takes' : Bool) (rest : List ℕ) (tokens : ℕ) → IsTaken takes text t n takes' rest → tokens + length text < 2 ^ 64 → (tokens + 1) + length rest < 2 ^ 64
 fits_tokens takes text t n takes' rest tokens h l =
@@ -137,5 +119,7 @@ fits_tokens takes text t n takes' rest tokens h l =
 
 pub fits_comparisons : (takes : Bool) (text : List ℕ) (t : Tok) (n : ℕ) (takes' : Bool) (rest : List ℕ) (comparisons : ℕ) → IsTaken takes text t n takes' rest → comparisons + 9 * length text < 2 ^ 68 → (comparisons + n) + 9 * length rest < 2 ^ 68
 fits_comparisons takes text t n takes' rest comparisons h l =
-    let more : n + 9 * length rest ≤ 9 * length text = nine_more n (backslash_count h.0) (length rest) (length text) h.3 (one_at_most h.0) h.4 in
+    let one = one_at_most h.0 in
+    let most : n ≤ 9 * backslash_count h.0 = h.3 in
+    let shorter : length rest < length text = h.4 in
     omega arith

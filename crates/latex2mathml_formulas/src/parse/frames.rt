@@ -37,6 +37,7 @@ impl GroupEnd {
     }
 
     /// Whether the lexeme ends such a group.
+    #[tactic(auto, using(crate::proofs::Stacks::one_bracket))]
     pub(crate) fn is(self, lexeme: Lexeme) -> bool
         ensures { IsTrue result ↔ (lexeme_tok lexeme.entry ≡ end_token self) }
     {
