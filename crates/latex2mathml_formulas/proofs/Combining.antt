@@ -70,7 +70,6 @@ member_read input fs g n (t ∷ ts) h m = rw (below_member g n t ts) (group_grow
 -- the end of the innermost group is taken
 pub group_closed : (input : List Tok) (fs gs : List Frame) (g : Group) (n : ℕ) (end : GroupEnd) (ts : List Tree) (place : List Tok) → gs ≡ fs ++ frame.Members g n ∷ [] → innermost gs ≡ due.Member end → Leads (inside input gs ts) (end_token end ∷ place) → RuleLeads (after_members g (drop n ts) (reverse (take n ts))) (Made core (inside input fs (drop (tree_count (frame.Members g n)) ts))) place
 group_closed input fs gs g n end ts place e d k =
-    let due : due.Member end ≡ due.Member (end_of g) = sym d ∙ ap innermost e ∙ innermost_push fs (frame.Members g n) in
-    let same : end ≡ end_of g = cc in
+    let same : end ≡ end_of g = cc (sym d ∙ ap innermost e ∙ innermost_push fs (frame.Members g n)) in
     let within_group = rw (inside_push input fs gs (frame.Members g n) ts e) at k in
     rw append-nil at (within_group (Read [] place) (group_ends (ap (λ x. end_token x ∷ place) same)))

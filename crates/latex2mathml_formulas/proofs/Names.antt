@@ -20,13 +20,8 @@ one_letter c variant cs (t ∷ ts) next to e same d = (t, (ts, refl, ap letter_o
 abbrev pub IsNoLetter : Lexeme → Type 0
 IsNoLetter x = (c : ℕ) (variant : Variant) → x ≡ lexeme.Letter c variant → ⊥
 
-no_letter : (x : Lexeme) → IsNoLetter x → letter_of (lexeme_tok x) ≡ None
-no_letter (lexeme.Letter c variant) h = absurd (h c variant refl)
-no_letter x h = refl
-
 none_first : (x : Lexeme) (l : List Tok) → lexeme_tok x ≡ first_or_end l → IsNoLetter x → first_letter l ≡ None
-none_first x [] e h = refl
-none_first x (t ∷ ts) e h = ap letter_of (sym e) ∙ no_letter x h
+none_first x l e h = grind (arith)
 
 -- a name is taken, of which these are the bytes so far
 pub record IsTaking (bytes : List ℕ) (old now : Unread) : Type 0 where

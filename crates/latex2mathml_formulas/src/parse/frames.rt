@@ -43,10 +43,7 @@ impl GroupEnd {
     {
         match self {
             GroupEnd::Brace => matches!(lexeme, Lexeme::RBrace),
-            GroupEnd::Bracket => match lexeme {
-                Lexeme::Paren(paren) => matches!(paren, Paren::RightSquare),
-                _ => false,
-            },
+            GroupEnd::Bracket => matches!(lexeme, Lexeme::Paren(Paren::RightSquare)),
             GroupEnd::Right => matches!(lexeme, Lexeme::Right),
             GroupEnd::End => matches!(lexeme, Lexeme::End),
         }
