@@ -1,6 +1,6 @@
 -- Trees that are made of the last trees, and where they lead.
-use Rattle.std.proofs.Common.{◌≡◌, ℕ, suc, ◌+◌, ◌-◌, ◌≤◌, List, [], ◌∷◌, ◌++◌, length, drop, drop-drop, take, reverse, refl, sym, ap, ◌∙◌, arith, add-one, append_assoc, append-nil}
-use Rattle.std.proofs.{lemmas.List.reverse-append, Math.Seq.drop-nil}
+use Rattle.std.proofs.Common.{◌≡◌, ℕ, ◌+◌, ◌-◌, ◌≤◌, List, [], ◌∷◌, ◌++◌, length, drop, drop-drop, take, reverse, refl, sym, ap, ◌∙◌, arith, add-one, append_assoc, append-nil}
+use Rattle.std.proofs.{lemmas.List.reverse-append}
 use Rattle.latex2mathml_formulas.specs.Frames.{after_members, end_of, innermost, inside, one_of_pair, standing_of, tree_count, two_of_pair, within}
 use Rattle.latex2mathml_formulas.specs.Grammar.{core, gives, Read, group_ends}
 use Rattle.latex2mathml_formulas.specs.Levels.{Accepts, end_token, Leads, Made, remaining, RuleLeads}
@@ -14,8 +14,6 @@ use Rattle.latex2mathml_formulas.specs.{declared.parse.frames.Frame.Frame, decla
 use Rattle.latex2mathml_formulas.specs.declared.parse.frames.Frame.TheVariants as frame
 use Rattle.latex2mathml_formulas.specs.declared.parse.frames.Group.TheVariants as group
 use Rattle.latex2mathml_formulas.specs.{declared.parse.frames.GroupEnd.GroupEnd, declared.parse.frames.Pair.Pair}
-use Rattle.latex2mathml_formulas.specs.declared.parse.frames.Pair.TheVariants as pair
-use Rattle.latex2mathml_formulas.specs.declared.reader.mark.Sign.TheVariants.{Sub}
 use Rattle.latex2mathml_formulas.proofs.{Levels.group_grown, Stacks.innermost_push, Stacks.inside_push}
 
 -- Operands. A part needs no more of the trees before it than these operands.

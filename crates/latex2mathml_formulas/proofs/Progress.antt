@@ -2,7 +2,7 @@
 use Rattle.std.proofs.Common.{◌≡◌, ℕ, ◌+◌, ◌≤◌, List, [], ◌∷◌, length, ap, ◌∙◌, arith}
 use Rattle.std.proofs.lemmas.List.Sums.{sum_by-cons}
 use Rattle.latex2mathml_formulas.specs.{Marks.rest_of, Openers.openers, Openers.opens, Unread.GoesOn, Unread.OpensFor, Unread.Unread}
-use Rattle.latex2mathml_tokens.specs.Tok.{Tok, Number, Letter, Operator, Paren}
+use Rattle.latex2mathml_tokens.specs.Tok.{Tok}
 
 -- a token opens one frame at most
 pub opens-≤ : (t : Tok) → opens t ≤ 1

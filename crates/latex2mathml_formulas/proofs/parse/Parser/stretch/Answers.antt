@@ -1,9 +1,7 @@
-use Rattle.std.proofs.Common.{◌≡◌, ◌∷◌, ◌+◌, length, sum_by, ap, ◌∙◌, arith}
+use Rattle.std.proofs.Common.{◌≡◌, ◌∷◌, ◌+◌, length, ap, ◌∙◌, arith}
 use Rattle.std.proofs.lemmas.Grind.{common_steps}
-use Rattle.latex2mathml_formulas.specs.{Frames.tree_count, Steps.frame_weight}
 use Rattle.latex2mathml_parts.specs.Forests.{trees_in}
 use Rattle.latex2mathml_tokens.specs.Lexemes.{lexeme_tok}
-use Rattle.latex2mathml_formulas.specs.declared.parse.frames.Frame.TheVariants as frame
 use Rattle.latex2mathml_formulas.proofs.{Beginning.stood, Beginning.stretch_begun, Progress.OpensFor-one, Progress.rest-shorter}
 use Rattle.latex2mathml_formulas.proofs.parse.Parser.stretch.Goals as goal
 
