@@ -1,5 +1,5 @@
 -- How the rules of lexemes begin.
-use Rattle.std.proofs.Common.{◌≡◌, ℕ, List, [], ◌∷◌, ◌++◌, refl, ap, ◌∙◌}
+use Rattle.std.proofs.Common.{arith, ◌≡◌, ℕ, List, [], ◌∷◌, ◌++◌, refl, ap, ◌∙◌}
 use Rattle.latex2mathml_formulas.specs.{Frames.innermost, Frames.inside, Marks.rest_of, declared.parse.frames.Frame.Frame}
 use Rattle.latex2mathml_formulas.specs.Grammar.{core, first_or_end, refuses, rule, sized, token_seen}
 use Rattle.latex2mathml_formulas.specs.Levels.{due_of, Leads, Level, Made, MayBegin, RuleLeads}
@@ -13,18 +13,15 @@ use Rattle.latex2mathml_formulas.proofs.{Levels.begun, Levels.begun_at_end, Stac
 
 -- only the end is the lexeme of the end
 pub is_end : (t : Lexeme) → lexeme_tok t ≡ EOF → t ≡ lexeme.EOF
-is_end lexeme.EOF e = refl
-is_end t e = cc
+is_end t e = grind (arith)
 
 -- a lexeme that is not the end was taken
 pub stood : (t : Lexeme) (place to : List Tok) → (t ≡ lexeme.EOF → ⊥) → lexeme_tok t ≡ first_or_end place → to ≡ rest_of place → place ≡ lexeme_tok t ∷ to
-stood t [] to h e f = absurd (h (is_end t e))
-stood t (u ∷ us) to h e f = cc
+stood t place to h e f = grind (arith, is_end)
 
 -- a lexeme that is no parenthesis has no size
 pub not_sized : (size : List ℕ) (got : Lexeme) → ((p : ParenName) → got ≡ lexeme.Paren p → ⊥) → sized size (lexeme_tok got) ≡ refuses (UnexpectedToken (Paren []) (lexeme_tok got))
-not_sized size (lexeme.Paren p) h = absurd (h p refl)
-not_sized size t h = refl
+not_sized size got h = grind (arith)
 
 -- what may begin here or at the end
 seen_begun : (l : Level) (place to : List Tok) (t : Tok) → ((any : List Tok) → MayBegin (due_of l) any) → t ≡ first_or_end place → to ≡ rest_of place → Leads l place → RuleLeads (rule t) (Made core l) to

@@ -1,6 +1,6 @@
 -- Trees that are made of the last trees, and where they lead.
-use Rattle.std.proofs.Common.{◌≡◌, ℕ, suc, ◌+◌, ◌-◌, ◌≤◌, List, [], ◌∷◌, ◌++◌, length, drop, take, reverse, refl, sym, ap, ◌∙◌, arith, add-one, append_assoc, append-nil}
-use Rattle.std.proofs.{lemmas.List.reverse-append, Math.Seq.drop-nil}
+use Rattle.std.proofs.Common.{◌≡◌, ℕ, ◌+◌, ◌-◌, ◌≤◌, List, [], ◌∷◌, ◌++◌, length, drop, drop-drop, take, reverse, refl, sym, ap, ◌∙◌, arith, add-one, append_assoc, append-nil}
+use Rattle.std.proofs.{lemmas.List.reverse-append}
 use Rattle.latex2mathml_formulas.specs.Frames.{after_members, end_of, innermost, inside, one_of_pair, standing_of, tree_count, two_of_pair, within}
 use Rattle.latex2mathml_formulas.specs.Grammar.{core, gives, Read, group_ends}
 use Rattle.latex2mathml_formulas.specs.Levels.{Accepts, end_token, Leads, Made, remaining, RuleLeads}
@@ -14,8 +14,6 @@ use Rattle.latex2mathml_formulas.specs.{declared.parse.frames.Frame.Frame, decla
 use Rattle.latex2mathml_formulas.specs.declared.parse.frames.Frame.TheVariants as frame
 use Rattle.latex2mathml_formulas.specs.declared.parse.frames.Group.TheVariants as group
 use Rattle.latex2mathml_formulas.specs.{declared.parse.frames.GroupEnd.GroupEnd, declared.parse.frames.Pair.Pair}
-use Rattle.latex2mathml_formulas.specs.declared.parse.frames.Pair.TheVariants as pair
-use Rattle.latex2mathml_formulas.specs.declared.reader.mark.Sign.TheVariants.{Sub}
 use Rattle.latex2mathml_formulas.proofs.{Levels.group_grown, Stacks.innermost_push, Stacks.inside_push}
 
 -- Operands. A part needs no more of the trees before it than these operands.
@@ -29,10 +27,9 @@ first_operand kind.Sqrt x ts = refl
 first_operand k x ts = refl
 
 pub drop_from_one : (n : ℕ) (ts : List Tree) → 1 ≤ n → drop n ts ≡ drop (n - 1) (drop 1 ts)
-drop_from_one n [] h = drop-nil n ∙ sym (drop-nil (n - 1))
-drop_from_one n (t ∷ ts) h =
-    let same : n ≡ suc (n - 1) = omega arith in
-    ap (λ m. drop m (t ∷ ts)) same
+drop_from_one n ts h =
+    let same : n ≡ 1 + (n - 1) = omega arith in
+    ap (λ m. drop m ts) same ∙ sym (drop-drop (n - 1) 1 ts)
 
 -- the last operand of a part is read
 pub last_read : (input : List Tok) (p : Parser) (k : Kind) → 1 - arity k ≡ 0 → Accepts (within input p.frames.stack.items (frame.Operand k) (drop 1 (trees_in p.parts))) (last_tree_read p) → GoesOnBy (gives (top (put k (trees_in p.parts)))) (arity k) input p
@@ -49,14 +46,10 @@ first_read input p k fits m =
 -- One single, or two.
 
 pub arity_of_one : (p : Pair) → arity (one_of_pair p) ≡ 1
-arity_of_one (pair.BigOp c Sub) = refl
-arity_of_one (pair.Integral c Sub) = refl
-arity_of_one p = refl
+arity_of_one p = grind (arith)
 
 pub arity_of_two : (p : Pair) → arity (two_of_pair p) ≡ 2
-arity_of_two (pair.BigOp c Sub) = refl
-arity_of_two (pair.Integral c Sub) = refl
-arity_of_two p = refl
+arity_of_two p = grind (arith)
 
 -- Members.
 
@@ -75,7 +68,6 @@ member_read input fs g n (t ∷ ts) h m = rw (below_member g n t ts) (group_grow
 -- the end of the innermost group is taken
 pub group_closed : (input : List Tok) (fs gs : List Frame) (g : Group) (n : ℕ) (end : GroupEnd) (ts : List Tree) (place : List Tok) → gs ≡ fs ++ frame.Members g n ∷ [] → innermost gs ≡ due.Member end → Leads (inside input gs ts) (end_token end ∷ place) → RuleLeads (after_members g (drop n ts) (reverse (take n ts))) (Made core (inside input fs (drop (tree_count (frame.Members g n)) ts))) place
 group_closed input fs gs g n end ts place e d k =
-    let due : due.Member end ≡ due.Member (end_of g) = sym d ∙ ap innermost e ∙ innermost_push fs (frame.Members g n) in
-    let same : end ≡ end_of g = cc in
+    let same : end ≡ end_of g = cc (sym d ∙ ap innermost e ∙ innermost_push fs (frame.Members g n)) in
     let within_group = rw (inside_push input fs gs (frame.Members g n) ts e) at k in
     rw append-nil at (within_group (Read [] place) (group_ends (ap (λ x. end_token x ∷ place) same)))

@@ -1,5 +1,5 @@
 -- Where the outcome of a rule leads, step by step, whatever the rule is.
-use Rattle.std.proofs.Common.{◌≡◌, ◌≢◌, ℕ, List, [], ◌∷◌, Option, Some, true, refl, sym}
+use Rattle.std.proofs.Common.{arith, ◌≡◌, ◌≢◌, ℕ, List, [], ◌∷◌, Option, Some, true, refl, sym}
 use Rattle.latex2mathml_trees.specs.{Productions.prime_mark, Tree.Tree, Tree.superscript}
 use Rattle.latex2mathml_formulas.specs.Grammar.{Sort, core, single, node, Rule, gives, reads_part, reads_members, reads_sign, takes_token, rule, a_name, first_or_end, prime, rule_after_core, rule_after_single, Outcome, Read, Refused, first, Reads, ReadsRule, core_at_end, core_begun, single_read, node_read, rule_gives, token_taken, token_at_end, letters_taken, part_read, part_refused, members_read, members_refused, sign_stands, sign_missing, ReadsAll, never_closed, member_read, later_refused, member_refused}
 use Rattle.latex2mathml_formulas.specs.{Frames.script, Frames.takes_script, Marks.NameStands, Marks.rest_of, Marks.sign_token}
@@ -127,8 +127,7 @@ sign_taken l Sup x place to h same k = record { to = λ o d. k.to o (sign_missin
 
 -- the token that stands next is passed over
 pub passed : (place to : List Tok) (t : Tok) → first place ≡ Some t → to ≡ rest_of place → place ≡ t ∷ to
-passed [] to t e f = cc
-passed (u ∷ us) to t e f = cc
+passed place to t e f = grind (arith)
 
 -- Refusals.
 

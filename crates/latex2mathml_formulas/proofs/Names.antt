@@ -1,5 +1,5 @@
 -- Names that are taken letter by letter.
-use Rattle.std.proofs.Common.{◌≡◌, ℕ, List, [], ◌∷◌, ◌++◌, None, refl, sym, subst, ap, ◌∙◌, append_assoc, append-nil}
+use Rattle.std.proofs.Common.{◌≡◌, ℕ, List, [], ◌∷◌, ◌++◌, None, refl, sym, subst, ap, ◌∙◌, append_assoc, append-nil, arith}
 use Rattle.std.specs.{Char.encode_utf8, Str.encode_utf8_all}
 use Rattle.std.proofs.lemmas.Str.{encodes-append}
 use Rattle.latex2mathml_formulas.specs.Grammar.{AreLetters, first_letter, first_or_end, letter_of}
@@ -21,9 +21,7 @@ abbrev pub IsNoLetter : Lexeme → Type 0
 IsNoLetter x = (c : ℕ) (variant : Variant) → x ≡ lexeme.Letter c variant → ⊥
 
 none_first : (x : Lexeme) (l : List Tok) → lexeme_tok x ≡ first_or_end l → IsNoLetter x → first_letter l ≡ None
-none_first x [] e h = refl
-none_first (lexeme.Letter c variant) (t ∷ ts) e h = absurd (h c variant refl)
-none_first x (t ∷ ts) e h = ap letter_of (sym e)
+none_first x l e h = grind (arith)
 
 -- a name is taken, of which these are the bytes so far
 pub record IsTaking (bytes : List ℕ) (old now : Unread) : Type 0 where

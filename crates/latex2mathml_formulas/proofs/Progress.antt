@@ -2,15 +2,11 @@
 use Rattle.std.proofs.Common.{◌≡◌, ℕ, ◌+◌, ◌≤◌, List, [], ◌∷◌, length, ap, ◌∙◌, arith}
 use Rattle.std.proofs.lemmas.List.Sums.{sum_by-cons}
 use Rattle.latex2mathml_formulas.specs.{Marks.rest_of, Openers.openers, Openers.opens, Unread.GoesOn, Unread.OpensFor, Unread.Unread}
-use Rattle.latex2mathml_tokens.specs.Tok.{Tok, Number, Letter, Operator, Paren}
+use Rattle.latex2mathml_tokens.specs.Tok.{Tok}
 
 -- a token opens one frame at most
 pub opens-≤ : (t : Tok) → opens t ≤ 1
-opens-≤ (Number digits) = omega arith
-opens-≤ (Letter c variant) = omega arith
-opens-≤ (Operator c) = omega arith
-opens-≤ (Paren text) = omega arith
-opens-≤ t = omega arith
+opens-≤ t = grind (arith)
 
 pub GoesOn-trans : (a b c : Unread) → GoesOn a b → GoesOn b c → GoesOn a c
 GoesOn-trans a b c h i = record {
@@ -32,20 +28,15 @@ OpensFor-one t a b m n stood counts h =
     let one = opens-≤ t in
     record { taken = omega arith; openers = omega arith }
 
-rest-length : (l : List Tok) → length (rest_of l) ≤ length l
-rest-length [] = omega arith
-rest-length (t ∷ ts) = omega arith
-
 rest-openers : (l : List Tok) → openers (rest_of l) ≤ openers l
 rest-openers [] = omega arith
 rest-openers (t ∷ ts) = omega (arith, sum_by-cons opens t ts)
 
 -- a token is passed over, where one is left
 pub rest-shorter : (a b : Unread) → b.list ≡ rest_of a.list → length b.list ≤ length a.list
-rest-shorter a b passed = omega (arith, ap length passed, rest-length a.list)
+rest-shorter a b passed = grind (arith)
 
 pub OpensFor-rest : (a b : Unread) → b.list ≡ rest_of a.list → GoesOn a b → OpensFor a b 0 0
 OpensFor-rest a b passed counts =
     let shorter = rest-shorter a b passed in
-    let fewer = ap openers passed in
-    record { taken = omega arith; openers = omega (arith, rest-openers a.list) }
+    record { taken = omega arith; openers = omega (arith, ap openers passed, rest-openers a.list) }

@@ -1,15 +1,14 @@
 -- The first character of a text, after white space, shows whether the first token is a prime, a sign or an opening bracket.
-use Rattle.std.proofs.Common.{◌≡◌, ◌≢◌, ◌⊎◌, inl, inr, ℕ, Bool, true, false, not, ◌&&◌, ◌==◌, List, [], ◌∷◌, ◌++◌, codes, Option, Some, None, unwrap_or, refl, sym, ap, subst, ◌∙◌, cond, nat_eq, arith}
+use Rattle.std.proofs.Common.{◌≡◌, ◌≢◌, ◌⊎◌, inl, inr, ℕ, Bool, true, false, not, ◌==◌, List, [], ◌∷◌, ◌++◌, codes, Option, Some, None, unwrap_or, refl, sym, ap, subst, ◌∙◌, cond, arith}
 use Rattle.std.proofs.{lemmas.Bool.and_parts, lemmas.Bool.both_ways, lemmas.Bool.Decides.nat_tests}
-use Rattle.std.specs.{Char.encode_utf8, Char.is_ascii_alphabetic, List.list_all, Str.byte, Str.bytes_eq, Str.encode_utf8_all}
+use Rattle.std.specs.{Char.encode_utf8, List.list_all, Str.byte, Str.bytes_eq, Str.encode_utf8_all}
 use Rattle.latex2mathml_tokens.specs.Commands.{command_entries, command_token, entry_token}
-use Rattle.latex2mathml_formulas.specs.Characters.{◌∈◌, head}
+use Rattle.latex2mathml_formulas.specs.Characters.{head}
 use Rattle.latex2mathml_formulas.specs.{Cutting.first_slice, Cutting.slice, Cutting.slices_of, Dollars.is_other}
-use Rattle.latex2mathml_formulas.specs.{Grammar.first, Grammar.prime, Lexing.BeginsWith, Lexing.IsStart, Marks.IsSeen, Marks.Shows}
-use Rattle.latex2mathml_formulas.specs.Spelling.{Slice, SpellsAt, character_token, character, colon, colon_equals, number, digit, symbol_command, letter_command, lone_backslash, is_operator, is_paren, takes_digit}
+use Rattle.latex2mathml_formulas.specs.{Grammar.first, Lexing.BeginsWith, Lexing.IsStart, Marks.IsSeen, Marks.Shows}
+use Rattle.latex2mathml_formulas.specs.Spelling.{Slice, SpellsAt, character_token, character, colon, colon_equals, number, digit, symbol_command, letter_command, lone_backslash, takes_digit}
 use Rattle.latex2mathml_formulas.specs.Unread.{token_list}
-use Rattle.latex2mathml_tokens.specs.Tok.{Tok, Illegal, EOF, Paren, LBrace, RBrace, Underscore, Circumflex, Ampersand, Big, Operator, Letter, Command}
-use Rattle.latex2mathml_tokens.specs.declared.attribute.Variant.TheVariants.{Normal, Italic}
+use Rattle.latex2mathml_tokens.specs.Tok.{Tok, EOF, Paren, Underscore, Circumflex, Big, Operator, Command}
 use Rattle.latex2mathml_formulas.proofs.{FirstSlices.slice_of, OneList.Begun, OneList.begun, OneList.cut_step}
 use Rattle.latex2mathml_formulas.proofs.Starts.{none_left, step_from}
 

@@ -1,6 +1,10 @@
 -- Frames put on the parser's stack and taken off it, beside the trees that were read.
-use Rattle.std.proofs.Common.{◌≡◌, ℕ, List, [], ◌∷◌, ◌++◌, drop, refl, sym, ap, subst, ◌∙◌, reverse}
+use Rattle.std.proofs.Common.{◌≡◌, ◌⊎◌, inl, inr, true, false, ℕ, List, [], ◌∷◌, ◌++◌, drop, refl, sym, ap, subst, ◌∙◌, reverse}
 use Rattle.std.proofs.lemmas.List.{reverse-append}
+use Rattle.std.specs.{Prelude.codes, Str.bytes_eq}
+use lib.Utf8.{encode}
+use Rattle.latex2mathml_tokens.specs.{Names.paren_text, declared.names.Paren.Paren}
+use Rattle.latex2mathml_tokens.specs.declared.names.Paren.TheVariants as paren
 use Rattle.latex2mathml_formulas.specs.Frames.{awaits, enter, first_due, innermost, inside, inside_all, sort_made, standing_of, tree_count, whole, within}
 use Rattle.latex2mathml_formulas.specs.Grammar.{core, node, Outcome, Reads, Refused, refuses, rule, rule_refuses}
 use Rattle.latex2mathml_formulas.specs.Levels.{due_of, end_token, Leads, Level, Made, MayBegin, RuleLeads, Accepts, remaining, sort_of}
@@ -11,6 +15,12 @@ use Rattle.latex2mathml_formulas.specs.declared.parse.frames.Due.TheVariants as 
 use Rattle.latex2mathml_formulas.specs.declared.parse.frames.Frame.TheVariants as frame
 use Rattle.latex2mathml_formulas.specs.declared.parse.frames.GroupEnd.{GroupEnd}
 use Rattle.latex2mathml_formulas.proofs.Levels.{as_refused, begun, begun_at_end, entered, entered_refused, unclosed}
+
+-- only one parenthesis has the text of the bracket that ends a group
+pub one_bracket : (p : Paren) → (paren_text p ≡ codes "]" → ⊥) ⊎ (p ≡ paren.RightSquare)
+unfolding encode
+one_bracket paren.RightSquare = inr refl
+one_bracket p = inl (λ e. let k : false ≡ true = ap (λ t. bytes_eq t (codes "]")) e in cc)
 
 -- The innermost frame.
 

@@ -14,13 +14,9 @@ use Rattle.latex2mathml_formulas.proofs.{Fronts.no_characters, Spellings.one_cha
 use Rattle.latex2mathml_formulas.proofs.OneList.{begun, cut_end, cut_step}
 use Rattle.latex2mathml_formulas.proofs.{Counting.count_one, Tokenizing.spells_dark, Tokenizing.step_shortens}
 
-and_true : (b : Bool) → (b && true) ≡ b
-and_true true = refl
-and_true false = refl
-
 -- a text that begins with no white space starts there
 pub starts_here : (takes : Bool) (text : List ℕ) (c : ℕ) (after : List ℕ) → text ≡ c ∷ after → is_space c ≡ false → IsStart takes text text takes
-starts_here takes text c after e dark = ([], (refl, All-nil (λ x. is_space x ≡ true), rw e dark), sym (and_true takes))
+starts_here takes text c after e dark = ([], (refl, All-nil (λ x. is_space x ≡ true), rw e dark), grind (arith))
 
 -- a text that begins with white space starts after it
 pub starts_behind : (takes : Bool) (text : List ℕ) (c : ℕ) (after start : List ℕ) → text ≡ c ∷ after → is_space c ≡ true → (space : List ℕ) × IsLongestRun is_space after space start → IsStart takes text start false

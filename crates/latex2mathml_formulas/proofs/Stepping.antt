@@ -1,7 +1,6 @@
 -- The steps of the parser: what they answer, and what they count.
-use Rattle.std.proofs.Common.{◌≡◌, ℕ, ◌+◌, ◌≤◌, ◌∷◌, length, ap, ◌∙◌, arith}
-use Rattle.std.proofs.lemmas.List.Sums.{sum_by-cons}
-use Rattle.latex2mathml_formulas.specs.{Openers.openers, Openers.opens, Marks.rest_of, Steps.Counted, Unread.GoesOn}
+use Rattle.std.proofs.Common.{◌≡◌, ℕ, ◌+◌, ◌∷◌, arith}
+use Rattle.latex2mathml_formulas.specs.{Openers.opens, Marks.rest_of, Steps.Counted, Unread.GoesOn}
 use Rattle.latex2mathml_tokens.specs.Tok.{Tok}
 use Rattle.latex2mathml_formulas.specs.declared.parse.Parser.{Parser}
 use Rattle.latex2mathml_formulas.proofs.Progress.{GoesOn-trans, OpensFor-one, OpensFor-rest, OpensFor-trans}

@@ -37,15 +37,13 @@ impl GroupEnd {
     }
 
     /// Whether the lexeme ends such a group.
+    #[tactic(auto, using(crate::proofs::Stacks::one_bracket))]
     pub(crate) fn is(self, lexeme: Lexeme) -> bool
         ensures { IsTrue result ↔ (lexeme_tok lexeme.entry ≡ end_token self) }
     {
         match self {
             GroupEnd::Brace => matches!(lexeme, Lexeme::RBrace),
-            GroupEnd::Bracket => match lexeme {
-                Lexeme::Paren(paren) => matches!(paren, Paren::RightSquare),
-                _ => false,
-            },
+            GroupEnd::Bracket => matches!(lexeme, Lexeme::Paren(Paren::RightSquare)),
             GroupEnd::Right => matches!(lexeme, Lexeme::Right),
             GroupEnd::End => matches!(lexeme, Lexeme::End),
         }

@@ -1,5 +1,4 @@
-use Rattle.std.proofs.Common.{rules, drop, refl}
-use Rattle.latex2mathml_formulas.proofs.{Levels.taken, Stacks.core_refused, Stepping.counted_skipped}
+use Rattle.latex2mathml_formulas.proofs.{Levels.taken, Stacks.core_refused}
 use Rattle.latex2mathml_formulas.proofs.parse.Parser.close_fence.Goals as goal
 
 pub returns-in_default-clause-holds : goal.returns-in_default-clause-holds

@@ -1,4 +1,4 @@
-use Rattle.std.proofs.Common.{◌+◌, add-one, drop}
+use Rattle.std.proofs.Common.{◌+◌, add-one}
 use Rattle.latex2mathml_formulas.proofs.{Levels.after_name, Stacks.core_refused}
 use Rattle.latex2mathml_formulas.proofs.parse.Parser.end_environment.Goals as goal
 

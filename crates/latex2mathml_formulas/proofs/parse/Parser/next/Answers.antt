@@ -1,4 +1,4 @@
-use Rattle.std.proofs.Common.{rules, length, refl, ap, arith}
+use Rattle.std.proofs.Common.{rules, length, refl, ap}
 use Rattle.latex2mathml_parts.specs.Forests.{trees_in}
 use Rattle.latex2mathml_formulas.proofs.{Beginning.stood, Stacks.token_begun, Stepping.counted_taken}
 use Rattle.latex2mathml_formulas.proofs.parse.Parser.next.Goals as goal

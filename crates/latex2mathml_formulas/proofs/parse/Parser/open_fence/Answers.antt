@@ -1,5 +1,4 @@
-use Rattle.std.proofs.Common.{rules, refl}
-use Rattle.latex2mathml_formulas.proofs.{Levels.taken, Stacks.core_refused, Stepping.counted_skipped}
+use Rattle.latex2mathml_formulas.proofs.{Levels.taken, Stacks.core_refused}
 use Rattle.latex2mathml_formulas.proofs.parse.Parser.open_fence.Goals as goal
 
 pub returns-clause-holds : goal.returns-clause-holds

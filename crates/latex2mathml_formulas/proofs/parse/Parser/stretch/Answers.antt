@@ -1,9 +1,7 @@
-use Rattle.std.proofs.Common.{◌≡◌, ◌∷◌, ◌+◌, length, sum_by, ap, ◌∙◌, arith}
-use Rattle.std.proofs.lemmas.List.Sums.{sum_by_push}
-use Rattle.latex2mathml_formulas.specs.{Frames.tree_count, Steps.frame_weight}
+use Rattle.std.proofs.Common.{◌≡◌, ◌∷◌, ◌+◌, length, ap, ◌∙◌, arith}
+use Rattle.std.proofs.lemmas.Grind.{common_steps}
 use Rattle.latex2mathml_parts.specs.Forests.{trees_in}
 use Rattle.latex2mathml_tokens.specs.Lexemes.{lexeme_tok}
-use Rattle.latex2mathml_formulas.specs.declared.parse.frames.Frame.TheVariants as frame
 use Rattle.latex2mathml_formulas.proofs.{Beginning.stood, Beginning.stretch_begun, Progress.OpensFor-one, Progress.rest-shorter}
 use Rattle.latex2mathml_formulas.proofs.parse.Parser.stretch.Goals as goal
 
@@ -15,18 +13,14 @@ returns-clause-holds c = λ input k.
 pub returns-clause-taken : goal.returns-clause-taken
 returns-clause-taken c =
     let p = c.args.self.now in
-    let fs = p.frames.stack.items in
     let got = c.take-got.result in
     let to = c.take-got.new.self in
     let shorter = rest-shorter p.reader to c.take-got.ensures.list in
-    let on = c.in_ok-open.ensures.stack in
-    let heavier : sum_by frame_weight c.open.new.self.stack.items ≡ sum_by frame_weight fs + 2 = ap (sum_by frame_weight) on ∙ sum_by_push frame_weight fs (frame.Stretch got) in
-    let holding : sum_by tree_count c.open.new.self.stack.items ≡ sum_by tree_count fs + 0 = ap (sum_by tree_count) on ∙ sum_by_push tree_count fs (frame.Stretch got) in
     record {
-      trees = omega arith;
+      trees = grind (arith, common_steps);
       more = λ h.
           let found : p.reader.list ≡ lexeme_tok got ∷ to.list = stood got p.reader.list to.list h c.take-got.ensures.token c.take-got.ensures.list in
           let one : length p.reader.list ≡ 1 + length to.list = ap length found ∙ omega arith in
-          (omega arith, omega arith, OpensFor-one (lexeme_tok got) p.reader to (p.frames.greatest + 1) c.open.new.self.greatest found c.take-got.ensures.counts (omega arith));
-      falls = omega arith;
+          (grind (arith, common_steps), omega arith, OpensFor-one (lexeme_tok got) p.reader to (p.frames.greatest + 1) c.open.new.self.greatest found c.take-got.ensures.counts (omega arith));
+      falls = grind (arith, common_steps);
     }
