@@ -1,16 +1,16 @@
 -- The first character of a text, after white space, shows whether the first token is a prime, a sign or an opening bracket.
-use Rattle.std.proofs.Common.{◌≡◌, ◌≢◌, ◌⊎◌, inl, inr, ℕ, Bool, true, false, not, ◌&&◌, ◌==◌, List, [], ◌∷◌, ◌++◌, codes, Option, Some, None, unwrap_or, refl, sym, ap, subst, ◌∙◌, nat_eq}
+use Rattle.std.proofs.Common.{◌≡◌, ◌≢◌, ◌⊎◌, inl, inr, ℕ, Bool, true, false, not, ◌==◌, List, [], ◌∷◌, ◌++◌, codes, Option, Some, None, unwrap_or, refl, sym, ap, subst, ◌∙◌, nat_eq}
 use Rattle.std.proofs.{lemmas.Bool.and_parts, lemmas.Bool.both_ways, lemmas.Bool.cond_both}
 use Rattle.std.specs.{Char.encode_utf8, Char.is_ascii_alphabetic, List.list_all, Str.byte, Str.bytes_eq, Str.encode_utf8_all}
 use Rattle.latex2mathml_tokens.specs.Commands.{command_entries, command_token, entry_token}
 use Rattle.latex2mathml_formulas.specs.Characters.{◌∈◌, head}
 use Rattle.latex2mathml_formulas.specs.{Cutting.first_slice, Cutting.slice, Cutting.slices_of, Dollars.is_other}
 use Rattle.latex2mathml_formulas.specs.{Grammar.first, Lexing.BeginsWith, Lexing.IsStart, Marks.IsSeen, Marks.Shows}
-use Rattle.latex2mathml_formulas.specs.Spelling.{Slice, SpellsAt, character_token, character, colon, colon_equals, number, digit, symbol_command, letter_command, lone_backslash, is_operator, is_paren, takes_digit}
+use Rattle.latex2mathml_formulas.specs.Spelling.{SpellsAt, character_token, character, colon, colon_equals, number, digit, symbol_command, letter_command, lone_backslash, is_operator, is_paren}
 use Rattle.latex2mathml_formulas.specs.Unread.{token_list}
 use Rattle.latex2mathml_tokens.specs.Tok.{Tok, Illegal, EOF, Paren, LBrace, RBrace, Underscore, Circumflex, Ampersand, Big, Operator, Letter, Command}
 use Rattle.latex2mathml_tokens.specs.declared.attribute.Variant.TheVariants.{Normal, Italic}
-use Rattle.latex2mathml_formulas.proofs.{FirstSlices.slice_of, OneList.Begun, OneList.begun, OneList.cut_step, OneList.only}
+use Rattle.latex2mathml_formulas.proofs.{FirstSlices.slice_of, OneList.begun, OneList.cut_step, OneList.only}
 use Rattle.latex2mathml_formulas.proofs.Starts.{none_left, step_from}
 
 -- the token is no end of a formula, no prime, no sign and no opening bracket, and no size with a dollar sign
@@ -26,33 +26,21 @@ is_plain t = true
 abbrev pub IsPlain : Tok → Type 0
 IsPlain t = is_plain t ≡ true
 
-abbrev entries_are_plain : List (List ℕ × Tok) → Bool
-entries_are_plain [] = true
-entries_are_plain (r ∷ rs) = is_plain r.1 && entries_are_plain rs
-
 -- computed over the whole table
-plain-command_entries : entries_are_plain command_entries ≡ true
+plain-command_entries : list_all (λ r. is_plain r.1) command_entries ≡ true
 unfolding command_entries encode_utf8
 plain-command_entries = refl
 
-abbrev found_is_plain : Option Tok → Bool
-found_is_plain None = true
-found_is_plain (Some t) = is_plain t
-
-plain_entry : (rs : List (List ℕ × Tok)) (name : List ℕ) → entries_are_plain rs ≡ true → found_is_plain (entry_token rs name) ≡ true
+plain_entry : (rs : List (List ℕ × Tok)) (name : List ℕ) → list_all (λ r. is_plain r.1) rs ≡ true → IsPlain (unwrap_or (entry_token rs name) (Command name))
 plain_entry [] name h = refl
 plain_entry (r ∷ rs) name h =
-    let parts = and_parts (is_plain r.1) (entries_are_plain rs) h in
-    cond_both (bytes_eq r.0 name) (Some r.1) (entry_token rs name) (λ o. found_is_plain o ≡ true) (λ _. parts.0) (λ _. plain_entry rs name parts.1)
-
-unwrapped : (o : Option Tok) (name : List ℕ) → found_is_plain o ≡ true → IsPlain (unwrap_or o (Command name))
-unwrapped None name h = refl
-unwrapped (Some t) name h = h
+    let parts = and_parts (is_plain r.1) (list_all (λ k. is_plain k.1) rs) h in
+    cond_both (bytes_eq r.0 name) (Some r.1) (entry_token rs name) (λ o. IsPlain (unwrap_or o (Command name))) (λ _. parts.0) (λ _. plain_entry rs name parts.1)
 
 -- so is the token of a command
 plain_command : (name : List ℕ) → IsPlain (command_token name)
 unfolding command_token
-plain_command name = unwrapped (entry_token command_entries name) name (plain_entry command_entries name plain-command_entries)
+plain_command name = plain_entry command_entries name plain-command_entries
 
 -- a slice is one character that stands for itself, or its token is plain
 abbrev pub IsKnown : List ℕ → Tok → Type 0
@@ -95,42 +83,32 @@ named c = of_character (λ t. named_by t c ≡ c) c (λ h. refl) (λ h. refl) (�
 pub no_end : (c : ℕ) → character_token c ≢ EOF
 no_end c = of_character (λ t. t ≢ EOF) c (λ h e. cc) (λ h e. cc) (λ h e. cc) (λ h e. cc) (λ e. cc) (λ e. cc) (λ e. cc) (λ e. cc) (λ e. cc) (λ e. cc)
 
--- the slice at the start of a text, whose first character is c
-abbrev Found : Bool → List ℕ → ℕ → Type 0
-Found takes text c =
-    (alone : Bool) × (after w rest : List ℕ) × (t : Tok) × (ss : List Slice)
-    × (slices_of takes text ≡ slice w t ∷ ss)
-    × (first_slice alone (c ∷ after) ≡ slice w t)
-    × (c ∷ after ≡ w ++ rest)
-    × IsKnown w t
+-- where a text begins with c and with a slice that is t, that is the token of c, or it is plain
+known_first : (c : ℕ) (after w rest : List ℕ) (t : Tok) → c ∷ after ≡ w ++ rest → IsKnown w t → (t ≡ character_token c) ⊎ IsPlain t
+known_first c after w rest t split (inl k) = (let same : k.0 ≡ c = cc (split ∙ ap (λ v. v ++ rest) k.1) in inl (k.2 ∙ ap character_token same))
+known_first c after w rest t split (inr k) = inr k
 
-found : (takes alone : Bool) (text : List ℕ) (c : ℕ) (after : List ℕ) → IsStart takes text (c ∷ after) alone → Found takes text c
-found takes alone text c after starts =
-    let b : Begun alone (c ∷ after) = begun alone c after starts.1.2 in
-    let w : List ℕ = b.2.0 in
-    (alone, after, w, b.1, b.0, slices_of (takes_digit (Some b.0)) b.1, cut_step takes text (slice w b.0) b.1 (step_from takes alone text (c ∷ after) b.0 b.1 starts b.2), ap (first_slice alone) b.2.1 ∙ slice_of alone w b.1 b.0 b.2.2, b.2.1, known alone w (head b.1) b.0 b.2.2)
-
-told : (c d : ℕ) (after w rest : List ℕ) (t : Tok) → ((x : ℕ) → named_by (character_token d) x ≡ d) → is_plain (character_token d) ≡ false → c ∷ after ≡ w ++ rest → IsKnown w t → t ≡ character_token d → c ≡ d
-told c d after w rest t names plain split (inl k) e =
-    let same : c ≡ k.0 = cc (split ∙ ap (λ v. v ++ rest) k.1) in same ∙ sym (named k.0) ∙ ap (λ s. named_by s k.0) (sym k.2 ∙ e) ∙ names k.0
-told c d after w rest t names plain split (inr k) e = absurd (both_ways (is_plain t) (ap is_plain e ∙ plain) k)
+told : (c d : ℕ) (t : Tok) → ((x : ℕ) → named_by (character_token d) x ≡ d) → is_plain (character_token d) ≡ false → (t ≡ character_token c) ⊎ IsPlain t → t ≡ character_token d → c ≡ d
+told c d t names plain (inl k) e = sym (named c) ∙ ap (λ s. named_by s c) (sym k ∙ e) ∙ names c
+told c d t names plain (inr k) e = absurd (both_ways (is_plain t) (ap is_plain e ∙ plain) k)
 
 -- a character that stands for itself shows its token
-shows : (takes : Bool) (text : List ℕ) (c d : ℕ) → ((alone : Bool) (after : List ℕ) → (first_slice alone (d ∷ after)).token ≡ character_token d) → ((x : ℕ) → named_by (character_token d) x ≡ d) → is_plain (character_token d) ≡ false → Found takes text c → Shows d c (token_list (slices_of takes text))
-shows takes text c d itself names plain (alone, after, w, rest, t, ss, whole, slice_is, split, k) =
-    let stands : first (token_list (slices_of takes text)) ≡ Some t = ap (λ xs. first (token_list xs)) whole in (
-      λ e. stands ∙ ap Some (ap (λ s. s.token) (sym slice_is) ∙ ap (λ x. (first_slice alone (x ∷ after)).token) e ∙ itself alone after),
-      λ e. told c d after w rest t names plain split k (cc (stands, e)),
-    )
+shows : (c d : ℕ) (ts : List Tok) (t : Tok) → first ts ≡ Some t → (t ≡ character_token c) ⊎ IsPlain t → (c ≡ d → t ≡ character_token d) → ((x : ℕ) → named_by (character_token d) x ≡ d) → is_plain (character_token d) ≡ false → Shows d c ts
+shows c d ts t stands known itself names plain = (λ e. stands ∙ ap Some (itself e), λ e. told c d t names plain known (cc (stands, e)))
 
 pub seen : (takes alone : Bool) (text start : List ℕ) (c : ℕ) (after : List ℕ) → IsStart takes text start alone → start ≡ c ∷ after → IsSeen (Some c) (token_list (slices_of takes text))
 seen takes alone text start c after starts e =
-    let f : Found takes text c = found takes alone text c after (subst (λ s. IsStart takes text s alone) e starts) in (
-      λ none. cc (ap token_list (sym f.6) ∙ none),
-      shows takes text c (byte "'") (λ alone after. refl) (λ x. refl) refl f,
-      shows takes text c (byte "_") (λ alone after. refl) (λ x. refl) refl f,
-      shows takes text c (byte "^") (λ alone after. refl) (λ x. refl) refl f,
-      shows takes text c (byte "[") (λ alone after. refl) (λ x. refl) refl f,
+    let here : IsStart takes text (c ∷ after) alone = subst (λ s. IsStart takes text s alone) e starts in
+    let (t, rest, (w, split, spells)) = begun alone c after here.1.2 in
+    let whole = cut_step takes text (slice w t) rest (step_from takes alone text (c ∷ after) t rest here (w, split, spells)) in
+    let stands : first (token_list (slices_of takes text)) ≡ Some t = ap (λ xs. first (token_list xs)) whole in
+    let is_known = known_first c after w rest t split (known alone w (head rest) t spells) in
+    let itself : (d : ℕ) → c ≡ d → t ≡ (first_slice alone (d ∷ after)).token = λ d f. ap (λ s. s.token) (sym (slice_of alone w rest t spells) ∙ ap (first_slice alone) (sym split ∙ ap (λ x. x ∷ after) f)) in (
+      λ none. cc (ap token_list (sym whole) ∙ none),
+      shows c (byte "'") _ t stands is_known (itself (byte "'")) (λ x. refl) refl,
+      shows c (byte "_") _ t stands is_known (itself (byte "_")) (λ x. refl) refl,
+      shows c (byte "^") _ t stands is_known (itself (byte "^")) (λ x. refl) refl,
+      shows c (byte "[") _ t stands is_known (itself (byte "[")) (λ x. refl) refl,
     )
 
 pub nothing_seen : (takes alone : Bool) (text start : List ℕ) → IsStart takes text start alone → start ≡ [] → IsSeen None (token_list (slices_of takes text))
