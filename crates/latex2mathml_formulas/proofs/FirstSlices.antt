@@ -1,12 +1,12 @@
 -- Each slice that spells a token at the front of a text is the text's first slice.
-use Rattle.std.proofs.Common.{◌≡◌, ℕ, ◌≤◌, Bool, true, false, List, [], ◌∷◌, ◌++◌, codes, refl, sym, ap, subst, ◌∙◌, None, inl, inr, arith}
+use Rattle.std.proofs.Common.{◌≡◌, ℕ, ◌≤◌, Bool, true, false, List, [], ◌∷◌, ◌++◌, refl, sym, ap, subst, ◌∙◌, inl, inr, arith}
 use Rattle.std.proofs.{lemmas.Bool.cases_Bool, lemmas.Bool.Decides.nat_tests}
-use Rattle.std.specs.{Char.is_ascii_digit, Char.is_ascii_alphabetic, Prelude.count_by, Str.byte}
+use Rattle.std.specs.{Char.is_ascii_digit, Char.is_ascii_alphabetic, Prelude.count_by}
 use Rattle.latex2mathml_formulas.specs.Characters.{◌∈◌, Stops, head}
 use Rattle.latex2mathml_formulas.proofs.{Passing.Each, Passing.each, Counting.count_yes, Counting.count_no, Spellings.digit_no_period}
 use Rattle.latex2mathml_formulas.specs.Cutting.{run_of, behind_run, number_of, first_slice, slice, numbered}
-use Rattle.latex2mathml_formulas.specs.Spelling.{SpellsAt, IsNumber, is_period, is_digit_or_period, is_equals_sign, begins_longer, character, colon, colon_equals, number, digit, symbol_command, letter_command, lone_backslash}
-use Rattle.latex2mathml_tokens.specs.Tok.{Tok, Command, Operator}
+use Rattle.latex2mathml_formulas.specs.Spelling.{SpellsAt, IsNumber, is_period, is_digit_or_period, begins_longer, character, colon, colon_equals, number, digit, symbol_command, letter_command, lone_backslash}
+use Rattle.latex2mathml_tokens.specs.Tok.{Tok}
 
 -- a run of characters that pass the test, and what stands after it
 pub parted : (p : ℕ → Bool) (w rest : List ℕ) → Each p w → Stops p (head rest) → (run_of p (w ++ rest) ≡ w) × (behind_run p (w ++ rest) ≡ rest)
@@ -38,28 +38,21 @@ number_first [] rest n = absurd n.begins
 number_first (c ∷ w) rest n =
     let d : is_ascii_digit c ≡ true = n.begins in
     let whole : number_of (c ∷ w ++ rest) ≡ c ∷ w = number_whole (c ∷ w) rest (each is_digit_or_period (c ∷ w) n.holds) n.at_most_one n.ends n.longest in
-    let whole' : c ∷ number_of (w ++ rest) ≡ c ∷ w = rw d at whole in
-    rw d (ap numbered whole')
+    rw d (ap numbered (rw d at whole))
 
 not_longer : (c : ℕ) → begins_longer c ≡ false → (is_ascii_digit c ≡ false) × ((c ∈ "\\") ≡ false) × ((c ∈ ":") ≡ false)
 not_longer c h = (grind (arith, nat_tests), grind (arith, nat_tests), grind (arith, nat_tests))
 
-colon_first : (alone : Bool) (rest : List ℕ) → Stops is_equals_sign (head rest) → first_slice alone (byte ":" ∷ rest) ≡ slice (codes ":") (Operator (byte ":"))
-colon_first alone [] h = refl
-colon_first alone (c ∷ rest) h = rw h refl
-
-backslash_first : (alone : Bool) (rest : List ℕ) → head rest ≡ None → first_slice alone (byte "\\" ∷ rest) ≡ slice (codes "\\") (Command [])
-backslash_first alone [] h = refl
-backslash_first alone (c ∷ rest) h = cc
-
 -- what spells a token at the front of a text is its first slice
 pub slice_of : (alone : Bool) (w rest : List ℕ) (t : Tok) → SpellsAt alone w (head rest) t → first_slice alone (w ++ rest) ≡ slice w t
 slice_of alone w rest t (character c longer dark e f) = (let other = not_longer c longer in rw (e, f, other.0, other.1, other.2) refl)
-slice_of alone w rest t (colon stops e f) = rw (e, f) (colon_first alone rest stops)
+slice_of alone w [] t (colon stops e f) = rw (e, f) refl
+slice_of alone w (c ∷ rest) t (colon stops e f) = rw (e, f, stops) refl
 slice_of alone w rest t (colon_equals e f) = rw (e, f) refl
 slice_of alone w rest t (number a n f) = rw (a, f) (number_first w rest n)
 slice_of alone w rest t (digit c a d e f) = rw (a, f, e, d) refl
 slice_of alone w rest t (symbol_command c l e f) = rw (e, f, l) refl
 slice_of alone w rest t (letter_command c cs e l s f) =
     let letters = each is_ascii_alphabetic (c ∷ cs) l in rw (e, f, letters.0, (parted is_ascii_alphabetic cs rest letters.1 s).0) refl
-slice_of alone w rest t (lone_backslash e n f) = rw (e, f) (backslash_first alone rest n)
+slice_of alone w [] t (lone_backslash e n f) = rw (e, f) refl
+slice_of alone w (c ∷ rest) t (lone_backslash e n f) = absurd cc

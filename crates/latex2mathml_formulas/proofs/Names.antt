@@ -9,10 +9,6 @@ use Rattle.latex2mathml_tokens.specs.declared.lexeme.Lexeme.{Lexeme}
 use Rattle.latex2mathml_tokens.specs.declared.lexeme.Lexeme.TheVariants as lexeme
 use Rattle.latex2mathml_formulas.proofs.Progress.{GoesOn-trans, OpensFor-rest, OpensFor-trans}
 
--- letters of these bytes were taken, and whatever letters stand next belong to them
-abbrev pub AreTaken : List ℕ → List Tok → List Tok → Type 0
-AreTaken bytes old place = (taken : List ℕ) × (bytes ≡ encode_utf8_all taken) × ((cs : List ℕ) (to : List Tok) → AreLetters cs place to → AreLetters (taken ++ cs) old to)
-
 one_letter : (c : ℕ) (variant : Variant) (cs : List ℕ) (place next to : List Tok) → Letter c variant ≡ first_or_end place → next ≡ rest_of place → AreLetters cs next to → AreLetters (c ∷ cs) place to
 one_letter c variant cs [] next to e same d = absurd cc
 one_letter c variant cs (t ∷ ts) next to e same d = (t, (ts, refl, ap letter_of (sym e), subst (λ l. AreLetters cs l to) same d))
@@ -23,9 +19,9 @@ IsNoLetter x = (c : ℕ) (variant : Variant) → x ≡ lexeme.Letter c variant �
 none_first : (x : Lexeme) (l : List Tok) → lexeme_tok x ≡ first_or_end l → IsNoLetter x → first_letter l ≡ None
 none_first x l e h = grind (arith)
 
--- a name is taken, of which these are the bytes so far
+-- a name is taken, of which these are the bytes so far: they are those of letters, and whatever letters stand next belong to them
 pub record IsTaking (bytes : List ℕ) (old now : Unread) : Type 0 where
-  pub letters : AreTaken bytes (rest_of old.list) now.list
+  pub letters : (taken : List ℕ) × (bytes ≡ encode_utf8_all taken) × ((cs : List ℕ) (to : List Tok) → AreLetters cs now.list to → AreLetters (taken ++ cs) (rest_of old.list) to)
   pub counts : GoesOn old now
   pub fewer : OpensFor old now 0 0
 

@@ -1,7 +1,7 @@
 -- A text has exactly one list of slices, and so exactly one token list.
 use Rattle.std.proofs.Common.{◌≡◌, ℕ, zero, suc, ◌<◌, Bool, true, false, ◌&&◌, List, [], ◌∷◌, ◌++◌, map, codes, length, refl, sym, ap, subst, ◌∙◌, Option, Some, None, inl, inr, append-nil, arith}
 use Rattle.std.proofs.{Math.Seq.drop-append_seam, lemmas.Bool.cases_Bool, lemmas.Bool.Decides.nat_tests}
-use Rattle.std.specs.{Char.is_ascii_digit, Char.is_ascii_alphabetic, Str.byte, Str.encode_utf8_all, List.AllPass}
+use Rattle.std.specs.{Char.is_ascii_digit, Char.is_ascii_alphabetic, Str.byte, Str.encode_utf8_all}
 use Rattle.latex2mathml_formulas.specs.Characters.{◌∈◌, Begins, Stops, head, is_empty, is_space}
 use Rattle.std.proofs.lemmas.List.Elements.{All-nil, All-cons}
 use Rattle.latex2mathml_formulas.proofs.{Passing.each, FirstSlices.parted, FirstSlices.slice_of}
@@ -11,7 +11,7 @@ use Rattle.latex2mathml_formulas.specs.{Lexing.BeginsWith, Lexing.BeginsWithNumb
 use Rattle.latex2mathml_formulas.specs.Spelling.{Slice, IsStep, HasSlices, HasTokens, takes_digit, is_period, is_equals_sign, character_token, character, colon, colon_equals, number, digit, symbol_command, letter_command, lone_backslash}
 use Rattle.latex2mathml_tokens.specs.Tok.{Tok, Number, Command, Paren, Operator}
 use Rattle.latex2mathml_formulas.proofs.Spellings.{digits_alone, digits_with_period, only_space}
-use Rattle.latex2mathml_formulas.proofs.Tokenizing.{Dark, dark_front, spells_dark, step_shortens}
+use Rattle.latex2mathml_formulas.proofs.Tokenizing.{Dark, spells_dark, step_shortens}
 
 -- a text splits after its longest run
 split : (p : ℕ → Bool) (text : List ℕ) → (front : List ℕ) × (back : List ℕ) × IsLongestRun p text front back
@@ -81,9 +81,9 @@ within (suc n) takes text (space, c ∷ cs, run) h =
     let more = within n (takes_digit (Some t)) rest (split is_space rest) (omega (arith, step_shortens takes text rest (slice w t) step)) in
     (slice w t ∷ more.0, (rest, step, more.1))
 
-dark_starts : (xs : List ℕ) → Dark xs → Stops is_space (head xs) × (is_empty xs ≡ false)
-dark_starts [] d = absurd d
-dark_starts (x ∷ xs) d = (d, refl)
+dark_starts : (w rest : List ℕ) → Dark w → Stops is_space (head (w ++ rest)) × (is_empty (w ++ rest) ≡ false)
+dark_starts [] rest d = absurd d
+dark_starts (c ∷ w) rest d = (d, refl)
 
 -- the slices that a text has are those that are computed
 computed : (n : ℕ) (takes : Bool) (text : List ℕ) (ss : List Slice) → HasSlices takes text ss → length text < n → slices_within n takes text ≡ ss
@@ -91,7 +91,7 @@ unfolding slices_within
 computed zero takes text ss h l = absurd (omega arith)
 computed (suc n) takes text [] h l = rw (rw append-nil at (parted is_space text [] (each is_space text h) tt).1) refl
 computed (suc n) takes text (s ∷ ss) (rest, (space, whole, white, spells), later) l =
-    let dark = dark_starts _ (dark_front s.text rest (spells_dark _ s.text _ s.token spells)) in
+    let dark = dark_starts s.text rest (spells_dark _ s.text _ s.token spells) in
     let parts = parted is_space space (s.text ++ rest) (each is_space space white) dark.0 in
     let more = computed n (takes_digit (Some s.token)) rest ss later (omega (arith, step_shortens takes text rest s (space, whole, white, spells))) in
     rw (whole, parts.1, parts.0, dark.1, slice_of (takes && is_empty space) s.text rest s.token spells, drop-append_seam s.text rest, more) refl
@@ -108,9 +108,6 @@ cut takes text =
 -- what a step takes from the slices that are left
 pub cut_step : (takes : Bool) (text : List ℕ) (s : Slice) (rest : List ℕ) → IsStep takes text s rest → slices_of takes text ≡ s ∷ slices_of (takes_digit (Some s.token)) rest
 cut_step takes text s rest step = one_cut takes text (s ∷ slices_of (takes_digit (Some s.token)) rest) (rest, step, cut (takes_digit (Some s.token)) rest)
-
-pub cut_end : (takes : Bool) (text : List ℕ) → AllPass is_space text → slices_of takes text ≡ []
-cut_end takes text h = one_cut takes text [] h
 
 pub some_list : (p : Option Tok) (text : List ℕ) → (ts : List Tok) × HasTokens p text ts
 some_list p text = (map (λ s. s.token) (slices_of (takes_digit p) text), (slices_of (takes_digit p) text, cut (takes_digit p) text, refl))

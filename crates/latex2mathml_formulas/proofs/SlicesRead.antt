@@ -10,12 +10,11 @@ use Rattle.latex2mathml_formulas.proofs.Total.{some_taken}
 -- letters with no letter after them
 letters_are_read : (cs : List ℕ) (u g : List Tok) → map letter_of u ≡ map Some cs → first_letter g ≡ None → AreLetters cs (u ++ g) g
 letters_are_read [] [] g e h = (refl, h)
-letters_are_read [] (t ∷ u) g e h = absurd cc
-letters_are_read (c ∷ cs) [] g e h = absurd cc
 letters_are_read (c ∷ cs) (t ∷ u) g e h =
     let here : letter_of t ≡ Some c = cc in
     let later : map letter_of u ≡ map Some cs = cc in
     (t, (u ++ g, refl, here, letters_are_read cs u g later h))
+letters_are_read cs u g e h = absurd cc
 
 -- a member before members: it is not empty, since a token is left after it
 member_is_read : {end : Tok} (u g : List Tok) {f : List Tok} {x : Tree} {xs : List Tree} → first u ≢ Some end → Reads node (u ++ g) (Read x g) → ReadsAll (Some end) g (Read xs f) → ReadsAll (Some end) (u ++ g) (Read (x ∷ xs) f)
@@ -64,8 +63,7 @@ part_takes {s} (t ∷ f) {x} d = absurd (let fewer = some_taken s t f (t ∷ f) 
 pub members_take : {end : Tok} {f : List Tok} {xs : List Tree} → AreMembers end [] f xs → ⊥
 members_take (no_member e) = absurd cc
 members_take (member {u = []} {v = []} e h d ds) = members_take ds
-members_take (member {u = []} {v = t ∷ v} e h d ds) = absurd cc
-members_take (member {u = t ∷ u} e h d ds) = absurd cc
+members_take (member {u = u} {v = v} e h d ds) = absurd cc
 
 -- nodes side by side are read
 pub nodes_are_read : {l : List Tok} {xs : List Tree} → AreNodes l xs → ReadsAll None l (Read xs [])

@@ -1,5 +1,5 @@
 -- What the reader takes from the slices that are left of a text, and what it leaves where it only looks.
-use Rattle.std.proofs.Common.{◌≡◌, ◌≢◌, ℕ, ◌+◌, ◌*◌, ◌^◌, ◌<◌, ◌≤◌, Bool, true, false, not, ◌&&◌, ◌||◌, List, [], ◌∷◌, ◌++◌, drop, drop-drop, eqb, length, refl, sym, ap, subst, ◌∙◌, Some, arith, rules}
+use Rattle.std.proofs.Common.{◌≡◌, ◌≢◌, ℕ, ◌+◌, ◌*◌, ◌^◌, ◌<◌, ◌≤◌, Bool, true, false, not, ◌||◌, List, [], ◌∷◌, ◌++◌, drop, drop-drop, eqb, length, refl, sym, ap, subst, ◌∙◌, Some, arith, rules}
 use Rattle.std.proofs.lemmas.Bool.{and_right, cond_both, not-true, or_parts}
 use Rattle.std.proofs.{lemmas.Bool.Decides.nat_tests, lemmas.List.Elements.All-cons, lemmas.List.Elements.All-nil}
 use Rattle.std.proofs.lemmas.Str.{encodes-chars, length-le-encodes}
@@ -11,12 +11,12 @@ use Rattle.latex2mathml_formulas.specs.Spelling.{Slice, SpellsAt, IsStep, begins
 use Rattle.latex2mathml_formulas.specs.Unread.{Takes, unread_in, token_list}
 use Rattle.latex2mathml_tokens.specs.Tok.{Tok, EOF}
 use Rattle.latex2mathml_formulas.proofs.{Fronts.no_characters, Spellings.one_character, Spellings.only_space}
-use Rattle.latex2mathml_formulas.proofs.OneList.{begun, cut_end, cut_step}
+use Rattle.latex2mathml_formulas.proofs.OneList.{begun, cut_step, one_cut}
 use Rattle.latex2mathml_formulas.proofs.{Counting.count_one, Tokenizing.spells_dark, Tokenizing.step_shortens}
 
 -- a text that begins with no white space starts there
 pub starts_here : (takes : Bool) (text : List ℕ) (c : ℕ) (after : List ℕ) → text ≡ c ∷ after → is_space c ≡ false → IsStart takes text text takes
-starts_here takes text c after e dark = ([], (refl, All-nil (λ x. is_space x ≡ true), rw e dark), grind (arith))
+starts_here takes text c after e dark = ([], (refl, All-nil (λ x. is_space x ≡ true), rw e dark), grind arith)
 
 -- a text that begins with white space starts after it
 pub starts_behind : (takes : Bool) (text : List ℕ) (c : ℕ) (after start : List ℕ) → text ≡ c ∷ after → is_space c ≡ true → (space : List ℕ) × IsLongestRun is_space after space start → IsStart takes text start false
@@ -31,19 +31,19 @@ step_from takes alone text start t rest (space, run, e) begins =
 -- the text from its start has the same slices
 pub same_slices : (takes alone : Bool) (text start : List ℕ) → IsStart takes text start alone → slices_of alone start ≡ slices_of takes text
 same_slices takes alone text [] (space, run, e) =
-    cut_end alone [] (All-nil (λ x. is_space x ≡ true)) ∙ sym (cut_end takes text (only_space text space [] run refl))
+    one_cut alone [] [] (All-nil (λ x. is_space x ≡ true)) ∙ sym (one_cut takes text [] (only_space text space [] run refl))
 same_slices takes alone text (c ∷ cs) (space, run, e) =
     let (t, rest, begins) = begun alone c cs run.2 in
     let here = step_from alone alone (c ∷ cs) (c ∷ cs) t rest (starts_here alone (c ∷ cs) c cs refl run.2) begins in
     cut_step alone (c ∷ cs) _ rest here ∙ sym (cut_step takes text _ rest (step_from takes alone text (c ∷ cs) t rest (space, run, e) begins))
 
 pub none_left : (takes alone : Bool) (text start : List ℕ) → IsStart takes text start alone → start ≡ [] → slices_of takes text ≡ []
-none_left takes alone text start (space, run, e) f = cut_end takes text (only_space text space start run f)
+none_left takes alone text start (space, run, e) f = one_cut takes text [] (only_space text space start run f)
 
 -- an empty text has no slice
 pub none_of_nothing : (takes : Bool) (text : List ℕ) → true ≡ eqb (length text) 0 → slices_of takes (chars text) ≡ []
 none_of_nothing takes text e =
-    cut_end takes (chars text) (rw (no_characters text e) (All-nil (λ x. is_space x ≡ true)))
+    one_cut takes (chars text) [] (rw (no_characters text e) (All-nil (λ x. is_space x ≡ true)))
 
 -- where no slice is left, the end is taken
 pub nothing_taken : (slices : List Slice) (tokens comparisons : ℕ) → slices ≡ [] → Takes EOF (unread_in slices tokens comparisons) (unread_in slices tokens comparisons)

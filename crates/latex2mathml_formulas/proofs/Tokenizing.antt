@@ -29,10 +29,6 @@ spells_dark alone w next t (symbol_command c l e f) = subst Dark (sym e) refl
 spells_dark alone w next t (letter_command c cs e l s f) = subst Dark (sym e) refl
 spells_dark alone w next t (lone_backslash e n f) = subst Dark (sym e) refl
 
-pub dark_front : (w rest : List ℕ) → Dark w → Dark (w ++ rest)
-dark_front [] rest d = absurd d
-dark_front (c ∷ w) rest d = d
-
 -- and none is empty
 dark_length : (w : List ℕ) → Dark w → 1 ≤ length w
 dark_length [] d = absurd d

@@ -8,7 +8,7 @@ use Rattle.latex2mathml_formulas.specs.Places.{AreSlices, IsBetweenTokens, IsDig
 use Rattle.latex2mathml_formulas.specs.Spelling.{SpellsAt, Slice, HasSlices, HasTokens, is_equals_sign, is_period, takes_digit, character, colon, colon_equals, number, digit, symbol_command, letter_command, lone_backslash}
 use Rattle.latex2mathml_tokens.specs.Tok.{Tok}
 use Rattle.latex2mathml_formulas.proofs.{OneList.at_most_one, OneList.cut, Passing.Each, Passing.each, Passing.passing}
-use Rattle.latex2mathml_formulas.proofs.Tokenizing.{Dark, dark_front, spells_dark}
+use Rattle.latex2mathml_formulas.proofs.Tokenizing.{Dark, spells_dark}
 
 -- a slice, where other characters may follow it
 
@@ -71,9 +71,9 @@ light_first : (left : List ℕ) (c : ℕ) (cs right : List ℕ) → Each is_spac
 light_first [] c cs right h k behind = λ p dark. dark c k
 light_first (x ∷ left) c cs right h k behind = λ p dark. dark x h.0
 
-some_stands : (left right text : List ℕ) → Dark text → head (left ++ (right ++ text)) ≡ None → ⊥
-some_stands [] [] [] dark none = absurd dark
-some_stands left right text dark none = cc
+some_stands : (left right w rest : List ℕ) → Dark w → head (left ++ (right ++ (w ++ rest))) ≡ None → ⊥
+some_stands [] [] [] rest dark none = absurd dark
+some_stands left right w rest dark none = cc
 
 gap_some : (left : List ℕ) (c : ℕ) (cs : List ℕ) → is_empty (left ++ c ∷ cs) ≡ false
 gap_some [] c cs = refl
@@ -102,8 +102,7 @@ same_slices : (before after : List ℕ) (place : IsBetweenTokens before after) �
 same_slices before after place no_digit_place [] white = slices_around place [] place.slices place.space place.spells
 same_slices before after place no_digit_place (c ∷ cs) white =
     let space : Each is_space (place.left ++ place.right) = each is_space (place.left ++ place.right) place.space in
-    let dark : Dark (place.next.text ++ place.rest) = dark_front place.next.text place.rest (spells_dark _ _ _ _ place.spells) in
-    let some : head (place.left ++ after) ≡ None → ⊥ = λ none. some_stands place.left place.right _ dark (ap (λ x. head (place.left ++ x)) (sym place.after_is) ∙ none) in
+    let some : head (place.left ++ after) ≡ None → ⊥ = λ none. some_stands place.left place.right _ _ (spells_dark _ _ _ _ place.spells) (ap (λ x. head (place.left ++ x)) (sym place.after_is) ∙ none) in
     let earlier = slices_before_space false place.front _ (place.left ++ (c ∷ cs ++ after)) _ some (light_first place.left c cs place.right space white.0 after) place.slices in
     let spells = spells_apart _ _ _ _ _ (λ touching takes digit. no_digit_place (record { touching = touching; takes = takes; digit = digit })) place.spells in
     slices_around place (c ∷ cs) earlier (passing is_space _ (gap_grown place.left (c ∷ cs) place.right space white)) (rw (gap_some place.left c (cs ++ place.right), and_right _ false refl) spells)
@@ -132,49 +131,33 @@ space_changes_nothing before space after u v = λ place no_digit_place white.
 -- where places are
 
 -- the slices of a text up to one of them, and those after it
-abbrev Parted : Bool → List ℕ → List Slice → Slice → List Slice → Type 0
-Parted takes text ss s rs =
-    (front : List ℕ) × (behind : List ℕ)
-    × (text ≡ front ++ behind)
-    × AreSlices takes front behind (ss ++ s ∷ [])
-    × HasSlices (takes_digit (Some s.token)) behind rs
-
-parted : (takes : Bool) (text : List ℕ) (ss : List Slice) (s : Slice) (rs : List Slice) → HasSlices takes text (ss ++ s ∷ rs) → Parted takes text ss s rs
+parted : (takes : Bool) (text : List ℕ) (ss : List Slice) (s : Slice) (rs : List Slice) → HasSlices takes text (ss ++ s ∷ rs) → (front : List ℕ) × (behind : List ℕ) × (text ≡ front ++ behind) × AreSlices takes front behind (ss ++ s ∷ []) × HasSlices (takes_digit (Some s.token)) behind rs
 parted takes text [] s rs (rest, (space, whole, white, spells), later) =
-    let front : List ℕ = space ++ (s.text ++ []) in
-    (front, rest, whole ∙ sym (step_whole front rest space s.text [] refl), (space, [], refl, white, spells, refl), later)
+    (space ++ (s.text ++ []), rest, whole ∙ sym (step_whole _ rest space s.text [] refl), (space, [], refl, white, spells, refl), later)
 parted takes text (r ∷ ss) s rs (rest, (space, whole, white, spells), later) =
-    let more : Parted (takes_digit (Some r.token)) rest ss s rs = parted (takes_digit (Some r.token)) rest ss s rs later in
-    let front : List ℕ = space ++ (r.text ++ more.0) in
-    (front, more.1, whole ∙ ap (λ x. space ++ (r.text ++ x)) more.2 ∙ sym (step_whole front more.1 space r.text more.0 refl), (space, more.0, refl, white, subst (λ x. SpellsAt (takes && is_empty space) r.text (head x) r.token) more.2 spells, more.3), more.4)
+    let (front, behind, parts, slices, more) = parted (takes_digit (Some r.token)) rest ss s rs later in
+    (space ++ (r.text ++ front), behind, whole ∙ ap (λ x. space ++ (r.text ++ x)) parts ∙ sym (step_whole _ behind space r.text front refl), (space, front, refl, white, subst (λ x. SpellsAt (takes && is_empty space) r.text (head x) r.token) parts spells, slices), more)
 
 pub has_places : (text : List ℕ) → HasPlaces text
 has_places text = λ earlier later last next h.
-    let p : Parted false text earlier last (next ∷ later) = parted false text earlier last (next ∷ later) h in
-    let rest : List ℕ = p.4.0 in
-    let space : List ℕ = p.4.1.0 in
-    let behind : List ℕ = next.text ++ rest in
-    let takes : Bool = takes_digit (Some last.token) in (
-      p.0,
+    let (front, after, whole, slices, (rest, (space, gap, white, spells), more)) = parted false text earlier last (next ∷ later) h in
+    let behind : List ℕ = next.text ++ rest in (
+      front,
       space,
       behind,
-      p.2 ∙ ap (λ x. p.0 ++ x) p.4.1.1,
-      λ left right e. (let whole : p.1 ≡ left ++ (right ++ behind) = p.4.1.1 ∙ ap (λ x. x ++ behind) e ∙ append_assoc left right behind in (
-        record {
-          front = p.0;
-          left = left;
-          earlier = earlier;
-          last = last;
-          right = right;
-          next = next;
-          rest = rest;
-          before_is = refl;
-          after_is = refl;
-          slices = subst (λ x. AreSlices false p.0 x (earlier ++ last ∷ [])) whole p.3;
-          space = subst (AllPass is_space) e p.4.1.2;
-          spells = subst (λ x. SpellsAt (takes && is_empty x) next.text (head rest) next.token) e p.4.1.3;
-        },
-        refl,
-        refl,
-      )),
+      whole ∙ ap (λ x. front ++ x) gap,
+      λ left right e. (let place : IsBetweenTokens (front ++ left) (right ++ behind) = record {
+        front = front;
+        left = left;
+        earlier = earlier;
+        last = last;
+        right = right;
+        next = next;
+        rest = rest;
+        before_is = refl;
+        after_is = refl;
+        slices = subst (λ x. AreSlices false front x (earlier ++ last ∷ [])) (gap ∙ ap (λ x. x ++ behind) e ∙ append_assoc left right behind) slices;
+        space = subst (AllPass is_space) e white;
+        spells = subst (λ x. SpellsAt (takes_digit (Some last.token) && is_empty x) next.text (head rest) next.token) e spells;
+      } in (place, refl, refl)),
     )
