@@ -1,6 +1,6 @@
 -- What the last trees become when they are put together or changed.
-use Rattle.std.proofs.Common.{◌≡◌, ◌≢◌, ℕ, ◌-◌, ◌<◌, ◌≤◌, List, [], ◌∷◌, Option, None, length, length-drop, take, drop, reverse, suc, zero, refl, sym, ap, ◌∙◌, arith}
-use Rattle.std.proofs.lemmas.List.{length-reverse, length-take-le}
+use Rattle.std.proofs.Common.{◌≡◌, ◌≢◌, ℕ, ◌-◌, ◌<◌, ◌≤◌, List, [], ◌∷◌, Option, None, length, length-drop, take, drop, reverse, suc, zero, add-one, refl, sym, ap, ◌∙◌, arith}
+use Rattle.std.proofs.lemmas.List.{drop-drop, length-reverse, length-take-le}
 use Rattle.latex2mathml_trees.specs.Productions.{group_tree, matrix_of, matrix_members}
 use Rattle.latex2mathml_trees.specs.Tree.{Tree, matrix, row, no_trees, more_trees, trees_of}
 use Rattle.latex2mathml_tokens.specs.{declared.attribute.ColumnAlign.ColumnAlign, declared.attribute.Variant.Variant}
@@ -8,10 +8,8 @@ use Rattle.latex2mathml_parts.specs.{Forests.Stands, Forests.forest, Forms.all_i
 use Rattle.latex2mathml_parts.specs.declared.form.Form.TheVariants as form
 use Rattle.latex2mathml_parts.proofs.Styles.{all_plain}
 
-pub drop_one_more : (n : ℕ) (ts : List Tree) → drop 1 (drop n ts) ≡ drop (suc n) ts
-drop_one_more zero ts = refl
-drop_one_more (suc n) [] = refl
-drop_one_more (suc n) (t ∷ ts) = drop_one_more n ts
+drop_one_more : (n : ℕ) (ts : List Tree) → drop 1 (drop n ts) ≡ drop (suc n) ts
+drop_one_more n ts = rw (drop-drop 1 n ts, add-one) refl
 
 grouped_row : (xs : List Tree) → length xs ≢ 1 → group_tree xs ≡ row (trees_of xs)
 grouped_row [] h = refl
@@ -21,10 +19,6 @@ grouped_row (x ∷ y ∷ ys) h = refl
 -- several trees are a row
 pub last_trees : (count : ℕ) (ts : List Tree) → count ≢ 1 → count ≤ length ts → group_tree (reverse (take count ts)) ≡ row (trees_of (reverse (take count ts)))
 last_trees count ts h k = grouped_row (reverse (take count ts)) (λ g. h (sym (length-take-le count ts k) ∙ sym (length-reverse (take count ts)) ∙ g))
-
--- their members
-pub last_members : (count : ℕ) (ts : List Tree) → count ≢ 1 → count ≤ length ts → matrix_members (group_tree (reverse (take count ts))) ≡ trees_of (reverse (take count ts))
-last_members count ts h k = ap matrix_members (last_trees count ts h k)
 
 -- a matrix is put after one member, which is no row
 pub matrix_one : (texts : List (List ℕ)) (align : ColumnAlign) (ts : List Tree) → 0 < length ts → matrix_members (top ts) ≡ more_trees (top ts) no_trees → put_form texts (form.Matrix 1 None align) ts ≡ matrix_of align (top ts) ∷ drop 2 ts

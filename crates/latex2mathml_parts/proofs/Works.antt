@@ -1,26 +1,14 @@
 -- The list of what is still to be written.
-use Rattle.std.proofs.Common.{◌≡◌, ℕ, ◌+◌, ◌*◌, ◌≤◌, List, [], ◌∷◌, ◌++◌, length, take, drop, suc, refl, ap, arith, append_assoc, append-nil, Option, subst, reverse, sum_by}
+use Rattle.std.proofs.Common.{◌≡◌, ℕ, ◌+◌, ◌*◌, ◌≤◌, List, [], ◌∷◌, ◌++◌, length, take, drop, suc, refl, ap, arith, append_assoc, append-nil, Option, reverse, sum_by}
 use Rattle.std.proofs.{lemmas.List.reverse-append, lemmas.Grind.flat_map-append, lemmas.List.Sums.sum_by-cons, lemmas.List.Sums.sum_by_push}
 use Rattle.std.specs.List.{flat_map}
 use Rattle.latex2mathml_trees.specs.{Tree.Tree, Tree.trees_of, Weight.weights}
 use Rattle.latex2mathml_tokens.specs.declared.attribute.Variant.{Variant}
 use Rattle.latex2mathml_parts.specs.{Forests.Forest, Forms.all_in, Parts.top, Shapes.print_weight, declared.work.Work.Work}
-use Rattle.latex2mathml_parts.specs.Works.{AreIn, IsIn, due, work_print}
+use Rattle.latex2mathml_parts.specs.Works.{due, work_print}
 use Rattle.latex2mathml_parts.proofs.Styles.{weights_in}
 
--- A work is put on the list, or taken from it.
-
-pub are_in_push : (f : Forest) (ks : List Work) (k : Work) → AreIn f ks → IsIn f k → AreIn f (ks ++ k ∷ [])
-are_in_push f [] k h i = (i, tt)
-are_in_push f (v ∷ ks) k h i = (h.0, are_in_push f ks k h.1 i)
-
-are_in-pop : (f : Forest) (ks : List Work) (k : Work) → AreIn f (ks ++ k ∷ []) → AreIn f ks × IsIn f k
-are_in-pop f [] k h = (tt, h.0)
-are_in-pop f (v ∷ ks) k h = let r = are_in-pop f ks k h.1 in ((h.0, r.0), r.1)
-
-pub popped_in : (f : Forest) (ks vs : List Work) (k : Work) → ks ≡ vs ++ k ∷ [] → AreIn f ks → AreIn f vs × IsIn f k
-popped_in f ks vs k e h = are_in-pop f vs k (subst (AreIn f) e h)
-
+-- a work is put on the list
 pub due-push : (f : Forest) (ks : List Work) (k : Work) → due f (ks ++ k ∷ []) ≡ work_print f k ++ due f ks
 due-push f ks k = ap (flat_map (work_print f)) (reverse-append ks (k ∷ []))
 
@@ -39,10 +27,6 @@ members_step f j (t ∷ ts) us d e h i g =
 pub weight_step : (j : ℕ) (ts us : List Tree) → suc j ≤ length ts → us ≡ drop 1 ts → sum_by print_weight (take (suc j) ts) ≡ print_weight (top ts) + sum_by print_weight (take j us)
 weight_step j [] us h f = absurd (omega arith)
 weight_step j (t ∷ ts) us h f = rw f (sum_by-cons print_weight t (take j ts))
-
-pub length_step : (j : ℕ) (ts us : List Tree) → suc j ≤ length ts → us ≡ drop 1 ts → j ≤ length us
-length_step j [] us h f = absurd (omega arith)
-length_step j (t ∷ ts) us h f = rw f (omega arith)
 
 weights_of : (xs : List Tree) → sum_by print_weight xs ≡ weights (trees_of xs) * 8
 weights_of [] = refl

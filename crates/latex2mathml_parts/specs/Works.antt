@@ -1,6 +1,6 @@
 -- What is still to be written of a list of parts, as markup. The work that was put last is done first.
-use Rattle.std.specs.Prelude.{◌≡◌, ℕ, ◌+◌, ◌<◌, List, [], ◌∷◌, ◌++◌, Option, Some, None, codes, reverse, sum_by}
-use Rattle.std.specs.List.{flat_map}
+use Rattle.std.specs.Prelude.{◌≡◌, ℕ, ◌+◌, ◌<◌, List, [], ◌++◌, Option, Some, None, codes, reverse, sum_by}
+use Rattle.std.specs.List.{All, flat_map}
 use Rattle.latex2mathml_trees.specs.{Print.print, Tree.operator}
 use Rattle.latex2mathml_parts.specs.{Forests.Forest, Forests.IsPlace, Forests.tree_at, Forms.in_style}
 use Rattle.latex2mathml_parts.specs.{Shapes.print_weight, Shapes.sign_print, declared.work.Work.Work}
@@ -23,9 +23,8 @@ abbrev pub IsIn : Forest → Work → Type 0
 IsIn f (work.Tree end style) = IsPlace f end
 IsIn f k = Unit {0}
 
-abbrev pub AreIn : Forest → List Work → Type 0
-AreIn f [] = Unit {0}
-AreIn f (k ∷ ks) = IsIn f k × AreIn f ks
+unfoldable pub AreIn : Forest → List Work → Type 0
+AreIn f = All (IsIn f)
 
 -- how much there is to write of a work
 abbrev pub work_weight : Forest → Work → ℕ

@@ -146,7 +146,7 @@ impl<'a> Parts<'a> {
     }
 
     /// Makes a matrix of the last trees, which are so many, and of the name below them.
-    #[tactic(auto, using(crate::proofs::Styles::all_plain, crate::proofs::Changes::last_members))]
+    #[tactic(auto, using(crate::proofs::Styles::all_plain, crate::proofs::Changes::last_trees))]
     fn matrix(&mut self, align: ColumnAlign, count: usize) -> Result<(), AllocError>
         requires { count < length (trees_in self.old) }
         ensures { OnOk result (trees_in self.new

@@ -30,7 +30,7 @@ use std::alloc::AllocError;
 impl Parts<'_> {
     /// Writes the markup of the last tree after the text. It does not recurse: what is still to be written stands in
     /// `works`. The only `Err` is out of memory, for that list or for the text.
-    #[tactic(auto, using(crate::proofs::Styles::plain, crate::proofs::Forests::all_taken, std::proofs::lemmas::Grind::common_steps))]
+    #[tactic(auto, using(crate::proofs::Styles::plain, crate::proofs::Forests::all_taken, std::proofs::lemmas::Grind::common_steps), unfolding(crate::specs::Works::AreIn))]
     pub fn write(&self, works: &mut Works, out: &mut String) -> Result<(), AllocError>
         requires { 0 < length (trees_in self.now) }
         ensures { OnOk result (string_bytes out.new ≡ string_bytes out.old ++ print (top (trees_in self.now))) }

@@ -117,7 +117,7 @@ impl Parts<'_> {
     }
 
     /// Puts a work on the list.
-    #[tactic(auto, using(crate::proofs::Works::are_in_push))]
+    #[tactic(auto, unfolding(crate::specs::Works::AreIn))]
     pub(crate) fn push_work(&self, work: Work, works: &mut Vec<Work>) -> Result<(), AllocError>
         requires one { IsIn self.now work }
         requires inside { AreIn self.now works.old.items }

@@ -1,6 +1,6 @@
-use Rattle.std.proofs.Common.{◌≡◌, suc, ◌+◌, ◌-◌, ◌≤◌, ◌++◌, arith, ap, take, length, reverse, ◌∙◌, sum_by, subst}
+use Rattle.std.proofs.Common.{◌≡◌, suc, ◌+◌, ◌-◌, ◌≤◌, ◌++◌, arith, ap, take, length, length-drop, reverse, ◌∙◌, sum_by, subst}
 use Rattle.latex2mathml_parts.specs.{Groups.member_in, Groups.members_in, Parts.top, Shapes.print_weight, Forests.trees_at, Works.due}
-use Rattle.latex2mathml_parts.proofs.Works.{length_step, members_step, weight_step}
+use Rattle.latex2mathml_parts.proofs.Works.{members_step, weight_step}
 use Rattle.latex2mathml_parts.proofs.parts.Parts.push_members.Goals as goal
 
 pub members-preserved : goal.members-preserved
@@ -15,7 +15,7 @@ members-preserved c =
     record {
       inside = c.in_ok-push_work.ensures.inside;
       within = omega (arith, c.before_last-place.ensures.less, c.members.invariant.within);
-      all = length_step j ts us all c.before_last-place.ensures.trees;
+      all = omega (arith, ap length c.before_last-place.ensures.trees, length-drop 1 ts);
       print = members_step (member_in c.args.group c.args.style) j ts us d _ all c.before_last-place.ensures.trees (c.in_ok-push_work.ensures.print ∙ ap (λ l. l ++ d) c.member.ensures.print)
           ∙ subst (λ n. members_in c.args.group c.args.style (reverse (take n ts)) ++ d ≡ members_in c.args.group c.args.style (reverse (take c.args.count (trees_at p c.args.end))) ++ due p c.args.works.now.items) same c.members.invariant.print;
       weight =
