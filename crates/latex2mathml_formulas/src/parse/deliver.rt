@@ -37,7 +37,7 @@ impl<'a> Parser<'a> {
     }
 
     /// Gives a frame, which was taken off, the part that it waits for.
-    #[tactic(auto, using(crate::proofs::Combining::member_read, crate::proofs::Combining::last_read, crate::proofs::Combining::first_read))]
+    #[tactic(auto, using(crate::proofs::Combining::member_read, crate::proofs::Combining::first_read))]
     fn deliver(&mut self, frame: Frame<'a>) -> Result<State, AllocError>
         requires fit { unfit frame ≡ 0 }
         requires trees { HasTrees (tree_count frame + 1) self.old }
@@ -140,7 +140,6 @@ impl<'a> Parser<'a> {
     }
 
     /// Ends a fence whose members were read.
-    #[tactic(auto, using(crate::proofs::Stepping::counted_skipped))]
     fn close_fence(&mut self, opening: Option<Paren>, count: usize) -> Result<State, AllocError>
         requires { HasTrees count self.old }
         ensures holds { (input : List Tok) → GoesOnBy (after_fence_members (fence_text opening) (reverse (take count (trees_in self.old.parts)))) count input self.old → IfOk result (Holds input self.new) }

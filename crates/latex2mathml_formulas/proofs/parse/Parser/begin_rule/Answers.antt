@@ -1,3 +1,6 @@
+use Rattle.std.proofs.Common.{◌≡◌, arith}
+use Rattle.latex2mathml_formulas.specs.Grammar.{error_rule, rule}
+use Rattle.latex2mathml_tokens.specs.Lexemes.{lexeme_tok}
 use Rattle.latex2mathml_formulas.proofs.parse.Parser.begin_rule.Goals as goal
 
 pub returns-in-LBrace-clause-holds : goal.returns-in-LBrace-clause-holds
@@ -35,3 +38,8 @@ returns-in-Integral-clause-holds c = λ input k. c.limits-in-Integral.ensures.ho
 
 pub returns-in-Style-clause-holds : goal.returns-in-Style-clause-holds
 returns-in-Style-clause-holds c = λ input k. c.open-in-Style.ensures.holds input (rw c.in-Style.is at k)
+
+pub returns-in-Illegal-clause-holds : goal.returns-in-Illegal-clause-holds
+returns-in-Illegal-clause-holds c = λ input k.
+    let bare : rule (lexeme_tok c.args.lexeme) ≡ error_rule (lexeme_tok c.args.lexeme) = grind (arith, c.in-Illegal.is) in
+    c.error.ensures.holds input (rw bare at k)

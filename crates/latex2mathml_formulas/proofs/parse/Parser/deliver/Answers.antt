@@ -1,8 +1,16 @@
 use Rattle.std.proofs.Common.{arith, drop, ◌∙◌}
 use Rattle.latex2mathml_formulas.specs.Frames.{inside, script}
 use Rattle.latex2mathml_parts.specs.{Forests.trees_in, Parts.top}
-use Rattle.latex2mathml_formulas.proofs.{Combining.drop_from_one, Levels.node_due}
+use Rattle.latex2mathml_formulas.proofs.{Combining.drop_from_one, Combining.last_read, Levels.node_due}
 use Rattle.latex2mathml_formulas.proofs.parse.Parser.deliver.Goals as goal
+
+pub returns-in-Operand-clause-holds : goal.returns-in-Operand-clause-holds
+returns-in-Operand-clause-holds c = λ input k.
+    c.put.ensures.holds input (last_read input c.args.self.now _ (rw c.in-Operand.is at c.requires.fit) (rw c.in-Operand.is at k))
+
+pub returns-in-Last-clause-holds : goal.returns-in-Last-clause-holds
+returns-in-Last-clause-holds c = λ input k.
+    c.put-in-Last.ensures.holds input (last_read input c.args.self.now _ (rw c.in-Last.is at c.requires.fit) (rw c.in-Last.is at k))
 
 pub returns-in_ok-put-in-Script-clause-holds : goal.returns-in_ok-put-in-Script-clause-holds
 returns-in_ok-put-in-Script-clause-holds c = λ input k.
