@@ -1,5 +1,5 @@
 -- The first character of a text, after white space, shows whether the first token is a prime, a sign or an opening bracket.
-use Rattle.std.proofs.Common.{◌≡◌, ◌≢◌, ◌⊎◌, inl, inr, ℕ, Bool, true, false, not, ◌==◌, List, [], ◌∷◌, ◌++◌, codes, Option, Some, None, unwrap_or, refl, sym, ap, subst, ◌∙◌, nat_eq}
+use Rattle.std.proofs.Common.{◌≡◌, ◌≢◌, ◌⊎◌, inl, inr, ℕ, Bool, true, false, not, ◌==◌, List, [], ◌∷◌, ◌++◌, codes, Option, Some, unwrap_or, refl, sym, ap, subst, ◌∙◌, nat_eq}
 use Rattle.std.proofs.{lemmas.Bool.and_parts, lemmas.Bool.both_ways, lemmas.Bool.cond_both}
 use Rattle.std.specs.{Char.encode_utf8, Char.is_ascii_alphabetic, List.list_all, Str.byte, Str.bytes_eq, Str.encode_utf8_all}
 use Rattle.latex2mathml_tokens.specs.Commands.{command_entries, command_token, entry_token}
@@ -11,7 +11,7 @@ use Rattle.latex2mathml_formulas.specs.Unread.{token_list}
 use Rattle.latex2mathml_tokens.specs.Tok.{Tok, Illegal, EOF, Paren, LBrace, RBrace, Underscore, Circumflex, Ampersand, Big, Operator, Letter, Command}
 use Rattle.latex2mathml_tokens.specs.declared.attribute.Variant.TheVariants.{Normal, Italic}
 use Rattle.latex2mathml_formulas.proofs.{FirstSlices.slice_of, OneList.begun, OneList.cut_step, OneList.only}
-use Rattle.latex2mathml_formulas.proofs.Starts.{none_left, step_from}
+use Rattle.latex2mathml_formulas.proofs.Starts.{step_from}
 
 -- the token is no end of a formula, no prime, no sign and no opening bracket, and no size with a dollar sign
 abbrev pub is_plain : Tok → Bool
@@ -110,9 +110,6 @@ seen takes alone text start c after starts e =
       shows c (byte "^") _ t stands is_known (itself (byte "^")) (λ x. refl) refl,
       shows c (byte "[") _ t stands is_known (itself (byte "[")) (λ x. refl) refl,
     )
-
-pub nothing_seen : (takes alone : Bool) (text start : List ℕ) → IsStart takes text start alone → start ≡ [] → IsSeen None (token_list (slices_of takes text))
-nothing_seen takes alone text start starts e = ap token_list (none_left takes alone text start starts e)
 
 -- no token of a text is the end of the formula
 no_end_known : (w : List ℕ) (t : Tok) → IsKnown w t → t ≢ EOF
