@@ -29,10 +29,8 @@ pub record IsTaking (bytes : List ℕ) (old now : Unread) : Type 0 where
 pub letter_taken : (bytes more : List ℕ) (c : ℕ) (variant : Variant) (old now next : Unread) → Takes (Letter c variant) now next → more ≡ bytes ++ encode_utf8 c → IsTaking bytes old now → IsTaking more old next
 letter_taken bytes more c variant old now next found grown so_far =
     let k = so_far.letters in
-    let last : encode_utf8 c ≡ encode_utf8_all (c ∷ []) = sym (append-nil (encode_utf8 c)) in
-    let spelled = ap (λ bs. bs ++ encode_utf8 c) k.1 ∙ ap (λ bs. encode_utf8_all k.0 ++ bs) last ∙ sym (encodes-append k.0 (c ∷ [])) in
     record {
-      letters = (k.0 ++ c ∷ [], grown ∙ spelled, λ cs to d. rw append_assoc (k.2 (c ∷ cs) to (one_letter c variant cs now.list next.list to found.token found.list d)));
+      letters = (k.0 ++ c ∷ [], rw (encodes-append k.0 (c ∷ []), append-nil) (grown ∙ ap (λ bs. bs ++ encode_utf8 c) k.1), λ cs to d. rw append_assoc (k.2 (c ∷ cs) to (one_letter c variant cs now.list next.list to found.token found.list d)));
       counts = GoesOn-trans old now next so_far.counts found.counts;
       fewer = OpensFor-trans _ _ _ _ _ _ so_far.fewer (OpensFor-rest _ _ found.list found.counts);
     }

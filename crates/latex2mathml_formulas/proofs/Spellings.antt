@@ -5,7 +5,7 @@ use Rattle.std.specs.{Char.is_ascii_digit, Char.is_ascii_alphabetic, Str.byte, S
 use Rattle.latex2mathml_formulas.specs.Characters.{Begins, Stops, head, is_space}
 use Rattle.latex2mathml_tokens.specs.Commands.{command_token}
 use Rattle.latex2mathml_formulas.specs.Lexing.{BeginsWith, BeginsWithName, BeginsWithNumber, IsLongestRun}
-use Rattle.latex2mathml_formulas.specs.Spelling.{SpellsAt, is_period, is_digit_or_period, is_equals_sign, begins_longer, character_token, character, colon, colon_equals, number, digit, symbol_command, letter_command, lone_backslash}
+use Rattle.latex2mathml_formulas.specs.Spelling.{IsNumber, SpellsAt, is_period, is_digit_or_period, is_equals_sign, begins_longer, character_token, character, colon, colon_equals, number, digit, symbol_command, letter_command, lone_backslash}
 use Rattle.latex2mathml_tokens.specs.Tok.{Tok, Number, Paren, Operator}
 use Rattle.latex2mathml_tokens.proofs.Order.{no_empty_name}
 use Rattle.latex2mathml_formulas.proofs.{Passing.Each, Passing.each, Counting.count_yes, Counting.count_no}
@@ -29,33 +29,29 @@ Begins-run text (d ∷ ds) back more run begins = (each is_ascii_digit (d ∷ ds
 
 -- digits that no period follows
 pub digits_alone : (text front back : List ℕ) → IsLongestRun is_ascii_digit text front back → Begins is_ascii_digit text → Stops is_period (head back) → BeginsWithNumber text back
-digits_alone text front back run begins stops = (
-  front,
-  run.0,
-  record {
-    begins = rw append-nil at (Begins-run text front back [] run begins);
-    holds = digits_pass front run.1;
-    at_most_one = rw (periods-digits front (each is_ascii_digit front run.1)) (omega arith);
-    ends = run.2;
-    longest = λ _. stops;
-  },
-)
+digits_alone text front back run begins stops =
+    let is : IsNumber front (head back) = record {
+      begins = rw append-nil at (Begins-run text front back [] run begins);
+      holds = digits_pass front run.1;
+      at_most_one = rw (periods-digits front (each is_ascii_digit front run.1)) (omega arith);
+      ends = run.2;
+      longest = λ _. stops;
+    } in
+    (front, run.0, is)
 
 -- digits, a period, and the digits that follow it
 pub digits_with_period : (text front back after part rest : List ℕ) → IsLongestRun is_ascii_digit text front back → Begins is_ascii_digit text → back ≡ byte "." ∷ after → IsLongestRun is_ascii_digit after part rest → BeginsWithNumber text rest
 digits_with_period text front back after part rest run begins e more =
     let whole : text ≡ (front ++ byte "." ∷ part) ++ rest = run.0 ∙ ap (λ b. front ++ b) (e ∙ ap (λ a. byte "." ∷ a) more.0) ∙ sym (append_assoc front (byte "." ∷ part) rest) in
-    let one : count_by is_period (front ++ byte "." ∷ part) ≡ 1 = omega (arith, sum_by-append (λ c. cond (is_period c) 1 0) front (byte "." ∷ part), count_yes is_period (byte ".") part refl, periods-digits front (each is_ascii_digit front run.1), periods-digits part (each is_ascii_digit part more.1)) in (
-      front ++ byte "." ∷ part,
-      whole,
-      record {
-        begins = Begins-run text front back (byte "." ∷ part) run begins;
-        holds = All-append (λ x. is_digit_or_period x ≡ true) front (byte "." ∷ part) (digits_pass front run.1) (All-cons (λ x. is_digit_or_period x ≡ true) (byte ".") part refl (digits_pass part more.1));
-        at_most_one = omega arith;
-        ends = more.2;
-        longest = λ h. absurd (omega arith);
-      },
-    )
+    let one : count_by is_period (front ++ byte "." ∷ part) ≡ 1 = omega (arith, sum_by-append (λ c. cond (is_period c) 1 0) front (byte "." ∷ part), count_yes is_period (byte ".") part refl, periods-digits front (each is_ascii_digit front run.1), periods-digits part (each is_ascii_digit part more.1)) in
+    let is : IsNumber (front ++ byte "." ∷ part) (head rest) = record {
+      begins = Begins-run text front back (byte "." ∷ part) run begins;
+      holds = All-append (λ x. is_digit_or_period x ≡ true) front (byte "." ∷ part) (digits_pass front run.1) (All-cons (λ x. is_digit_or_period x ≡ true) (byte ".") part refl (digits_pass part more.1));
+      at_most_one = omega arith;
+      ends = more.2;
+      longest = λ h. absurd (omega arith);
+    } in
+    (front ++ byte "." ∷ part, whole, is)
 
 pub number_spelled : (alone : Bool) (text rest bs : List ℕ) → alone ≡ false → BeginsWithNumber text rest → ((w : List ℕ) → text ≡ w ++ rest → bs ≡ encode_utf8_all w) → BeginsWith alone text (Number bs) rest
 number_spelled alone text rest bs a (w, e, is) bytes = (w, e, number a is (ap Number (bytes w e)))

@@ -2,7 +2,7 @@
 use Rattle.std.proofs.Common.{◌≡◌, ℕ, ◌+◌, ◌≤◌, ◌<◌, Bool, true, false, refl, List, [], ◌∷◌, ◌++◌, length, Option, sym, ap, subst, ◌∙◌, arith, length-append}
 use Rattle.std.specs.Char.{is_ascii_digit}
 use Rattle.std.proofs.lemmas.Bool.Decides.{nat_tests}
-use Rattle.latex2mathml_formulas.specs.Characters.{Begins, is_space}
+use Rattle.latex2mathml_formulas.specs.Characters.{is_space}
 use Rattle.latex2mathml_formulas.specs.Spelling.{SpellsAt, Slice, IsStep, character, colon, colon_equals, number, digit, symbol_command, letter_command, lone_backslash}
 use Rattle.latex2mathml_tokens.specs.Tok.{Tok}
 
@@ -14,16 +14,13 @@ Dark (c ∷ cs) = is_space c ≡ false
 digit_dark : (c : ℕ) → is_ascii_digit c ≡ true → is_space c ≡ false
 digit_dark c h = grind (arith, nat_tests)
 
-number_dark : (w : List ℕ) → Begins is_ascii_digit w → Dark w
-number_dark [] b = absurd b
-number_dark (d ∷ w) b = digit_dark d b
-
 -- no slice begins with white space
 pub spells_dark : (alone : Bool) (w : List ℕ) (next : Option ℕ) (t : Tok) → SpellsAt alone w next t → Dark w
 spells_dark alone w next t (character c longer dark e f) = subst Dark (sym e) dark
 spells_dark alone w next t (colon stops e f) = subst Dark (sym e) refl
 spells_dark alone w next t (colon_equals e f) = subst Dark (sym e) refl
-spells_dark alone w next t (number a n f) = number_dark w n.begins
+spells_dark alone [] next t (number a n f) = absurd n.begins
+spells_dark alone (c ∷ w) next t (number a n f) = digit_dark c n.begins
 spells_dark alone w next t (digit c a d e f) = subst Dark (sym e) (digit_dark c d)
 spells_dark alone w next t (symbol_command c l e f) = subst Dark (sym e) refl
 spells_dark alone w next t (letter_command c cs e l s f) = subst Dark (sym e) refl

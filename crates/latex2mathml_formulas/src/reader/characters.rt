@@ -52,6 +52,7 @@ pub(crate) fn first_ascii(text: &str) -> Option<(char, &str)>
 
 /// The first character and what follows it.
 #[inline(always)]
+#[tactic(auto, using(crate::proofs::Fronts::no_characters))]
 pub(crate) fn first_char(text: &str) -> Option<(char, &str)>
     ensures { MatchOption result (chars text.now ≡ [])
         (λ found. chars text.now ≡ found.0 ∷ chars found.1.now) }

@@ -5,9 +5,6 @@ use Rattle.latex2mathml_formulas.proofs.reader.slices.slice_at.Goals as goal
 pub before-requires : goal.before-requires
 before-requires c = (c.args.c ∷ [], c.requires.starts)
 
-pub before-requires-then-is_ascii_digit : goal.before-requires-then-is_ascii_digit
-before-requires-then-is_ascii_digit c = (c.skip_number-rest.ensures.0, c.skip_number-rest.ensures.1)
-
 pub returns-then-is_ascii_digit-clause-lexeme : goal.returns-then-is_ascii_digit-clause-lexeme
 returns-then-is_ascii_digit-clause-lexeme c = number_spelled _ _ _ _ c.if-alone.false c.skip_number-rest.ensures c.before-then-is_ascii_digit.ensures
 
