@@ -1,6 +1,6 @@
 -- The grammar: what a list of tokens is read as, or why it is refused. A table has a rule for each token that can begin
 -- a core; three small relations say how rules are read, and they are the same for every rule.
-use Rattle.std.specs.Prelude.{◌≡◌, ◌≢◌, ℕ, Bool, true, false, List, [], ◌∷◌, Option, Some, None, codes}
+use Rattle.std.specs.Prelude.{◌≡◌, ◌≢◌, ℕ, List, [], ◌∷◌, Option, Some, None, codes}
 use Rattle.std.specs.Str.{byte, encode_utf8_all}
 use Rattle.latex2mathml_trees.specs.Productions.{binomial_tree, environment_tree, fence_of, overbrace_tree, labelled_overbrace_tree, stretched_operator, underbrace_tree, labelled_underbrace_tree, group_tree, prime_mark}
 use Rattle.latex2mathml_tokens.specs.Refusal.{Refusal, UnexpectedToken, MissingParensethis, UnknownEnvironment}
@@ -154,11 +154,6 @@ rule End = error_rule End
 rule Underscore = error_rule Underscore
 rule Circumflex = error_rule Circumflex
 rule (Command name) = error_rule (Command name)
-
--- a rule without parts: it gives its tree at once
-abbrev pub is_plain : Rule → Bool
-is_plain (gives x) = true
-is_plain r = false
 
 -- the prime
 abbrev pub prime : Tok
