@@ -8,9 +8,9 @@ weights-push [] x = omega arith
 weights-push (y ∷ ys) x = omega (arith, weights-push ys x)
 
 -- a link of several members has a last one that is whole
-pub hung-push : (all xs : List Node) (x : Node) → all ≡ xs ++ x ∷ [] → 0 < length xs → counts 0 (trees all) ≡ counts 0 (trees xs) + weight (tree x) + 1
-hung-push all [] x e h = absurd (omega arith)
-hung-push all (y ∷ ys) x e h = rw e (omega (arith, weights-push ys x))
+pub hung_push : (all xs : List Node) (x : Node) → all ≡ xs ++ x ∷ [] → 0 < length xs → counts 0 (trees all) ≡ counts 0 (trees xs) + weight (tree x) + 1
+hung_push all [] x e h = absurd (omega arith)
+hung_push all (y ∷ ys) x e h = rw e (omega (arith, weights-push ys x))
 
 -- all members weigh more than the one at index i
 pub weights_at : (xs : List Node) (i : ℕ) (x : Node) → i < length xs → x ≡ get_or xs i x → weight (tree x) < weights (trees xs)

@@ -169,6 +169,7 @@ fn next(chain: Node) -> Option<(Parts, Node)>
 
 /// The parts of the last member that has some, and the chain of the members before it. The first member is the chain
 /// before them.
+#[tactic(auto, using(crate::proofs::Chains::hung_push, crate::specs::declared::ast::Node::the_lemmas))]
 fn last_of_all(mut members: Vec<Node>) -> Option<(Parts, Node)>
     ensures { IfSome result (λ p. held 1 p.0 + hung (tree p.1) < counts 0 (trees members.items)) }
 {
