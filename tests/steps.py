@@ -88,7 +88,7 @@ class Proofs(Command):
     """Everything from nothing: the proofs, the tests in Rattle, and a run of each program.
 
     `rt ci` checks a crate once for each wrong body that it finds. So it gets a copy of the crates that has none. Once it has proved
-    a crate, the steps beside it begin with the crate.
+    a crate, or has taken it from an earlier run on this machine that proved the same files, the steps beside it begin with the crate.
     """
 
     def __init__(self, copy, beside):
@@ -110,10 +110,10 @@ class Proofs(Command):
         self.copy.date(place)
 
     def read(self, line, screen):
-        told = re.fullmatch(r"rt: (\w+)(: its tests are)? (proved|NOT PROVED).*", line)
+        told = re.fullmatch(r"rt: (\w+)(: its tests are)? (proved|is kept|NOT PROVED).*", line)
         if told:
             screen.say(f"    {line.removeprefix('rt: ')}")
-        if told and told[3] == "proved" and not told[2]:
+        if told and told[3] != "NOT PROVED" and not told[2]:
             self.proved.add(told[1])
             for step in self.beside:
                 step.begin(told[1], screen)

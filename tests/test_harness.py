@@ -210,6 +210,11 @@ class Proving(unittest.TestCase):
         self.assertEqual(self.wrong_bodies.counts, Counts(passed=2), self.screen.getvalue())
         self.assertIn("    one: wrong bodies: 2 passed, 0 failed, 0:00\n", self.screen.getvalue())
 
+    def test_so_are_those_of_what_an_earlier_run_proved(self):
+        self.program("rt", RT.replace("rt: one proved", "rt: one is kept: an earlier run on this machine proved the same files"))
+        self.assertEqual(self.prove().proved, {"one"})
+        self.assertEqual(self.tried.read_text(), "one/a\n")
+
     def test_wrong_bodies_that_change_one_function_are_tried_side_by_side(self):
         """Neither trial ends before the other has begun."""
         folder = self.root / "crates/one"

@@ -121,10 +121,11 @@ def holes_in(folder):
 class Prover:
     """What `tools/try-wrong-body` uses of `rt`."""
 
+    REFUSED, AT_LIMIT, BAD, UNSURE, MISSED = "refused", "limit", "bad", "unsure", "missed"
     rtlib = types.SimpleNamespace(STALE=re.compile("Run the lower steps again"))
 
-    def __init__(self, output):
-        self.output, self.checks, self.alone, self.holes = output, [], [], []
+    def __init__(self, output, alone=MISSED):
+        self.output, self.kind_alone, self.checks, self.alone, self.holes = output, alone, [], [], []
 
     def edited(self, text, folder):
         return (None, "an 'old:' text is not there") if "old: none" in text else ({"src/lib.rt": "", "src/token.rt": ""}, None)
@@ -139,7 +140,7 @@ class Prover:
 
     def must_fail(self, crate, path, flags, kept):
         self.alone.append(path.rpartition("/")[2])
-        return False, "NOT REFUSED"
+        return self.kind_alone, "what it comes to"
 
 
 class Trials(unittest.TestCase):
@@ -198,8 +199,8 @@ list_spec = ?
             groups = rounds([self.body(name) for name in names], self.folder)
         self.assertEqual([[it.path.stem for it in group] for group in groups], [names[:2], names[2:4], names[4:]])
 
-    def try_these(self, names, output):
-        prover = Prover("\n".join(output))
+    def try_these(self, names, output, **more):
+        prover = Prover("\n".join(output), **more)
         trial = Trial(prover, types.SimpleNamespace(folder=self.folder), self.folder, self.folder)
         told = dict(zip(names, trial.try_all([self.body(name) for name in names])))
         return prover, {name: refused for name, (refused, _) in told.items()}
@@ -250,6 +251,12 @@ list_spec = ?
                 prover, refused = self.try_these(["a_clone", "c_display"], lines)
                 self.assertEqual(refused, {"a_clone": False, "c_display": False})
                 self.assertEqual(prover.alone, ["a_clone.edit", "c_display.edit"])
+
+    def test_what_one_alone_comes_to(self):
+        for kind, is_refused in (("refused", True), ("limit", True), ("bad", False), ("unsure", False), ("missed", False)):
+            with self.subTest(kind):
+                _, refused = self.try_these(["g_nothing"], [], alone=kind)
+                self.assertIs(refused["g_nothing"], is_refused)
 
     def test_one_that_changes_no_function_is_tried_alone(self):
         prover, _ = self.try_these(["g_nothing"], ["only=0 proved=0"])

@@ -229,7 +229,8 @@ class Trial:
                 if body in errors:
                     yield True, f"{body}: refused, as it must be: {errors[body][:160]}"
                 else:
-                    yield self.rt.must_fail(self.crate, os.fspath(body.path), JOBS, self.kept)
+                    kind, said = self.rt.must_fail(self.crate, os.fspath(body.path), JOBS, self.kept)
+                    yield kind in (self.rt.REFUSED, self.rt.AT_LIMIT), said
 
     def try_together(self, bodies):
         """Tries wrong bodies in one check of the functions that they change, and returns an error for each of them that has one
