@@ -181,11 +181,6 @@ module _ (text : List ℕ) (place : ℕ) (so : Passed text place) (inside : plac
       let w : IsWhole (take (place + 2) text) = subst IsWhole (sym (two ∙ append_assoc (take place text) (get_or text place 0 ∷ []) (get_or text (place + 1) 0 ∷ []))) (whole_append (take place text) (get_or text place 0 ∷ get_or text (place + 1) 0 ∷ []) (so.whole_inside inside) (pair is nothing)) in
       record { in_range = omega arith; plain = whole w; whole_inside = λ _. w }
 
-pub ends_here : (text : List ℕ) (place : ℕ) → Passed text place → (place < length text → get_or text place 0 ≡ dollar) → EndsBefore (take place text) (drop place text)
-ends_here text place so is =
-    ⊎_elim (λ inside. subst (EndsBefore (take place text)) (sym (drop_more text place 0 inside)) (is inside, so.whole_inside inside))
-    (λ past. subst (EndsBefore (take place text)) (sym (drop_all place text past)) tt) (order place (length text))
-
 -- text of which no byte is a dollar sign
 free_text : (text : List ℕ) → ((i : ℕ) → i < length text → get_or text i 0 ≢ dollar) → IsDollarFree text
 free_text [] none = refl

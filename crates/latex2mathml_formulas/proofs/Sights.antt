@@ -107,9 +107,6 @@ seen_character takes text c f = (
 pub seen : (takes alone : Bool) (text start : List ℕ) (c : ℕ) (after : List ℕ) → IsStart takes text start alone → start ≡ c ∷ after → IsSeen (Some c) (token_list (slices_of takes text))
 seen takes alone text start c after starts e = seen_character takes text c (found takes alone text c after (subst (λ s. IsStart takes text s alone) e starts))
 
-pub nothing_seen : (takes alone : Bool) (text start : List ℕ) → IsStart takes text start alone → start ≡ [] → IsSeen None (token_list (slices_of takes text))
-nothing_seen takes alone text start starts e = ap token_list (none_left takes alone text start starts e)
-
 -- no token of a text is the end of the formula
 no_end_known : (w : List ℕ) (t : Tok) → IsKnown w t → t ≢ EOF
 no_end_known w t (inl k) = λ e. no_end k.0 (sym k.2 ∙ e)

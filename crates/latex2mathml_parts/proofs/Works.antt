@@ -8,10 +8,6 @@ use Rattle.latex2mathml_parts.specs.{Forests.Forest, Forms.all_in, Parts.top, Sh
 use Rattle.latex2mathml_parts.specs.Works.{due, work_print}
 use Rattle.latex2mathml_parts.proofs.Styles.{weights_in}
 
--- a work is put on the list
-pub due-push : (f : Forest) (ks : List Work) (k : Work) → due f (ks ++ k ∷ []) ≡ work_print f k ++ due f ks
-due-push f ks k = ap (flat_map (work_print f)) (reverse-append ks (k ∷ []))
-
 -- Members.
 
 sum_reversed : (xs : List Tree) → sum_by print_weight (reverse xs) ≡ sum_by print_weight xs

@@ -1,5 +1,4 @@
 pub mod Candidates
-pub mod Errors
 pub mod Escapes
 pub mod Keys
 pub mod Lookups

@@ -206,12 +206,6 @@ pub none_left : (table entries : List Entry) (name : List ℕ) (n : ℕ) → Nar
 none_left table [] name n inv h = inv.same
 none_left table (r ∷ entries) name n inv h = absurd (omega arith)
 
--- the middle entry has its key
-pub middle_keyed : (table entries : List Entry) (name : List ℕ) (n : ℕ) (d : Entry) → Narrowed table entries name n → (length entries == 0) ≡ false → has_key (get_or entries (length entries / 2) d) ≡ true
-middle_keyed table entries name n d inv h =
-    let some : 0 < length entries = nonempty entries h in
-    All-get_or (λ e. has_key e ≡ true) entries (length entries / 2) d (omega arith) inv.keyed
-
 -- before the first comparison
 pub whole_table : (table : List Entry) (name : List ℕ) → ascending (map entry_of table) ≡ true → length table < 512 → AllPass has_key table → Narrowed table table name 0
 whole_table table name a few keyed = record { same = refl; ordered = InOrder-ascending _ a; halved = omega arith; some = λ h. omega arith; few = omega arith; keyed = keyed }
