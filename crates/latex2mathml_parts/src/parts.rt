@@ -52,10 +52,12 @@ impl<'a> Parts<'a> {
         works.list.reserve(ROOM)
     }
 
-    /// Drops all parts, and keeps their room.
+    /// Drops all parts and texts, and keeps the room of the lists.
     #[tactic(auto, using(crate::proofs::Forests::whole_empty))]
     pub fn clear(&mut self)
-        ensures { trees_in self.new ≡ [] }
+        ensures list { self.new.list ≡ [] }
+        ensures texts { self.new.texts ≡ [] }
+        ensures trees { trees_in self.new ≡ [] }
     {
         self.list.clear();
         self.texts.clear();
