@@ -5,6 +5,7 @@ import itertools
 import re
 import unittest
 
+from tests import quotes
 from tests.support import ROOT
 
 TABLE = ROOT / "docs/WRONG_BODIES.md"
@@ -15,6 +16,12 @@ PROMISING = (
 )
 
 MOST = 110
+
+# the definitions of PROMISES.md that only laws use
+USED_BY_LAWS = {
+    "MathSchema.IsOneElement", "Arguments.HasNoArgument", "DocumentLaws.HasOneOutcome", "DocumentLaws.IsOwnAnswer",
+    "DocumentLaws.JoinsAnswers", "DocumentLaws.HasElements",
+}
 
 # The name of a clause without a name.
 UNNAMED = "ensures"
@@ -178,6 +185,14 @@ class WrongBodies(unittest.TestCase):
                 file, _, name = names_in(row.cells[0])[0].partition(".")
                 texts = [it.read_text() for it in ROOT.glob(f"crates/*/specs/{file}.antt")]
                 self.assertTrue(any(re.search(rf"\b{re.escape(name)} (\(.*\) )?:", it) for it in texts), f"no {name} in a {file}.antt")
+
+    def test_each_promised_definition_has_one(self):
+        """Each definition that PROMISES.md links has a row. Those that only laws use are listed, since laws have no wrong body."""
+        linked = {f"{link.source.stem}.{link.word}" for link in quotes.definitions(ROOT / "docs/PROMISES.md")}
+        listed = {names_in(row.cells[0])[0] for row in rows("Definitions")}
+        self.assertTrue(linked)
+        self.assertEqual(sorted(linked - listed - USED_BY_LAWS), [], "these definitions have no row")
+        self.assertEqual(sorted(USED_BY_LAWS - linked), [], "PROMISES.md does not link these")
 
     def test_callers_are_there(self):
         for row in rows("Callers"):

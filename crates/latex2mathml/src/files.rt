@@ -59,8 +59,9 @@ pub fn convert_html<R: Files + Alloc + Clone + Drop>(
 /// Converts the documents under a path of a site, as [`convert_html`] does with those of the system.
 ///
 /// The site is asked once what stands at a path, then, of a directory among the 64 levels, what it holds, and, of a
-/// document, to convert it. Nothing else is asked, each entry of a directory is walked, and the list has a member for
-/// each answer that is a fault, and no other.
+/// document, to convert it. Nothing else is asked, and each entry of a directory is walked. The list has a member for
+/// each answer that is a fault, for each entry that a listing could not read, and for each directory below the levels,
+/// and no other.
 pub fn convert_site<S: Site>(
     site: &mut S,
     alloc: Global,

@@ -4,8 +4,8 @@
 //! - [`replace`] converts each formula of a document.
 //! - [`convert_html`] converts the documents under a path.
 //!
-//! Every call that may allocate takes the allocator as its first argument, or after the runtime or the site if it takes one, and
-//! returns a `Result`.
+//! Every call that may allocate takes the allocator: as its first argument, or after `self`, the runtime or the site. It returns
+//! a `Result`, and [`latex_to_mathml_counted`] returns one beside the counts.
 #![tactic(auto)]
 
 ghost use Rattle.std.specs.Prelude.{◌≡◌, None, IfOk, MatchResult, string_bytes};
