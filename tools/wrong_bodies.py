@@ -200,9 +200,9 @@ def rounds(bodies, folder):
 
 
 def errors_in(output):
-    """The first error in each proof that a check reports."""
+    """The first error in each proof that a check reports. Of a long error, the end stands in an indented line of its own."""
     found = {}
-    for line in output.split("\n"):
+    for line in re.sub(r"\n  (?=[^ ⊢])", " ", output).split("\n"):
         error = UNPROVED.match(line) or REFUSED.match(line)
         if error and not MISSING.search(error["error"]):
             found.setdefault(proof_of(error), error["error"])

@@ -1,5 +1,5 @@
 -- The first character of a text, after white space, shows whether the first token is a prime, a sign or an opening bracket.
-use Rattle.std.proofs.Common.{◌≡◌, ◌≢◌, ◌⊎◌, inl, inr, ℕ, Bool, true, false, not, ◌==◌, List, [], ◌∷◌, ◌++◌, codes, Option, Some, None, unwrap_or, refl, sym, ap, subst, ◌∙◌, cond, arith}
+use Rattle.std.proofs.Common.{◌≡◌, ◌≢◌, ◌⊎◌, inl, inr, ℕ, Bool, true, false, not, ◌==◌, List, [], ◌∷◌, ◌++◌, codes, Option, Some, unwrap_or, refl, sym, ap, subst, ◌∙◌, cond, arith}
 use Rattle.std.proofs.{lemmas.Bool.and_parts, lemmas.Bool.both_ways, lemmas.Bool.Decides.nat_tests}
 use Rattle.std.specs.{Char.encode_utf8, List.list_all, Str.byte, Str.bytes_eq, Str.encode_utf8_all}
 use Rattle.latex2mathml_tokens.specs.Commands.{command_entries, command_token, entry_token}
@@ -10,7 +10,7 @@ use Rattle.latex2mathml_formulas.specs.Spelling.{Slice, SpellsAt, character_toke
 use Rattle.latex2mathml_formulas.specs.Unread.{token_list}
 use Rattle.latex2mathml_tokens.specs.Tok.{Tok, EOF, Paren, Underscore, Circumflex, Big, Operator, Command}
 use Rattle.latex2mathml_formulas.proofs.{FirstSlices.slice_of, OneList.Begun, OneList.begun, OneList.cut_step}
-use Rattle.latex2mathml_formulas.proofs.Starts.{none_left, step_from}
+use Rattle.latex2mathml_formulas.proofs.Starts.{step_from}
 
 -- the token is no end of a formula, no prime, no sign and no opening bracket, and no size with a dollar sign
 abbrev pub is_plain : Tok → Bool

@@ -1,11 +1,10 @@
 -- The list of what is still to be written.
-use Rattle.std.proofs.Common.{◌≡◌, ℕ, ◌+◌, ◌*◌, ◌≤◌, List, [], ◌∷◌, ◌++◌, length, take, drop, suc, refl, ap, arith, append_assoc, append-nil, Option, reverse, sum_by}
+use Rattle.std.proofs.Common.{◌≡◌, ℕ, ◌+◌, ◌*◌, ◌≤◌, List, [], ◌∷◌, ◌++◌, length, take, drop, suc, refl, arith, append_assoc, append-nil, Option, reverse, sum_by}
 use Rattle.std.proofs.{lemmas.List.reverse-append, lemmas.Grind.flat_map-append, lemmas.List.Sums.sum_by-cons, lemmas.List.Sums.sum_by_push}
 use Rattle.std.specs.List.{flat_map}
 use Rattle.latex2mathml_trees.specs.{Tree.Tree, Tree.trees_of, Weight.weights}
 use Rattle.latex2mathml_tokens.specs.declared.attribute.Variant.{Variant}
-use Rattle.latex2mathml_parts.specs.{Forests.Forest, Forms.all_in, Parts.top, Shapes.print_weight, declared.work.Work.Work}
-use Rattle.latex2mathml_parts.specs.Works.{due, work_print}
+use Rattle.latex2mathml_parts.specs.{Forms.all_in, Parts.top, Shapes.print_weight}
 use Rattle.latex2mathml_parts.proofs.Styles.{weights_in}
 
 -- Members.

@@ -8,7 +8,7 @@ use Rattle.std.proofs.{lemmas.Cmp.nat_list_cmp_total, lemmas.Slice.Eq.bytes_eq-D
 use Rattle.latex2mathml_tokens.specs.{Commands.entry_token, Ordered.ascending, Ordered.before_first, Tok.Tok}
 use Rattle.latex2mathml_tokens.specs.{declared.token.meaning.Entry.Entry, Entries.entry_of, Keys.has_key}
 use Rattle.std.proofs.lemmas.List.{map-append, length-take, length-drop}
-use Rattle.std.proofs.lemmas.List.Elements.{All-drop, All-get_or, All-take}
+use Rattle.std.proofs.lemmas.List.Elements.{All-drop, All-take}
 use Rattle.std.proofs.{Math.Nat.pow-suc, Math.Nat.mul-le-mul_right, Math.Pow.pow_mono}
 
 abbrev Entries : Type 0
