@@ -41,7 +41,7 @@ esac
 class Building(Case):
     def setUp(self):
         self.folder = self.enterContext(scratch())
-        self.house = self.folder / "house"
+        self.house = self.folder / "a house"  # a path may have spaces
         (self.house / "tools").mkdir(parents=True)
         for name in ("built", "build", "progress.py"):
             shutil.copy(ROOT / "tools" / name, self.house / "tools")
