@@ -251,6 +251,11 @@ class Calls(Package):
         self.assertEqual(done.returncode, 0, done.stderr.decode())
         self.assertEqual(self.node("console.log(require(process.argv[1]).formula('x'))", built), answer_of("x") + "\n")
 
+    def test_files_that_the_package_names(self):
+        said = json.loads((self.package / "package.json").read_text())
+        files = [said["main"], said["types"], *(file for entry in said["exports"].values() for file in entry.values())]
+        self.assertEqual([file for file in files if not (self.package / file).is_file()], [])
+
     @requires("npm")
     def test_npm(self):
         project = self.folder / "project"
