@@ -44,7 +44,7 @@ console.log(JSON.stringify(cases.map(([source, options, env]) => {
 })));
 """
 
-# Calls that the package takes, and others that are a TypeError. `render` is one of the plugin with these options.
+# Calls that the package takes, and others that are a TypeError. `render` renders formulas by the plugin with these options.
 TAKEN = r"""
 formula('x').charAt(0)
 formula('x', true).charAt(0)
@@ -82,7 +82,7 @@ render({ warn: null })
 render({ warn: 'a warning' })
 """
 
-# What stands before them in JavaScript, which reads them, and prints the package's names and what each of them came to,
+# Reads these calls, makes them, and prints the names that the package exports and what each call came to.
 EVALUATOR = r"""
 const { formula, document, Refused } = require('latex2mathml-proved');
 const latex2mathml = require('latex2mathml-proved/markdown-it');
@@ -99,7 +99,7 @@ const results = JSON.parse(require('fs').readFileSync(0)).map(call => {
 });
 console.log(JSON.stringify([Object.keys(require('latex2mathml-proved')), results]));
 """
-# and in TypeScript, with the names that the package and the plugin's options have.
+# Stands before these calls in TypeScript, with the names that the package exports and those of the plugin's options.
 DECLARED = """import * as declared from 'latex2mathml-proved';
 import latex2mathml = require('latex2mathml-proved/markdown-it');
 const { formula, document, Refused } = declared;
