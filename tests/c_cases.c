@@ -1,6 +1,7 @@
 /* Cases of the library for C, by the word that names them: answers, memory, deep, random, threads, or rules, which reads
  * formulas from standard input, a line each. Each case has a line, 'passed: NAME' or 'FAILED: NAME', and behind the last
- * stands 'all were judged'. To be linked with --wrap for malloc, realloc and free, so that requests can be refused. */
+ * stands 'all were judged'. Any other word is refused with the status 2. To be linked with --wrap for malloc, realloc and
+ * free, so that requests can be refused. */
 #include "latex2mathml.h"
 
 #include <pthread.h>
@@ -9,7 +10,7 @@
 #include <string.h>
 #include <sys/mman.h>
 
-enum { LEVELS = 1000000, STACK = 128 << 10, RANDOM_INPUTS = 10000, THREADS = 4, CALLS = 50000 };
+enum { LEVELS = 1000000, MANY = 100000, STACK = 128 << 10, RANDOM_INPUTS = 10000, THREADS = 4, CALLS = 50000 };
 
 static bool has_failed;
 
@@ -248,7 +249,7 @@ static const struct nest nests[] = {
     {"fractions", "\\frac1{", "x", "}", LATEX2MATHML_DONE, "<mfrac><mn>1</mn>", "<mi>x</mi>", "</mfrac>"},
 };
 
-/* The middle between so many of both ends, which the caller frees. */
+/* The middle between so many of both ends, with a zero byte behind it, which the caller frees. */
 static char *repeat(size_t times, const char *before, const char *middle, const char *after, size_t *length) {
     size_t b = strlen(before), m = strlen(middle), a = strlen(after);
     char *text = malloc(times * (b + a) + m + 1);
@@ -261,14 +262,15 @@ static char *repeat(size_t times, const char *before, const char *middle, const 
     *length += m;
     for (size_t i = 0; i < times; i++, *length += a)
         memcpy(text + *length, after, a);
+    text[*length] = 0;
     return text;
 }
 
 /* What the nested formula comes to, which the caller frees. */
-static char *due_of(const struct nest *nest, size_t *length) {
+static char *due_of(const struct nest *nest, size_t levels, size_t *length) {
     if (nest->code != LATEX2MATHML_DONE)
         return repeat(1, "", OPEN_BRACE, "", length);
-    char *contents = repeat(LEVELS, nest->printed_before, nest->printed_middle, nest->printed_after, length);
+    char *contents = repeat(levels, nest->printed_before, nest->printed_middle, nest->printed_after, length);
     char *due = malloc(*length + sizeof MATH("inline", ""));
     size_t start = sizeof MATH("inline", "") - sizeof "</math>";
     if (!due)
@@ -281,35 +283,59 @@ static char *due_of(const struct nest *nest, size_t *length) {
     return due;
 }
 
-/* Not null where two calls, one with no room and one with what that asked for, give what is due. */
-static void *is_nested(void *given) {
+/* Not null where two calls, one with no room and one with what that asked for, give the answer. */
+static void *is_answered(void *given) {
     static char met;
-    const struct nest *nest = given;
-    size_t length, due_length, asked, needed;
-    char *formula = repeat(LEVELS, nest->before, nest->middle, nest->after, &length);
-    char *due = due_of(nest, &due_length), *room = malloc(due_length);
+    const struct known_call *known = given;
+    size_t asked, needed;
+    char *room = malloc(known->needed);
     if (!room)
         abort();
-    bool right = latex2mathml_formula(formula, length, false, room, 0, &asked) == LATEX2MATHML_TOO_SMALL &&
-                 asked == due_length &&
-                 latex2mathml_formula(formula, length, false, room, asked, &needed) == nest->code &&
-                 needed == asked && !memcmp(room, due, needed);
-    free(formula);
-    free(due);
+    bool right = call(known->conversion, known->input, known->length, room, 0, &asked) == LATEX2MATHML_TOO_SMALL &&
+                 asked == known->needed &&
+                 call(known->conversion, known->input, known->length, room, asked, &needed) == known->code &&
+                 needed == asked && !memcmp(room, known->text, needed);
     free(room);
     return right ? &met : NULL;
 }
 
+static void judge_on_small_stack(struct known_call known, const char *name) {
+    pthread_attr_t attributes;
+    pthread_t thread;
+    void *met;
+    if (pthread_attr_init(&attributes) || pthread_attr_setstacksize(&attributes, STACK) ||
+        pthread_create(&thread, &attributes, is_answered, &known) || pthread_join(thread, &met))
+        abort();
+    judge(met != NULL, name);
+}
+
+/* The nested formula between two fences, which are dollar signs in a document. */
+static void judge_nest(const struct nest *nest, enum conversion conversion, const char *fence, size_t levels, const char *where) {
+    struct known_call known = {conversion, NULL, 0, nest->code, NULL, 0};
+    char name[64], *formula = repeat(levels, nest->before, nest->middle, nest->after, &known.length);
+    char *text = repeat(1, fence, formula, fence, &known.length), *due = due_of(nest, levels, &known.needed);
+    known.input = text;
+    known.text = due;
+    snprintf(name, sizeof name, "%s in a %s", nest->name, where);
+    judge_on_small_stack(known, name);
+    free(formula);
+    free(text);
+    free(due);
+}
+
 static void deep(void) {
     for (size_t i = 0; i < sizeof nests / sizeof *nests; i++) {
-        pthread_attr_t attributes;
-        pthread_t thread;
-        void *met;
-        if (pthread_attr_init(&attributes) || pthread_attr_setstacksize(&attributes, STACK) ||
-            pthread_create(&thread, &attributes, is_nested, (void *)&nests[i]) || pthread_join(thread, &met))
-            abort();
-        judge(met != NULL, nests[i].name);
+        judge_nest(&nests[i], INLINE, "", LEVELS, "formula");
+        judge_nest(&nests[i], DOCUMENT, "$", MANY, "document");
     }
+    struct known_call known = {DOCUMENT, NULL, 0, LATEX2MATHML_DONE, NULL, 0};
+    char *text = repeat(MANY, "$x$ ", "", "", &known.length);
+    char *due = repeat(MANY, MATH("inline", "<mi>x</mi>") " ", "", "", &known.needed);
+    known.input = text;
+    known.text = due;
+    judge_on_small_stack(known, "many formulas in a document");
+    free(text);
+    free(due);
 }
 
 /* Random inputs. The same numbers come in each run. */
@@ -419,10 +445,16 @@ int main(int count, char **words) {
         void (*run)(void);
     } all[] = {{"answers", answers}, {"memory", memory}, {"deep", deep}, {"random", random_inputs}, {"threads", threads}, {"rules", rules}};
     refuse(0, -1);
-    for (int i = 1; i < count; i++)
-        for (size_t k = 0; k < sizeof all / sizeof *all; k++)
-            if (!strcmp(words[i], all[k].name))
-                all[k].run();
+    for (int i = 1; i < count; i++) {
+        size_t k = 0;
+        while (k < sizeof all / sizeof *all && strcmp(words[i], all[k].name))
+            k++;
+        if (k == sizeof all / sizeof *all) {
+            fprintf(stderr, "no cases have the name %s\n", words[i]);
+            return 2;
+        }
+        all[k].run();
+    }
     printf("all were judged\n");
     return has_failed;
 }

@@ -41,7 +41,7 @@ esac
 class Building(Case):
     def setUp(self):
         self.folder = self.enterContext(scratch())
-        self.house = self.folder / "house"
+        self.house = self.folder / "a house"  # a path may have spaces
         (self.house / "tools").mkdir(parents=True)
         for name in ("built", "build", "progress.py"):
             shutil.copy(ROOT / "tools" / name, self.house / "tools")
@@ -78,8 +78,8 @@ class Building(Case):
             with self.subTest(crate):
                 self.calls.write_text("")
                 path = self.house / "crates" / crate / "out" / made
-                for _ in range(2):
-                    self.expect(self.build(crate), stdout=f"{path}\n".encode(), stderr=None)
+                for said in (None, b""):
+                    self.expect(self.build(crate), stdout=f"{path}\n".encode(), stderr=said)
                 self.assertEqual(self.calls.read_text(), f"{path.parent.parent} {words}\n")
 
     def test_it_is_built_again_where_a_source_changed(self):

@@ -54,6 +54,15 @@ class Folder(Case):
                          c_library() / "liblatex2mathml.a", "-o", program]))
         self.expect(run([program]), stdout=f"{BLOCK}\na {INLINE}\n".encode())
 
+    def test_a_caller_of_the_shared_library(self):
+        """It is linked by the library's name, and finds the library again as it starts."""
+        caller = self.enterContext(scratch()) / "caller"
+        self.expect(run([*CC, "-I", c_library(), c_library() / "examples/formula.c", "-L", c_library(), "-llatex2mathml",
+                         f"-Wl,-rpath,{c_library()}", "-o", caller]))
+        self.expect(run([caller, "x<y"]), stdout=f"{INLINE}\n".encode())
+        # the linker would also have taken the static one
+        self.assertIn(f"{c_library()}/liblatex2mathml.so", run(["ldd", caller]).stdout.decode())
+
 
 class Built(Case):
     """Cases in C, `c_cases.c`, which are built once with these options of the compiler."""
@@ -71,18 +80,20 @@ class Built(Case):
 
     def judge(self, word, stdin=b""):
         done = run([self.program, word], stdin=stdin, timeout=300)
-        lines, notes = done.stdout.decode(errors="replace").splitlines(), []
+        lines, notes, verdicts = done.stdout.decode(errors="replace").splitlines(), [], set()
         for line in lines:
             verdict, _, name = line.partition(": ")
             if verdict not in ("passed", "FAILED"):
                 notes.append(line)
                 continue
+            verdicts.add(verdict)
             with self.subTest(name):
                 if verdict == "FAILED":
                     self.fail("\n".join([f"ran: {self.program} {word}", *notes]))
             notes = []
-        if lines[-1:] != ["all were judged"] or done.stderr:
+        if lines[-1:] != ["all were judged"] or done.stderr or done.returncode != ("FAILED" in verdicts):
             self.fail(f"{word} did not end: status {done.returncode}\n{done.stderr.decode(errors='replace')}")
+        self.assertNotEqual(verdicts, set(), f"{word} judged nothing")
 
 
 @requires(CC[0])
@@ -101,13 +112,16 @@ class Calls(Built):
     def test_threads(self):
         self.judge("threads")
 
+    def test_a_word_that_names_no_cases(self):
+        self.expect(run([self.program, "answer"]), 2, b"", b"no cases have the name answer\n")
+
 
 @requires(CC[0])
 class Deep(Built):
     options = ["-O2"]
 
     def test_deep(self):
-        """On a stack of 128 KiB."""
+        """On a stack of 128 KiB: formulas, and documents with one or with many."""
         self.judge("deep")
 
 
@@ -131,8 +145,8 @@ class Sanitized(Built):
 class Examples(Case):
     @classmethod
     def setUpClass(cls):
-        # a copy, because they are built beside their sources and find the library in the folder above
-        cls.folder = cls.enterClassContext(scratch()) / "c"
+        # a copy, because they are built beside their sources and find the library in the folder above; a path may have spaces
+        cls.folder = cls.enterClassContext(scratch()) / "the library"
         shutil.copytree(c_library(), cls.folder)
         cls.built = run([cls.folder / "examples/build"])
 
@@ -162,6 +176,17 @@ class Examples(Case):
                                    ("latex2mathml.formula('x<y', True)", BLOCK), ("latex2mathml.formula(b'x<y', block=False)", INLINE)]:
             with self.subTest(expression):
                 self.expect(self.python(expression), stdout=f"{answer}\n".encode())
+
+    @requires("python3")
+    def test_python_with_a_library_elsewhere(self):
+        """LATEX2MATHML names it. There is none in the folder above the copy."""
+        alone = self.enterContext(scratch()) / "alone"
+        alone.mkdir()
+        shutil.copy(self.folder / "examples/latex2mathml.py", alone)
+        for library, status, answer in [(self.folder / "liblatex2mathml.so", 0, f"{INLINE}\n".encode()), (None, 1, b"")]:
+            with self.subTest(library=library):
+                environment = {**os.environ, **({"LATEX2MATHML": str(library)} if library else {})}
+                self.expect(run(["python3", alone / "latex2mathml.py", "x<y"], env=environment), status, answer, None)
 
     def node(self, expression, *words):
         addon = self.folder / "examples/latex2mathml.node"

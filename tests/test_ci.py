@@ -22,7 +22,7 @@ STUBS = {
 class Run(Case):
     def setUp(self):
         self.folder = self.enterContext(scratch())
-        self.house = self.folder / "house"
+        self.house = self.folder / "a house"  # a path may have spaces
         shutil.copytree(ROOT / ".ci", self.house / ".ci")
         (self.house / ".ci/packages").write_text(PACKAGES)
         self.program(self.house / "test", 'echo "skips nothing: $LATEX2MATHML_SKIP_NOTHING"; exit ${STATUS:-0}')

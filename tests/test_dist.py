@@ -8,6 +8,23 @@ from tests.support import Case, ROOT, program, requires, run, scratch
 
 CRATE = "crates/latex2mathml_c"
 
+# Stands for make-c-library: it makes the folder, which must not exist.
+LIBRARY_MAKER = """#!/bin/sh
+mkdir "$1" && echo made >"$1/liblatex2mathml.so"
+"""
+
+# Stands for make-wheel.
+WHEEL_MAKER = """#!/bin/sh
+mkdir -p "$2" && echo made >"$2/made.whl"
+"""
+
+# Stands for a Python that has pip: its wheel holds the names of the files that it was to be made from.
+PYTHON = """#!/bin/sh
+[ "$1" = -c ] && exit
+while [ "$1" != --wheel-dir ]; do shift; done
+mkdir "$2" && cd "$3" && find * -type f >"$2/made.whl"
+"""
+
 
 def math(display):
     return f'<math xmlns="http://www.w3.org/1998/Math/MathML" display="{display}"><mi>x</mi><mo>&lt;</mo><mi>y</mi></math>'
@@ -20,8 +37,20 @@ INLINE, BLOCK = math("inline"), math("block")
 class Dist(Case):
     @classmethod
     def setUpClass(cls):
-        cls.dist = cls.enterClassContext(scratch()) / "dist"
+        cls.dist = cls.enterClassContext(scratch()) / "the dist"  # a path may have spaces
         cls.made = run([ROOT / "tools/make-dist", cls.dist], timeout=300)
+
+    def house(self):
+        """What make-dist needs of a checkout, in a folder whose path has a space, with a copy of the tools."""
+        house = self.enterContext(scratch()) / "a house"
+        house.mkdir()
+        for name in ("crates", "latex2mathml", "CHANGELOG.md", "LICENSE", "page"):
+            (house / name).symlink_to(ROOT / name)
+        # as old as it is, since a program that is older is built anew
+        shutil.copy2(ROOT / "crates.txt", house)
+        for name in ("tools", "integrations"):
+            shutil.copytree(ROOT / name, house / name)
+        return house
 
     def run_there(self, *words, **more):
         """Runs a program of the folder, without an environment."""
@@ -33,16 +62,39 @@ class Dist(Case):
     def test_a_folder_that_exists_is_left_alone(self):
         self.expect(run([ROOT / "tools/make-dist", self.dist]), 1, b"", None)
 
+    def test_without_an_argument(self):
+        """It makes the folder `dist` of its own house, and the next time another in its place."""
+        house = self.house()
+        (house / "tools/make-c-library").write_text(LIBRARY_MAKER)
+        (house / "tools/make-wheel").write_text(WHEEL_MAKER)
+        for turn in ("first", "second"):
+            with self.subTest(turn):
+                self.expect(run([house / "tools/make-dist"]), stdout=None)
+                for file in ("README.md", "c/liblatex2mathml.so", "integrations/python/made.whl"):
+                    self.assertTrue((house / "dist" / file).exists(), file)
+                self.assertFalse((house / "dist/old").exists())
+                (house / "dist/old").touch()
+
+    def test_make_wheel_in_a_path_with_a_space(self):
+        """It takes what the package needs from its own house and from the library, and leaves the wheel in the folder."""
+        house = self.house()
+        python, library = house / "a python", house / "a library"
+        python.write_text(PYTHON)
+        python.chmod(0o755)
+        library.mkdir()
+        (library / "liblatex2mathml.so").touch()
+        wheel = house / "a wheel/made.whl"
+        environment = {**os.environ, "PYTHON": str(python), "TMPDIR": str(house)}
+        done = run([house / "tools/make-wheel", library, wheel.parent], env=environment)
+        self.expect(done, stdout=f"{wheel}\n".encode())
+        package = "src/latex2mathml_proved"
+        needed = {"LICENSE", "setup.py", f"{package}/__init__.py", f"{package}/liblatex2mathml.so", f"{package}/names.json",
+                  f"{package}/page/latex2mathml.css", f"{package}/page/latex2mathml.js"}
+        self.assertEqual(needed - set(wheel.read_text().splitlines()), set())
+
     def test_what_was_built_before_is_left_out(self):
         """What people build in the folders of the integrations stays there."""
-        house = self.enterContext(scratch()) / "house"
-        house.mkdir()
-        for name in ("crates", "latex2mathml", "CHANGELOG.md", "LICENSE", "page"):
-            (house / name).symlink_to(ROOT / name)
-        # as old as it is, since a program that is older is built anew
-        shutil.copy2(ROOT / "crates.txt", house)
-        for name in ("tools", "integrations"):
-            shutil.copytree(ROOT / name, house / name)
+        house = self.house()
         built = ["node/build/a.node", "node/lib/old.a", "rust/target/debug/a", "rust/Cargo.lock", "rust/lib/old.a"]
         for file in built:
             (house / "integrations" / file).parent.mkdir(parents=True, exist_ok=True)

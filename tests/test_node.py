@@ -3,6 +3,7 @@ import html
 import json
 import os
 import pathlib
+import re
 import shutil
 import unittest
 
@@ -12,6 +13,7 @@ from tests.support import ROOT, Case, c_library, requires, run, scratch
 LONG = True
 
 PACKAGES = pathlib.Path("/usr/share/nodejs")  # Debian's
+HEADERS = pathlib.Path("/usr/include/node" if pathlib.Path("/usr/include/node").exists() else "/usr/local/include/node")
 
 # Reads [function of the module, arguments] and prints the result, or the error's class, name, code and message.
 CALLER = """
@@ -42,6 +44,71 @@ console.log(JSON.stringify(cases.map(([source, options, env]) => {
 })));
 """
 
+# Calls that the package takes, and others that are a TypeError. `render` renders formulas by the plugin with these options.
+TAKEN = r"""
+formula('x').charAt(0)
+formula('x', true).charAt(0)
+document('$x$').charAt(0)
+new Refused('a reason').message.charAt(0)
+new Refused('a reason').stack
+latex2mathml(md)
+latex2mathml(md, {})
+render()
+render({ names: true, strict: false, page: 'page', warn: message => message.charAt(0) })
+render({ names: { '\\R': '\\mathbb{R}', '\\foo': 'x' }, strict: true, page: false })
+render({ names: false })
+"""
+REFUSED = r"""
+formula()
+formula(3)
+formula(null)
+formula(['x'])
+formula('x', 1)
+formula('x', 'block')
+formula('x').toFixed()
+document()
+document({})
+document('x').toFixed()
+new Refused('a reason').message.toFixed()
+latex2mathml()
+latex2mathml(3)
+latex2mathml(md).toString()
+render({ names: null })
+render({ names: { '\\R': 1 } })
+render({ page: null })
+render({ page: true })
+render({ page: 3 })
+render({ warn: null })
+render({ warn: 'a warning' })
+"""
+
+# Reads these calls, makes them, and prints the names that the package exports and what each call came to.
+EVALUATOR = r"""
+const { formula, document, Refused } = require('latex2mathml-proved');
+const latex2mathml = require('latex2mathml-proved/markdown-it');
+const markdownIt = require('markdown-it');
+const md = markdownIt();
+const render = options => markdownIt().use(latex2mathml, { warn: () => {}, ...options }).render('$\\R$ $\\foo$');
+const results = JSON.parse(require('fs').readFileSync(0)).map(call => {
+    try {
+        eval(call);
+        return 'taken';
+    } catch (error) {
+        return error.constructor.name;
+    }
+});
+console.log(JSON.stringify([Object.keys(require('latex2mathml-proved')), results]));
+"""
+# Stands before these calls in TypeScript, with the names that the package exports and those of the plugin's options.
+DECLARED = """import * as declared from 'latex2mathml-proved';
+import latex2mathml = require('latex2mathml-proved/markdown-it');
+const { formula, document, Refused } = declared;
+declare const md: object;
+declare function render(options?: Parameters<typeof latex2mathml>[1]): string;
+const names: Record<keyof typeof declared, 0> = NAMES;
+const options: Record<keyof NonNullable<Parameters<typeof latex2mathml>[1]>, 0> = OPTIONS;
+"""
+
 
 def node_gyp():
     """The script of node-gyp, if there is one. npm has it even if it is not a command."""
@@ -55,7 +122,7 @@ class Package(Case):
     @classmethod
     def setUpClass(cls):
         cls.folder = cls.enterClassContext(scratch())
-        cls.package = cls.copy("integrations")
+        cls.package = cls.copy("the integrations")  # a path may have spaces
         run([cls.package / "make-addon"], check=True)
 
     @classmethod
@@ -67,11 +134,11 @@ class Package(Case):
         shutil.copytree(c_library(), above / "node/lib")
         return above / "node"
 
-    def node(self, script, *words, cases=None, timeout=60):
+    def node(self, script, *words, cases=None, timeout=60, **more):
         """What a script prints, read as JSON if its cases are JSON."""
         environment = {**os.environ, "NODE_PATH": str(PACKAGES)}
         stdin = b"" if cases is None else json.dumps(cases).encode()
-        done = run(["node", "-e", script, "--", *words], stdin=stdin, env=environment, timeout=timeout)
+        done = run(["node", "-e", script, "--", *words], stdin=stdin, env=environment, timeout=timeout, **more)
         self.expect(done)
         return done.stdout.decode() if cases is None else json.loads(done.stdout)
 
@@ -161,15 +228,33 @@ class Calls(Package):
         done = run([bare / "make-addon"])
         self.expect(done, status=1, stderr=None)
         self.assertIn(f"there is no {bare}/lib/liblatex2mathml.a", done.stderr.decode())
-        self.expect(run([bare / "make-addon"], env={**os.environ, "LATEX2MATHML_LIB": str(c_library())}))
+        self.expect(run([bare / "make-addon"], env={**os.environ, "LATEX2MATHML_LIB": str(self.package / "lib")}))
+
+    def test_headers_elsewhere(self):
+        """NODE_HEADERS names their folder, and they are looked for nowhere else."""
+        built, headers = self.copy("beside-headers"), self.folder / "headers"
+        headers.mkdir()
+        environment = {**os.environ, "NODE_HEADERS": str(headers)}
+        with self.subTest("they are not there"):
+            missing = f"make-addon: there is no {headers}/node_api.h; NODE_HEADERS names its folder\n"
+            self.expect(run([built / "make-addon"], env=environment), 1, b"", missing.encode())
+        with self.subTest("they are there"):
+            (headers / "node_api.h").write_text(f'#pragma message "from elsewhere"\n#include "{HEADERS}/node_api.h"\n')
+            done = run([built / "make-addon"], env=environment)
+            self.expect(done, stderr=None)
+            self.assertIn(b"from elsewhere", done.stderr)
 
     @unittest.skipUnless(node_gyp(), "node-gyp not found")
     def test_node_gyp(self):
         built = self.copy("gyp")
-        headers = "/usr" if pathlib.Path("/usr/include/node").exists() else "/usr/local"
-        done = run(["node", node_gyp(), "rebuild", f"--nodedir={headers}"], cwd=built, timeout=300)
+        done = run(["node", node_gyp(), "rebuild", f"--nodedir={HEADERS.parents[1]}"], cwd=built, timeout=300)
         self.assertEqual(done.returncode, 0, done.stderr.decode())
         self.assertEqual(self.node("console.log(require(process.argv[1]).formula('x'))", built), answer_of("x") + "\n")
+
+    def test_files_that_the_package_names(self):
+        said = json.loads((self.package / "package.json").read_text())
+        files = [said["main"], said["types"], *(file for entry in said["exports"].values() for file in entry.values())]
+        self.assertEqual([file for file in files if not (self.package / file).is_file()], [])
 
     @requires("npm")
     def test_npm(self):
@@ -181,11 +266,21 @@ class Calls(Package):
         self.assertEqual(done.returncode, 0, done.stderr.decode())
         done = run(["node", "-p", "require('latex2mathml-proved').formula('x')"], cwd=project)
         self.expect(done, stdout=answer_of("x").encode() + b"\n")
+        done = run(["node", "-p", "typeof require('latex2mathml-proved/markdown-it')"], cwd=project)
+        self.expect(done, stdout=b"function\n")
 
 
 @requires("node", "cc")
 @unittest.skipUnless((PACKAGES / "markdown-it").exists(), "markdown-it not found")
 class MarkdownIt(Package):
+    @classmethod
+    def setUpClass(cls):
+        super().setUpClass()
+        # a project that finds the package by its name, in the folder in which npm puts it
+        cls.project = cls.folder / "project"
+        (cls.project / "node_modules").mkdir(parents=True)
+        (cls.project / "node_modules/latex2mathml-proved").symlink_to(cls.package)
+
     def render(self, *cases, timeout=60):
         return self.node(RENDERER, self.package, cases=cases, timeout=timeout)
 
@@ -302,11 +397,50 @@ class MarkdownIt(Package):
                 self.assertTrue(page.startswith(start), page)
                 self.assertEqual(page.count("<link"), start.count("<link"))
 
+    def test_a_line_alone(self):
+        """What is rendered without paragraphs stands within a page, which has the links."""
+        script = """
+            const md = require('markdown-it')().use(require(process.argv[1] + '/markdown-it.js'));
+            console.log(md.renderInline('a $x<y$'));
+        """
+        self.assertEqual(self.node(script, self.package), f"a {answer_of('x<y')}\n")
+
     def test_texts_that_are_slow_to_read(self):
         for source in ("$a$ $$ $ [ ", "$a$\n", "$$\n", "$$\na\n", "$ ", "\\$", "`$", "- $$\n", "> $$ "):
             with self.subTest(source):
                 self.render((source * 20_000, {"names": False, "warn": None}, {}), timeout=30)
         self.render(("$$\n" + "a\n" * 50_000, {}, {}), ("$" + "a " * 50_000, {}, {}), timeout=30)
+
+    def test_the_readme(self):
+        """Its lines of JavaScript. What the last one of each returns is printed."""
+        calls, plugin = re.findall(r"^```js\n(.*?)^```$", (self.package / "README.md").read_text(), re.DOTALL | re.MULTILINE)
+        for script, latex, line in ((calls, "x<y", "Let %s be.\n"), (plugin, "x \\leq y", "<p>Let %s be.</p>\n\n")):
+            with self.subTest(script):
+                printed = self.node("console.log(eval(process.argv[1]))", script, cwd=self.project)
+                self.assertTrue(printed.endswith(line % answer_of(latex)), printed)
+
+    @requires("tsc")
+    def test_declarations(self):
+        """TypeScript refuses the calls that are a TypeError, and no others. The declarations have the same names."""
+        taken, refused = (calls.strip().splitlines() for calls in (TAKEN, REFUSED))
+        names, results = self.node(EVALUATOR, cases=taken + refused, cwd=self.project)
+        options = re.findall(r"^\| `(\w+)` \|", (self.package / "README.md").read_text(), re.MULTILINE)
+        head = DECLARED
+        for word, found in (("NAMES", names), ("OPTIONS", options)):
+            head = head.replace(word, json.dumps(dict.fromkeys(found, 0)))
+        (self.project / "calls.ts").write_text("\n".join([head, *taken, *refused, ""]))
+        flags = ["--noEmit", "--strict", "--lib", "es5", "--module", "node16", "--moduleResolution", "node16"]
+        done = run(["tsc", *flags, "calls.ts"], cwd=self.project)
+        first = head.count("\n") + 2
+        faults = {}
+        for file, line, fault in re.findall(r"^(\S.*)\((\d+),\d+\): (error .*)$", done.stdout.decode(), re.MULTILINE):
+            is_of_call = file == "calls.ts" and int(line) >= first
+            faults.setdefault(int(line) - first if is_of_call else "elsewhere", []).append(f"{file}:{line}: {fault}")
+        for i, (call, result) in enumerate(zip(taken + refused, results, strict=True)):
+            with self.subTest(call):
+                self.assertEqual(result, "taken" if call in taken else "TypeError")
+                self.assertEqual(i in faults, call in refused, faults.get(i))
+        self.assertNotIn("elsewhere", faults)
 
     def test_the_example(self):
         environment = {**os.environ, "NODE_PATH": str(PACKAGES)}

@@ -1,8 +1,12 @@
 """The filter for pandoc, in pandoc."""
 import html
 import json
+import os
+import posixpath
 import re
+import shutil
 import unittest
+import zipfile
 
 from tests.integration import UNCLOSED, answer_of
 from tests.support import ROOT, Case, program, requires, run, scratch
@@ -167,6 +171,40 @@ class Filter(Case):
                 self.assertTrue((self.folder / "out").stat().st_size > 0)
                 if form != "epub":
                     self.assertIn(answer_of("x<y"), (self.folder / "out").read_text())
+
+    def test_a_copy_of_the_filter(self):
+        """As the README says: names.json stands beside it, the program is on the path, and no option is given."""
+        copies, commands = self.folder / "my filters", self.folder / "bin"
+        for folder in (copies, commands):
+            folder.mkdir()
+        shutil.copy(FILTER, copies)
+        (commands / "latex2mathml").symlink_to(program())
+
+        def convert():
+            environment = {**os.environ, "PATH": f"{commands}:{os.environ['PATH']}"}
+            return run(["pandoc", "--lua-filter", copies / FILTER.name], stdin=b"$x \\le y$", cwd=self.folder, env=environment)
+
+        with self.subTest("without names.json"):
+            done = convert()
+            self.assertNotEqual(done.returncode, 0)
+            self.assertIn("names.json does not stand beside", done.stderr.decode())
+        with self.subTest("with names.json"):
+            shutil.copy(ROOT / "integrations/names.json", copies)
+            answer = answer_of("x \\leq y")
+            self.expect(convert(), stdout=f"<p>{answer}</p>\n".encode())
+
+    def test_an_epub(self):
+        """Its pages have the markup, and name only files that it has: of those of `page`, the style sheet that it was given."""
+        sheet = ROOT / "page/latex2mathml.css"
+        self.expect(self.pandoc("$x<y$", "-M", "title=T", "-t", "epub", "--css", sheet, "-o", "a.epub"))
+        with zipfile.ZipFile(self.folder / "a.epub") as book:
+            pages = {name: book.read(name).decode() for name in book.namelist() if name.endswith(".xhtml")}
+            links = [(name, link) for name, page in pages.items()
+                     for link in re.findall(r'<(?:link|script|img)\b[^>]* (?:href|src)="([^"]*)"', page)]
+            named = {posixpath.normpath(posixpath.join(posixpath.dirname(name), link)) for name, link in links}
+            self.assertEqual(named - set(book.namelist()), set())
+            self.assertIn(sheet.read_bytes(), [book.read(name) for name in named])
+        self.assertEqual([page.count(answer_of("x<y")) for page in pages.values() if "<math" in page], [1])
 
     def test_processes(self):
         for refused, most in ((set(), 1), ({500}, 1 + 2 * 10)):

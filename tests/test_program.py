@@ -4,7 +4,7 @@ import resource
 import shutil
 import subprocess
 
-from tests.support import Case, ROOT, program, run, scratch
+from tests.support import BUILD_NOTHING, Case, ROOT, program, run, scratch
 
 LAUNCHER = ROOT / "latex2mathml"
 USAGE = b"usage: latex2mathml inline | block | document | html PATH\n"
@@ -41,6 +41,19 @@ def closed_streams(*streams):
         for stream in streams:
             os.close(stream)
     return {"preexec_fn": close}
+
+
+class Launcher(Case):
+    def test_a_path_with_a_space(self):
+        program()  # is built first
+        house = self.enterContext(scratch()) / "a house"
+        (house / "tools").mkdir(parents=True)
+        # as old as they are, since a program that is older is not taken
+        for name in ("latex2mathml", "tools/built", "crates.txt"):
+            shutil.copy2(ROOT / name, house / name)
+        (house / "crates").symlink_to(ROOT / "crates")
+        done = run([house / "latex2mathml", "inline"], stdin=b"x<y", env={**os.environ, BUILD_NOTHING: "1"})
+        self.expect(done, stdout=INLINE + b"\n")
 
 
 class Formulas(Case):

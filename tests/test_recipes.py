@@ -83,16 +83,20 @@ class BuiltSites(Recipe):
         self.assertEqual((self.site / "public/b.html").read_text(), self.converted_page())
 
     def test_several_processors(self):
+        self.assertIn("replace the third line by this", section("Convert a built site"))
         first, beside = blocks("Convert a built site", "sh")
-        commands = "".join(line if "latex2mathml html" not in line else f"    {beside.strip()} &&\n" for line in first.splitlines(True))
-        self.assertNotEqual(commands, first)
+        lines = first.splitlines(keepends=True)
+        lines[2] = beside
+        commands = "".join(lines)
         pages = {f"public/{folder}/{name}.html": self.PAGE for folder in "abc" for name in "12"} | {"public/a b.html": self.PAGE}
         self.put(pages)
         self.do("sh", "-c", commands)
         for name in pages:
             self.assertEqual((self.site / name).read_text(), self.converted_page())
-        self.put({"public/b/3.html": "<!--m-->{x<!--m-->"})
+        self.put({"public/b/3.html": "<!--m-->{x<!--m-->", "public/c/3.html": self.PAGE})
         self.do("sh", "-c", commands, status=123, stderr=f"LaTeX2MathML Error: public.new/b/3.html: {UNCLOSED}\n".encode())
+        self.assertEqual((self.site / "public/c/3.html").read_text(), self.PAGE)
+        self.assertEqual((self.site / "public.new/c/3.html").read_text(), self.converted_page())
 
 
 class Builders(Recipe):

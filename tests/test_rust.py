@@ -41,6 +41,27 @@ fn main() {
 """
 SENTENCE = "Let $x$ be. "
 
+# Another library, which answers everything by the same word.
+ANOTHER = r"""
+#include "latex2mathml.h"
+
+static uint32_t answer(char *out, size_t out_len, size_t *needed) {
+    *needed = 1;
+    if (out_len < 1)
+        return LATEX2MATHML_TOO_SMALL;
+    *out = '!';
+    return LATEX2MATHML_DONE;
+}
+
+uint32_t latex2mathml_formula(const char *latex, size_t latex_len, bool block, char *out, size_t out_len, size_t *needed) {
+    return (void)latex, (void)latex_len, (void)block, answer(out, out_len, needed);
+}
+
+uint32_t latex2mathml_document(const char *document, size_t document_len, char *out, size_t out_len, size_t *needed) {
+    return (void)document, (void)document_len, answer(out, out_len, needed);
+}
+"""
+
 
 def memory_limit(megabytes):
     """Limits the memory that a process may allocate."""
@@ -52,9 +73,13 @@ class Crate(Case):
     @classmethod
     def setUpClass(cls):
         cls.folder = cls.enterClassContext(scratch())
-        cls.crate = cls.folder / "latex2mathml"
-        shutil.copytree(CRATE, cls.crate, ignore=shutil.ignore_patterns("target", "lib", "Cargo.lock"))
+        cls.crate = cls.copy("the crate")  # a path may have spaces
         shutil.copytree(c_library(), cls.crate / "lib")
+
+    @classmethod
+    def copy(cls, name):
+        """A copy of the crate, without a library."""
+        return shutil.copytree(CRATE, cls.folder / name, ignore=shutil.ignore_patterns("target", "lib", "Cargo.lock"))
 
     def cargo(self, *words, folder=None, **environment):
         environment = {"CARGO_TARGET_DIR": str(self.folder / "target"), **environment}
@@ -87,13 +112,37 @@ class Crate(Case):
                 self.expect(self.cargo("run", folder=caller), stdout=printed.encode())
 
     def test_where_the_library_is_found(self):
-        elsewhere = self.folder / "elsewhere"
-        shutil.copytree(CRATE, elsewhere, ignore=shutil.ignore_patterns("target", "lib", "Cargo.lock"))
+        elsewhere = self.copy("elsewhere")
         target = {"CARGO_TARGET_DIR": str(self.folder / "target-elsewhere")}
         done = self.cargo("build", folder=elsewhere, **target)
         self.assertNotEqual(done.returncode, 0)
         self.assertIn(f"There is no {elsewhere}/lib/liblatex2mathml.a.", done.stderr.decode())
         self.expect(self.cargo("build", folder=elsewhere, LATEX2MATHML_LIB=str(self.crate / "lib"), **target))
+
+    @requires("ar")
+    def test_a_library_that_is_replaced(self):
+        """The next build takes the new one, and refuses if there is none."""
+        crate = self.copy("replaced")
+        library = shutil.copytree(c_library(), crate / "lib") / "liblatex2mathml.a"
+        (crate / "another.c").write_text(ANOTHER)
+        self.expect(run(["cc", "-c", "-I", crate / "lib", crate / "another.c", "-o", crate / "another.o"]))
+        self.expect(run(["ar", "rcs", crate / "another.a", crate / "another.o"]))
+
+        def build():
+            return self.cargo("build", "--example", "page", folder=crate, CARGO_TARGET_DIR=str(self.folder / "target-replaced"))
+
+        page = self.folder / "target-replaced/debug/examples/page"
+        self.expect(build())
+        self.assertIn(b"Let <math", run([page], stdin=b"Let $x$ be.").stdout)
+        with self.subTest("by another"):
+            shutil.copy(crate / "another.a", library)
+            self.expect(build())
+            self.assertIn(b"<body>\n!\n</body>", run([page], stdin=b"Let $x$ be.").stdout)
+        with self.subTest("by none"):
+            library.unlink()
+            done = build()
+            self.assertNotEqual(done.returncode, 0)
+            self.assertIn(f"There is no {library}.", done.stderr.decode())
 
     def test_the_example(self):
         page = self.example()
