@@ -1,8 +1,8 @@
 -- Plain text, and where it ends.
-use Rattle.std.proofs.Common.{◌≡◌, ◌≢◌, ◌⊎◌, ℕ, zero, suc, ◌+◌, ◌<◌, ◌≤◌, Bool, true, false, List, [], ◌∷◌, ◌++◌, length, get_or, take, drop, ⊎_elim, inl, inr, refl, sym, ap, subst, ◌∙◌, arith, append-nil, append_assoc, get_or-take, length-take}
+use Rattle.std.proofs.Common.{◌≡◌, ◌≢◌, ◌⊎◌, ℕ, zero, suc, ◌+◌, ◌<◌, ◌≤◌, Bool, true, false, List, [], ◌∷◌, ◌++◌, length, get_or, take, ⊎_elim, inl, inr, refl, sym, ap, subst, ◌∙◌, arith, append-nil, append_assoc, get_or-take, length-take}
 use Rattle.std.specs.Prelude.{MatchBool}
 use Rattle.std.proofs.lemmas.Bool.Decides.{eqb_tells, nat_tests}
-use Rattle.std.proofs.{lemmas.List.take_more, lemmas.List.drop_more, lemmas.List.drop_all, str.Laws.order}
+use Rattle.std.proofs.{lemmas.List.take_more}
 use Rattle.latex2mathml.specs.Pieces.{EndsAt, EndsBefore}
 use Rattle.latex2mathml.specs.Documents.{IsWhole, nothing, single, pair, IsPlain, whole, lone, IsBody}
 use Rattle.latex2mathml_formulas.specs.Dollars.{dollar, backslash, is_other, IsDollarFree, free_first, free_more, free_rest, other}

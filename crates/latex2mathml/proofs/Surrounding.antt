@@ -1,6 +1,6 @@
 -- Where the prose around the formulas is balanced, so is the answer.
-use Rattle.std.proofs.Common.{◌≡◌, ℕ, Bool, true, false, ◌&&◌, cond, List, [], ◌∷◌, ◌++◌, Option, Some, None, refl, sym, subst, codes}
-use Rattle.latex2mathml.specs.Documents.{Piece, prose, inline, display, PieceAnswer, PiecesAnswer, IsCut, IsAnswer}
+use Rattle.std.proofs.Common.{◌≡◌, ℕ, Bool, true, false, ◌&&◌, cond, List, [], ◌∷◌, Some, None, refl, sym, subst, codes}
+use Rattle.latex2mathml.specs.Documents.{Piece, prose, inline, display, PiecesAnswer, IsAnswer}
 use Rattle.latex2mathml.specs.Surroundings.{HasBalancedProse, HasClosedProse, HasPageProse, ProseRuns, TakesFormula}
 use Rattle.latex2mathml_formulas.specs.RenderingLaws.{RenderingsHold}
 use Rattle.latex2mathml_trees.specs.Markup.{Name, OpenElements, Schema, Runs, IsBalanced, add, any_element, at_start, lowest, name_of}

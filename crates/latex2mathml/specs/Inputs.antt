@@ -1,6 +1,5 @@
 -- What is made of the bytes that a source gave, where `state` says what is known of it then.
-use Rattle.std.specs.Prelude.{◌≡◌, ◌≢◌, ℕ, List, None, Result, Ok, Err, String, IfSome, IsFalse, IsTrue, IsUtf8, string_bytes, ⊤}
-use Rattle.std.specs.declared.alloc.Global.{Global}
+use Rattle.std.specs.Prelude.{◌≡◌, ◌≢◌, ℕ, List, None, Result, Ok, Err, IfSome, IsFalse, IsTrue, IsUtf8, string_bytes, ⊤}
 use Rattle.latex2mathml.specs.Conversions.{Conversion, document, IsConverted, IsRefusedAs}
 use Rattle.latex2mathml.specs.{Documents.IsAnswer, Streams.StreamState, Streams.HasEnded, declared.error.FileFault.FileFault}
 use Rattle.latex2mathml_formulas.specs.Dollars.{IsDollarFree}
