@@ -75,6 +75,7 @@ TEXTS = {
     "white space behind limits": ("inline", before_spaces("\\sum_"), 10_000),
     "white space behind open braces": ("inline", before_spaces("{"), 10_000),
     "formulas of a document": ("document", over_and_over("$x$ "), 20_000),
+    "parts of a document": ("document", over_and_over("$x^2$ $\\frac12$ "), 20_000),
     "displays of a document": ("document", over_and_over("$$x$$"), 20_000),
     "dollar signs of prose": ("document", over_and_over("\\$"), 20_000),
     "backslashes of prose": ("document", over_and_over("\\a"), 20_000),
@@ -120,8 +121,8 @@ DOUBLING = {
     "groups of a document": ("document", over_and_over("$${ab}$$"), 30),
 }
 
-# What asks for memory for each of its pieces, and how often for each: a name or a text that is spelled out, and the three texts by
-# which a command that has no meaning is printed. All else is written from the text that was read.
+# What asks for memory for each of its pieces, and how often for each: a name or a text that is spelled out is a text of its own. The
+# name of an unknown command is copied, and is put in quotation marks in a text that grows once. All else is written from what was read.
 FOR_EACH = {
     "names": ("inline", "\\operatorname{ab}", 1),
     "texts": ("inline", "\\text{ab}", 1),
