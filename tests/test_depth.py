@@ -13,8 +13,8 @@ from tests.productions import MISSING, PRODUCTIONS, WIDE, count_tokens
 LIMIT = 1800
 LONG = True
 
-# The most bytes that such a formula takes for a token, besides the rooms of the text and of the answer, and what every run takes. An
-# accent or a root without braces takes most: a frame, a part and what is to be written, of 32 bytes each, and their lists have room
+# The most bytes that such a formula takes for a token, besides the rooms of the text and of the answer, and what every run takes.
+# An accent or a root without braces takes most: a frame, a part and what is to be written, of 32 bytes each. Their lists have room
 # for 2^20 members or 2^18, which is 5 % more than there are. All others were counted with at most 87 bytes.
 MOST_EACH = 101
 OWN_BYTES = 64 << 10
@@ -43,7 +43,8 @@ class Depth(support.Case):
         self.assertEqual((done.returncode, done.stderr), (0, b""))
         self.assertTrue(done.stdout == faulty.math(contents) + b"\n", f"answered {support.show(done.stdout)}")
         rooms = room_of(formula.encode()) + room_of(done.stdout)
-        self.assertLessEqual(counts["peak"], rooms + MOST_EACH * tokens + OWN_BYTES, f"{rooms:,} bytes are room, for {tokens:,} tokens")
+        most = rooms + MOST_EACH * tokens + OWN_BYTES
+        self.assertLessEqual(counts["peak"], most, f"{rooms:,} bytes of room, and {tokens:,} tokens")
 
     def is_refused(self, formula, reason):
         done = support.run([support.program(), "inline"], stdin=formula.encode(), preexec_fn=self.limit_stack)

@@ -83,8 +83,8 @@ TEXTS = {
     "a formula of a document": ("document", between("a $", "x+", "$ b"), 20_000),
 }
 
-# Texts that cause allocations only if a text or a list is full, and not for each member, and the allocations of 100 kB of them as they
-# were counted. A list that doubles from 16 to 100,000 members is asked for 14 times. Those that grow are the text that is read, the
+# Texts that cause allocations only if a text or a list is full, and not for each member, and the allocations of 100 kB of them as
+# they were counted. A list that doubles from 16 to 100,000 members is asked for 14 times. What grows is the text that is read, the
 # answer, a text that is spelled out, the parts of a node, what is still to be written of it, and the frames that are open.
 DOUBLING = {
     "letters": ("inline", over_and_over("x"), 22),
@@ -121,8 +121,8 @@ DOUBLING = {
     "groups of a document": ("document", over_and_over("$${ab}$$"), 30),
 }
 
-# What asks for memory for each of its pieces, and how often for each: a name or a text that is spelled out is a text of its own. The
-# name of an unknown command is copied, and is put in quotation marks in a text that grows once. All else is written from what was read.
+# What asks for memory for each of its pieces, and how often for each: a name or a text that is spelled out is a text of its own.
+# The name of an unknown command is copied, and stands in a text that grows once. All else is written from what was read.
 FOR_EACH = {
     "names": ("inline", "\\operatorname{ab}", 1),
     "texts": ("inline", "\\text{ab}", 1),
