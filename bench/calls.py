@@ -1,8 +1,8 @@
 #!/usr/bin/env python3
 """Measures how many formulas per processor second are converted by calls of the library for C, from C, Python and
 Node, and by a process of the program for each; and, where its folder is given, by calls of the Rust crate from Rust. The
-second table has the instructions of one call, which do not depend on how busy the machine is. It builds what it needs with
-cc, and the crate with cargo."""
+second table has the instructions of one call, which do not depend on how busy the machine is. `--renew` counts only these,
+from C, and writes them to calls.txt. It builds what it needs with cc, and the crate with cargo."""
 import argparse
 import importlib.util
 import os
@@ -16,6 +16,10 @@ HOUSE = pathlib.Path(__file__).resolve().parent.parent
 sys.path += [str(HOUSE), str(HOUSE / "diff")]
 import rust_crate  # noqa: E402
 from tests.instructions import instructions  # noqa: E402
+
+# The instructions of one call from C of each formula, as last counted by `--renew`. `tests/test_instructions.py` compares the
+# library with them.
+FIGURES = HOUSE / "bench/calls.txt"
 
 FORMULAS = [
     "x<y",
@@ -61,10 +65,37 @@ def words_of(command):
     return [line.split() for line in subprocess.run(command, check=True, capture_output=True, text=True).stdout.splitlines()]
 
 
+def make_library(folder):
+    """Makes a folder with the library for C."""
+    subprocess.run([HOUSE / "tools/make-c-library", folder], check=True)
+    return folder
+
+
+def build(library, to):
+    """Builds the caller in C, `calls.c`, with the library for C of a folder."""
+    subprocess.run(["cc", "-O2", "-I", library, HOUSE / "bench/calls.c", library / "liblatex2mathml.a", "-o", to], check=True)
+    return to
+
+
 def a_call(program, latex):
     """The instructions of one call, of a program that repeats them."""
     few, many = (instructions([program, "repeat", str(calls), latex]) for calls in (100, 1100))
     return (many - few) / 1000
+
+
+def figures():
+    """The instructions of one call from C of each formula, as they stand in the file."""
+    lines = [line.split(maxsplit=1) for line in FIGURES.read_text(encoding="utf-8").splitlines()]
+    return {latex: int(count.replace(",", "")) for count, latex in lines}
+
+
+def renew():
+    """Counts the instructions of one call from C of each formula, and writes the file."""
+    with tempfile.TemporaryDirectory() as scratch:
+        program = build(make_library(pathlib.Path(scratch, "c")), pathlib.Path(scratch, "calls"))
+        counts = [(a_call(program, latex), latex) for latex in FORMULAS]
+    FIGURES.write_text("".join(f"{count:,.0f}  {latex}\n" for count, latex in counts), encoding="utf-8")
+    print(FIGURES.read_text(encoding="utf-8"), end="")
 
 
 def show_instructions(programs):
@@ -78,21 +109,24 @@ def show_instructions(programs):
 def main():
     parser = argparse.ArgumentParser(description="Measures calls of the library for C.")
     parser.add_argument("--crate", metavar="FOLDER", help="the folder of the Rust crate latex2mathml 0.2.3, to compare")
-    crate = parser.parse_args().crate
+    parser.add_argument("--renew", action="store_true", help="only count the instructions of calls from C, and write calls.txt")
+    chosen = parser.parse_args()
+    if chosen.renew:
+        renew()
+        return
+    crate = chosen.crate
     program = HOUSE / "crates/latex2mathml_app/out/latex2mathml_app"
     subprocess.run([HOUSE / "latex2mathml", "inline"], input=b"", check=True, stdout=subprocess.DEVNULL)
     with tempfile.TemporaryDirectory() as scratch:
-        library = pathlib.Path(scratch, "c")
-        subprocess.run([HOUSE / "tools/make-c-library", library], check=True)
+        library = make_library(pathlib.Path(scratch, "c"))
         subprocess.run([library / "examples/build"], check=True)
-        subprocess.run(["cc", "-O2", "-I", library, HOUSE / "bench/calls.c", library / "liblatex2mathml.a",
-                        "-o", library / "calls"], check=True)
+        caller = build(library, library / "calls")
         python = module_of(library / "examples/latex2mathml.py")
-        from_c = words_of([library / "calls", *FORMULAS])
+        from_c = words_of([caller, *FORMULAS])
         addon = library / "examples/latex2mathml.node"
         has_node = addon.exists() and shutil.which("node")
         from_node = words_of(["node", "-e", NODE, addon, *FORMULAS]) if has_node else [["-"]] * len(FORMULAS)
-        programs = [library / "calls"]
+        programs = [caller]
         if crate:
             programs.append(rust_crate.build(crate, pathlib.Path(scratch, "driver")))
         from_rust = [float(count) for (count,) in words_of([programs[1], "calls", *FORMULAS])] if crate else [None] * len(FORMULAS)

@@ -2,7 +2,7 @@
 
     ./test                                              all
     ./test proofs                                       the proofs, the wrong bodies and the tests in Rattle alone
-    ./test tests.test_program [tests.test_program.Words.test_inline ..]    modules, classes or cases, over what is built
+    ./test tests.test_program [tests.test_program.Words.test_wrong ..]    modules, classes or cases, over what is built
 
 The last line is 'N passed, M failed', and the status is 1 if a case failed.
 """

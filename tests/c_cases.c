@@ -19,27 +19,29 @@ static void judge(bool met, const char *name) {
     printf("%s: %s\n", met ? "passed" : "FAILED", name);
 }
 
-/* Requests for memory: how many this thread made, and from which to which they are refused. */
+/* Requests for memory: how many this thread made and for how many bytes in all, and from which to which they are refused. */
 
 void *__real_malloc(size_t size);
 void *__real_realloc(void *block, size_t size);
 void __real_free(void *block);
 
 static _Thread_local long requests, first_refused, last_refused, blocks;
+static _Thread_local size_t bytes_asked;
 
-static bool is_refused(void) {
+static bool is_refused(size_t size) {
     requests++;
+    bytes_asked += size;
     return first_refused <= requests && requests <= last_refused;
 }
 
 void *__wrap_malloc(size_t size) {
-    void *block = is_refused() ? NULL : __real_malloc(size);
+    void *block = is_refused(size) ? NULL : __real_malloc(size);
     blocks += block != NULL;
     return block;
 }
 
 void *__wrap_realloc(void *block, size_t size) {
-    void *moved = is_refused() ? NULL : __real_realloc(block, size);
+    void *moved = is_refused(size) ? NULL : __real_realloc(block, size);
     blocks += !block && moved;
     return moved;
 }
@@ -51,6 +53,7 @@ void __wrap_free(void *block) {
 
 static void refuse(long first, long last) {
     requests = 0;
+    bytes_asked = 0;
     first_refused = first;
     last_refused = last;
 }
@@ -108,6 +111,7 @@ static bool holds(struct answer answer, const char *text, size_t length) {
 
 #define MATH(display, contents) "<math xmlns=\"http://www.w3.org/1998/Math/MathML\" display=\"" display "\">" contents "</math>"
 #define LESS "<mi>x</mi><mo>&lt;</mo><mi>y</mi>"
+#define FRACTION "<mfrac><mn>1</mn><mn>2</mn></mfrac>"
 #define OPEN_BRACE "The token \"RBrace\" is expected, but the token \"EOF\" is found.\""
 #define NO_TEXT "The input is not UTF-8 text."
 #define TEXT(text) text, sizeof text - 1
@@ -123,6 +127,7 @@ static const struct {
     {"a formula in a line", INLINE, TEXT("x<y"), LATEX2MATHML_DONE, MATH("inline", LESS)},
     {"a formula in a block", BLOCK, TEXT("x<y"), LATEX2MATHML_DONE, MATH("block", LESS)},
     {"a formula with bytes behind it", INLINE, "x<y{", 3, LATEX2MATHML_DONE, MATH("inline", LESS)},
+    {"a fraction", INLINE, TEXT("\\frac12"), LATEX2MATHML_DONE, MATH("inline", FRACTION)},
     {"no bytes", INLINE, TEXT(""), LATEX2MATHML_DONE, MATH("inline", "")},
     {"a refused formula", INLINE, TEXT("{x"), LATEX2MATHML_REFUSED, OPEN_BRACE},
     {"a byte that begins no character", INLINE, TEXT("x\xFF"), LATEX2MATHML_NOT_UTF8, NO_TEXT},
@@ -130,6 +135,7 @@ static const struct {
     {"half a pair of surrogates", INLINE, TEXT("\xED\xA0\x80"), LATEX2MATHML_NOT_UTF8, NO_TEXT},
     {"a document", DOCUMENT, TEXT("a $x<y$, $$x<y$$"), LATEX2MATHML_DONE, "a " MATH("inline", LESS) ", " MATH("block", LESS)},
     {"a document without a formula", DOCUMENT, TEXT("\xC3\xA9 <b>"), LATEX2MATHML_DONE, "\xC3\xA9 <b>"},
+    {"a document with a fraction", DOCUMENT, TEXT("$\\frac12$"), LATEX2MATHML_DONE, MATH("inline", FRACTION)},
     {"an empty document", DOCUMENT, TEXT(""), LATEX2MATHML_DONE, ""},
     {"dollar signs that do not pair", DOCUMENT, TEXT("$$$"), LATEX2MATHML_REFUSED,
      "The number of dollar sings found is invalid."},
@@ -205,11 +211,19 @@ static void judge_with_refusals(struct known_call known, const char *name, long 
     judge(survives(known, true, were_refused), name);
 }
 
+/* How many bytes such a call asks for, at most and in all: room for a short answer, and for the parts of a short formula. */
+enum { MOST_ASKED = 4096 };
+
 static void memory(void) {
     long were_refused = 0;
     for (int i = 0; i < KNOWN; i++) {
         struct known_call call = {known[i].conversion, known[i].input, known[i].length, known[i].code, known[i].text, strlen(known[i].text)};
         judge_with_refusals(call, known[i].name, &were_refused);
+        refuse(0, -1);
+        known_answer(i, call.needed);
+        if (bytes_asked > MOST_ASKED)
+            printf("wrong: %zu bytes are asked for\n", bytes_asked);
+        judge(bytes_asked <= MOST_ASKED, known[i].name);
     }
     judge(were_refused > 50, "requests were refused");
 }

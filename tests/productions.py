@@ -3,6 +3,7 @@
 A production is nested in itself: its formula stands `n` times before and behind a letter, and so does its markup.
 """
 import dataclasses
+import re
 
 X = "<mi>x</mi>"
 Y = "<mi>y</mi>"
@@ -13,6 +14,16 @@ FENCE = '<mo stretchy="true" form="{}">{}</mo>'
 
 # the end token that an open group expects at the end of the text
 BRACE, BRACKET, RIGHT, END = "RBrace", 'Paren("]")', "Right", "End"
+
+
+# A token. The name of an environment counts as one: its letters are kept as a text.
+TOKEN = re.compile(r"\\(?:[A-Za-z]+|.)|(?<=\\begin)\{\w+\}|(?<=\\end)\{\w+\}|\d+|\S")
+
+
+def count_tokens(make, levels):
+    """How many tokens a formula of so many levels has. Each level but the first has as many."""
+    one, two = (len(TOKEN.findall(make(times))) for times in (1, 2))
+    return one + (levels - 1) * (two - one)
 
 
 def between(opening, contents, close):
@@ -172,7 +183,7 @@ def repeat(parts, members):
     return before + member * members + behind
 
 
-# deeper than printing recurses
+# So many frames are open while the members of the wide node are read, and as many ends are still to be written behind them.
 BELOW = 40
 
 A = "<mi>a</mi>"

@@ -7,19 +7,27 @@ import resource
 import unittest
 
 from tests import faulty, support
-from tests.productions import MISSING, PRODUCTIONS, WIDE
+from tests.productions import MISSING, PRODUCTIONS, WIDE, count_tokens
 
 # Seconds that the cases of a class may take.
 LIMIT = 1800
 LONG = True
 
-# the most memory that such a formula may take
-MOST_MEMORY = 600 << 20
+# The most bytes that such a formula takes for a token, besides the rooms of the text and of the answer, and what every run takes.
+# An accent or a root without braces takes most: a frame, a part and what is to be written, of 32 bytes each. Their lists have room
+# for 2^20 members or 2^18, which is 5 % more than there are. All others were counted with at most 87 bytes.
+MOST_EACH = 101
+OWN_BYTES = 64 << 10
 
 OPEN = 'The token "{}" is expected, but the token "EOF" is found."'
 NO_MEMORY = "Memory could not be found."
 # what `\middle` refuses, whatever follows
 NO_STRETCH = 'There must be a parenthesis after "Middle", but not found. Insted, "Middle" is found.'
+
+
+def room_of(text):
+    """The room of a text that is doubled when it is full."""
+    return 1 << (len(text) - 1).bit_length()
 
 
 class Depth(support.Case):
@@ -29,12 +37,14 @@ class Depth(support.Case):
     def limit_stack(self):
         resource.setrlimit(resource.RLIMIT_STACK, (self.stack, self.stack))
 
-    def answers(self, formula, contents):
+    def answers(self, formula, contents, tokens):
         """Checks the whole markup, byte for byte, and the peak memory."""
         done, counts = faulty.counts_of([support.program(), "inline"], stdin=formula.encode(), preexec_fn=self.limit_stack)
         self.assertEqual((done.returncode, done.stderr), (0, b""))
         self.assertTrue(done.stdout == faulty.math(contents) + b"\n", f"answered {support.show(done.stdout)}")
-        self.assertLessEqual(counts["peak"], MOST_MEMORY)
+        rooms = room_of(formula.encode()) + room_of(done.stdout)
+        most = rooms + MOST_EACH * tokens + OWN_BYTES
+        self.assertLessEqual(counts["peak"], most, f"{rooms:,} bytes of room, and {tokens:,} tokens")
 
     def is_refused(self, formula, reason):
         done = support.run([support.program(), "inline"], stdin=formula.encode(), preexec_fn=self.limit_stack)
@@ -61,7 +71,7 @@ class Printed(Depth):
 
     def judge(self, kind):
         levels = kind.levels(self.nodes)
-        self.answers(kind.nest(levels), kind.contents(levels))
+        self.answers(kind.nest(levels), kind.contents(levels), count_tokens(kind.nest, levels))
 
 
 @support.requires("cc")
@@ -70,7 +80,7 @@ class Styled(Shallow):
 
     def judge(self, kind):
         levels = kind.levels(self.nodes)
-        self.answers("\\mathbf{" + kind.nest(levels) + "}", kind.styled_contents(levels))
+        self.answers("\\mathbf{" + kind.nest(levels) + "}", kind.styled_contents(levels), count_tokens(kind.nest, levels))
 
 
 class Dropped(Shallow):
@@ -89,7 +99,7 @@ class Cut(Shallow):
         if kind.waits:
             self.is_refused(kind.cut(levels), OPEN.format(kind.waits))
         else:
-            self.answers(kind.cut(levels), kind.contents(levels, MISSING))
+            self.answers(kind.cut(levels), kind.contents(levels, MISSING), count_tokens(kind.cut, levels))
 
     def test_stretched(self):
         """`\\middle` takes an operator alone, so no node is in it, but as many as there are wait one for the other."""

@@ -204,13 +204,18 @@ class Language(Case):
 
 
 class Figures(Case):
-    """The figures of the README match the file that the benchmark writes."""
+    """The figures of the READMEs match the files that the benchmarks write."""
 
     def test_instructions(self):
         counted = dict(reversed(line.split("  ", 1)) for line in (ROOT / "bench/instructions.txt").read_text().splitlines())
         shown = re.findall(r"^\| (?:a document of )?`?([^|`]+?)`?(?:, over and over)? \| (\d+) million, ", (ROOT / "README.md").read_text(), re.M)
         self.assertEqual({name.strip(): int(millions) for name, millions in shown},
                          {name.strip(): round(int(count.replace(",", "")) / 1e6) for name, count in counted.items()})
+
+    def test_instructions_of_a_call(self):
+        counted = [line.split("  ", 1) for line in (ROOT / "bench/calls.txt").read_text().splitlines()]
+        shown = re.findall(r"^\| (\d+) \| [\d,]+ \| [\d,]+ \| ([\d,]+) \| [\d,]+ \|$", (ROOT / "bench/README.md").read_text(), re.M)
+        self.assertEqual(shown, [(str(len(latex)), count) for count, latex in counted])
 
 
 class Versions(Case):

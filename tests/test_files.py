@@ -19,7 +19,7 @@ BAD_ENTRY = "An entry of the directory could not be read."
 UNPAIRED = "The number of dollar sings found is invalid."
 STOPPED = "The output stopped after {} bytes."
 
-# three documents in a folder, two of them in a folder between
+# four documents, two of them in a folder between the others
 FILES = "a.html", "m/b.html", "m/c.html", "z.html"
 
 NOBODY = 65534
@@ -247,6 +247,35 @@ class Rights(Walks):
                    {"kept/a.html": X, "y.html": b"no sign", **{name: b"$x$" for name in kept}})
 
 
+@support.requires("cc")
+class NoFiles(Walks):
+    """What is neither a file nor a directory is left alone, whatever its name is, and not opened: that might never end."""
+    SECONDS = 10
+
+    def is_left_alone(self, make):
+        """Makes something at a path, and walks the folder with it, and then the path alone."""
+        self.anew()
+        path = self.site / "n.html"
+        make(path)
+        before = path.lstat()
+        # both folders are opened, and each file twice
+        for name, top, opened in (("in a folder", self.site, 2 + 2 * len(FILES)), ("alone", path, 0)):
+            with self.subTest(name):
+                done, counts = faulty.counts_of([faulty.program(), "html", top], timeout=self.SECONDS)
+                self.holds(done)
+                self.assertEqual(counts["open"], opened)
+                self.assertEqual((path.lstat().st_mode, path.lstat().st_ino), (before.st_mode, before.st_ino))
+
+    def test_pipe(self):
+        self.is_left_alone(os.mkfifo)
+
+    def test_socket(self):
+        self.is_left_alone(lambda path: os.mknod(path, stat.S_IFSOCK | 0o600))
+
+    def test_link_to_a_device(self):
+        self.is_left_alone(lambda path: path.symlink_to(os.devnull))
+
+
 class Full(Walks):
     """A device is full, or a limit of what a file may hold is met, while a file is written: it holds the first bytes of its
     answer, as many as the line says, and the walk goes on.
@@ -372,8 +401,9 @@ class Many(Folders):
         self.assertEqual(done.stderr.count(UNPAIRED.encode()), 20_000)
 
 
-# what a file holds, and how often a walk asks for memory for it
-EACH_FILE = {b"$x$": 8, b"no sign": 7, b"$$$": 10}
+# What a file holds, and how often a walk asks for memory for it. The formulas of a file share the room for their parts: so 20 of
+# them need 5 more requests than one, because the answer is longer, and no more.
+EACH_FILE = {b"$x$": 8, b"$x^2$": 11, b"$x^2$" * 20: 16, b"$\\frac12$" * 20: 16, b"no sign": 6, b"$$$": 10}
 # the names of a folder, and what was not converted: a list asks once more where it doubles
 MOST_DOUBLINGS = 6
 
@@ -397,6 +427,10 @@ class Counts(Folders):
 
     def test_converted(self):
         self.leaves_nothing(b"$x$")
+
+    def test_converted_parts(self):
+        """A letter alone needs no parts. These do, and a text that is spelled out."""
+        self.leaves_nothing(b"$x^2$ $\\frac12$ $\\text{ab}$")
 
     def test_unchanged(self):
         self.leaves_nothing(b"no sign")
@@ -433,11 +467,11 @@ class Counts(Folders):
 class Instructions(Folders):
     """Five times the files take five times the instructions, but for the sorting of their names."""
 
-    def judge(self, text):
+    def judge(self, text, status=0):
         counted = []
         for files in (200, 1_000):
             self.make(files, text=text)
-            counted.append(instructions([support.program(), "html", self.site]))
+            counted.append(instructions([support.program(), "html", self.site], status=status))
         few, many = counted
         self.assertLessEqual(many, 5.5 * few, f"{few:,} for 200 files, {many:,} for 1,000")
 
@@ -448,7 +482,7 @@ class Instructions(Folders):
         self.judge(b"no sign")
 
     def test_refused(self):
-        self.judge(b"$$$")
+        self.judge(b"$$$", 1)
 
 
 if __name__ == "__main__":

@@ -1,6 +1,8 @@
-"""The instructions of each workload of `bench/` are those of `bench/instructions.txt`, within 5 %.
+"""The instructions of each workload of `bench/` are those of `bench/instructions.txt`, and those of one call from C are those of
+`bench/calls.txt`, within 5 %.
 
-So a change that makes the program slower or faster is noticed. `bench/measure.py --renew` then writes the file.
+So a change that makes the program or the library for C slower or faster is noticed. `bench/measure.py --renew` and
+`bench/calls.py --renew` then write the files.
 """
 import sys
 import unittest
@@ -8,6 +10,7 @@ import unittest
 from tests import support
 
 sys.path.append(str(support.ROOT / "bench"))
+import calls  # noqa: E402
 import measure  # noqa: E402
 import workloads  # noqa: E402
 
@@ -20,18 +23,41 @@ class Figures(support.Case):
         """Each workload has a figure, and each figure a workload."""
         self.assertEqual(list(measure.figures()), list(LOADS))
 
+    def test_formulas(self):
+        """Each formula of `bench/calls.py` has a figure, and each figure a formula."""
+        self.assertEqual(list(calls.figures()), calls.FORMULAS)
+
+
+class Counted(support.Case):
+    def compare(self, counted, due, script, file):
+        change = f"{counted:,.0f} instructions, and {due:,} stand in bench/{file}: {counted / due:.3f} times as many"
+        self.assertLessEqual(abs(counted - due), MARGIN * due, f"{change}; bench/{script} --renew takes the new ones")
+
 
 @support.requires("valgrind")
-class Instructions(support.Case):
+class Instructions(Counted):
     def judge(self, name):
         word, text = LOADS[name]
-        due, counted = measure.figures()[name], measure.count_instructions([support.program()], word, text)
-        change = f"{counted:,} instructions, and {due:,} stand in bench/instructions.txt: {counted / due:.3f} times as many"
-        self.assertLessEqual(abs(counted - due), MARGIN * due, f"{change}; bench/measure.py --renew takes the new ones")
+        counted = measure.count_instructions([support.program()], word, text)
+        self.compare(counted, measure.figures()[name], "measure.py", "instructions.txt")
+
+
+@support.requires("cc", "valgrind")
+class Calls(Counted):
+    """One call of the library for C: what a call does besides its formula does not show in long texts."""
+
+    @classmethod
+    def setUpClass(cls):
+        cls.caller = calls.build(support.c_library(), cls.enterClassContext(support.scratch()) / "calls")
+
+    def judge(self, latex):
+        self.compare(calls.a_call(self.caller, latex), calls.figures()[latex], "calls.py", "calls.txt")
 
 
 for number, name in enumerate(LOADS):
     setattr(Instructions, f"test_{number}", lambda self, name=name: self.judge(name))
+for number, latex in enumerate(calls.FORMULAS):
+    setattr(Calls, f"test_{number}", lambda self, latex=latex: self.judge(latex))
 
 if __name__ == "__main__":
     unittest.main()
