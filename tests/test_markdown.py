@@ -5,6 +5,8 @@ import unittest
 from tests.environments import ask, environment, requires_python, run_python
 from tests.support import ROOT, Case, scratch
 
+LONG = True
+
 OPEN = 'The token "RBrace" is expected, but the token "EOF" is found."'
 
 # Converts each text with its options, and returns the page and the log, or the error.
@@ -29,8 +31,6 @@ print(json.dumps([answer(*it) for it in json.load(sys.stdin)]))
 AGAIN = """
 import json, sys
 import markdown
-
-LONG = True
 
 md = markdown.Markdown(extensions=["latex2mathml"])
 print(json.dumps([md.reset().convert(text) for text in json.load(sys.stdin)]))
