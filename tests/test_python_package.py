@@ -4,6 +4,7 @@ import tomllib
 import unittest
 import zipfile
 
+from tests import cases
 from tests.environments import NAME_CASES, NAMES, ask, environment, requires_python, run_python, wheel
 from tests.support import ROOT, Case, c_library, requires, run, scratch
 
@@ -12,6 +13,8 @@ MATH = '<math xmlns="http://www.w3.org/1998/Math/MathML" display="{}">{}</math>'
 LESS = "<mi>x</mi><mo>&lt;</mo><mi>y</mi>"
 LESS_INLINE, LESS_BLOCK = MATH.format("inline", LESS), MATH.format("block", LESS)
 OPEN = 'The token "RBrace" is expected, but the token "EOF" is found."'
+
+USUAL_NAMES = cases.names()
 
 # Calls each function with each list of arguments, and prints the result, or the error's name and text.
 CALLS = """
@@ -238,12 +241,38 @@ class Names(unittest.TestCase):
                 self.assertTrue(all(f'Command("{name[1:]}")' in (fault or "").replace("\\", "") for fault in without), without)
                 self.assertIn(None, replaced)
 
+    def test_each_is_in_the_cases(self):
+        """cases/names.txt has each name, and in a formula of its own."""
+        self.assertEqual({f"\\{entry.name}" for entry in USUAL_NAMES}, set(usual_names()))
+        for entry in USUAL_NAMES:
+            self.assertIn(f"\\{entry.name}", re.findall(r"\\(?:[A-Za-z]+|.)", entry.formula), entry.line.place)
+
     def test_file_is_plain(self):
         """One name per line, and no escape except that of the backslash, so that a few lines of any language can read it."""
         lines = NAMES.read_text(encoding="utf-8").splitlines()
         self.assertEqual([lines[0], lines[-1]], ["{", "}"])
         for line in filter(None, lines[1:-1]):
             self.assertRegex(line, r'^"\\\\([A-Za-z]+|[^A-Za-z"\\])": "([^"\\]|\\\\)*",?$')
+
+
+@requires_python()
+class UsualNames(unittest.TestCase):
+    """Each line of cases/names.txt is a test, named by its line: the formula means what the name means in LaTeX."""
+
+    @classmethod
+    def setUpClass(cls):
+        answers = ask(environment(), RENDER, [[True, entry.formula] for entry in USUAL_NAMES])
+        cls.renderings = dict(zip(USUAL_NAMES, answers, strict=True))
+
+
+def test_of(entry):
+    def test(self):
+        self.assertEqual(self.renderings[entry], [MATH.format("inline", entry.contents), None], entry.line.place)
+    return test
+
+
+for each in USUAL_NAMES:
+    setattr(UsualNames, f"test_{each.line.number}", test_of(each))
 
 
 # Renders formulas, and answers how often the library was called for each.
