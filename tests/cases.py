@@ -92,6 +92,15 @@ class Command:
         return f"\\{self.name}".encode()
 
 
+@dataclass(frozen=True)
+class Name:
+    """A name that the integrations replace, a formula with it, and the contents of the formula's element."""
+    line: Line
+    name: str
+    formula: str
+    contents: str
+
+
 def expand(text):
     """The bytes that a text of a case stands for.
 
@@ -173,15 +182,27 @@ def files(pattern):
 
 def commands():
     """The entries of the command table, in their order."""
-    entries = []
-    for _, line in lines_of(CASES / "commands.txt"):
+    return [Command(*row) for row in rows("commands.txt")]
+
+
+def names():
+    """The names that the integrations replace. A name may have several lines."""
+    return [Name(*row) for row in rows("names.txt")]
+
+
+def rows(name):
+    """The lines of a table: each line, and what its three columns stand for."""
+    for _, line in lines_of(CASES / name):
         if not line.text:
             continue
         columns = COLUMNS.split(line.text)
         if len(columns) != 3:
             raise WrongCase(f"{line.place}: an entry has three columns, and two spaces or more between them")
-        entries.append(Command(line, *(line.expand(column).decode() for column in columns)))
-    return entries
+        yield line, *(line.expand(column).decode() for column in columns)
+
+
+# The files that are tables: the class of tests that has a test for each line, and the reader.
+TABLES = {"commands.txt": ("test_commands.Entries", commands), "names.txt": ("test_python_package.UsualNames", names)}
 
 
 def every_rule():
@@ -205,18 +226,20 @@ def test_name(word):
     'tests.test_cases.refusals.test_13'
     >>> test_name("cases/commands.txt:12")
     'tests.test_commands.Entries.test_12'
+    >>> test_name("cases/names.txt")
+    'tests.test_python_package.UsualNames'
     """
     name, _, line = word.removeprefix("cases/").partition(":")
     if name not in files("**/*.txt"):
         raise WrongCase(f"{word}: cases/ has no such file")
-    tests = "test_commands.Entries" if name == "commands.txt" else f"test_cases.{class_name(name)}"
+    tests = TABLES[name][0] if name in TABLES else f"test_cases.{class_name(name)}"
     return f"tests.{tests}" + (f".test_{first_line(word, name, line)}" if line else "")
 
 
 def first_line(word, name, line):
     """The number of the first line of the case that has this line."""
-    if name == "commands.txt":
-        starts = {str(command.line.number): command.line.number for command in commands()}
+    if name in TABLES:
+        starts = {str(entry.line.number): entry.line.number for entry in TABLES[name][1]()}
     else:
         starts = {str(its.number): case.first.number for case in read(name) for its in (case.first, case.second)}
     if line not in starts:

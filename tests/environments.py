@@ -69,9 +69,9 @@ def run_python(python, *words, **more):
     return run([python, *words], env={**kept, "PYTHONWARNINGS": "ignore::DeprecationWarning"}, **{"cwd": run_folder(), **more})
 
 
-def ask(python, script, question):
+def ask(python, script, question, **more):
     """What a script answers as JSON on standard output, to a question that it reads as JSON."""
-    done = run_python(python, "-c", script, stdin=json.dumps(question).encode())
+    done = run_python(python, "-c", script, stdin=json.dumps(question).encode(), **more)
     if done.returncode:
         raise AssertionError(f"the script ended with status {done.returncode}:\n{done.stderr.decode()}")
     return json.loads(done.stdout)

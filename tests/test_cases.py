@@ -110,7 +110,7 @@ class Reader(unittest.TestCase):
             self.assertTrue(formula and contents.startswith("<"), formula)
 
     def test_all_files_are_read(self):
-        read = {file for pattern, _ in KINDS for file in cases.files(pattern)} | {"commands.txt"}
+        read = {file for pattern, _ in KINDS for file in cases.files(pattern)} | set(cases.TABLES)
         self.assertEqual(sorted(read), cases.files("**/*.txt"))
 
 

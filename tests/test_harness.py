@@ -1,7 +1,9 @@
 """The harness counts each case, shows what failed, and ends cases that do not end."""
 import contextlib
+import importlib
 import io
 import os
+import re
 import shutil
 import time
 import unittest
@@ -9,7 +11,7 @@ import unittest.mock
 
 from tests import __main__ as harness
 from tests import cases, samples
-from tests.modules import Module, Runs, classes_of, name_of
+from tests.modules import Module, Runs, classes_of, every_name, name_of
 from tests.results import Counts, Result, SKIP_NOTHING
 from tests.sources import Sources
 from tests.steps import Command, Copy, Library, Proofs, Step, WrongBodies, crates_below
@@ -84,6 +86,15 @@ class Modules(unittest.TestCase):
         with unittest.mock.patch("os.sched_getaffinity", return_value={0}):
             Runs(Screen(screen)).run([short, long])
         self.assertLess(screen.getvalue().index("\nlong: "), screen.getvalue().index("\nshort: "))
+
+    def test_what_modules_set(self):
+        """A line that sets ALONE, LONG or LIMIT sets it of the module, and does not stand in a text or a class of it."""
+        names = ("ALONE", "LONG", "LIMIT")
+        for module in every_name():
+            text = (ROOT / f"{module.replace('.', '/')}.py").read_text(encoding="utf-8")
+            written = {name for name in names if re.search(rf"^ *{name} = ", text, re.MULTILINE)}
+            with self.subTest(module):
+                self.assertEqual(written, {name for name in names if hasattr(importlib.import_module(module), name)})
 
     def test_a_module_without_a_case(self):
         self.assertEqual(self.run_parts()[0], Counts(failed=1))

@@ -5,6 +5,8 @@ import unittest
 from tests.environments import ask, environment, requires_python, run_python
 from tests.support import ROOT, Case, scratch
 
+LONG = True
+
 OPEN = 'The token "RBrace" is expected, but the token "EOF" is found."'
 
 # Converts each text with its options, and returns the page and the log, or the error.
@@ -26,20 +28,35 @@ def answer(text, options, others):
 print(json.dumps([answer(*it) for it in json.load(sys.stdin)]))
 """
 
+# Converts with the module's name and options, and returns the contents of the formula, or the error.
+BY_MODULE = """
+import json, re, sys
+import markdown
+from latex2mathml_proved.rendering import FaultyFormula
+
+def answer(text):
+    name, options = "latex2mathml_proved.markdown", {"names": {r"\\R": "x"}, "strict": True}
+    try:
+        page = markdown.markdown(text, extensions=[name], extension_configs={name: options})
+    except FaultyFormula as error:
+        return str(error)
+    return re.search("<math [^>]*>(.*)</math>", page)[1]
+
+print(json.dumps([answer(text) for text in json.load(sys.stdin)]))
+"""
+
 AGAIN = """
 import json, sys
 import markdown
-
-LONG = True
 
 md = markdown.Markdown(extensions=["latex2mathml"])
 print(json.dumps([md.reset().convert(text) for text in json.load(sys.stdin)]))
 """
 
 
-def convert(*texts, options=None, others=()):
+def convert(*texts, options=None, others=(), **more):
     """The pages of texts, without links, and the log of each."""
-    return ask(environment("markdown"), CONVERT, [[text, {"page": False, **(options or {})}, others] for text in texts])
+    return ask(environment("markdown"), CONVERT, [[text, {"page": False, **(options or {})}, others] for text in texts], **more)
 
 
 def letters_of(page):
@@ -92,6 +109,7 @@ class Formulas(unittest.TestCase):
             "from $ 5 to 6 $ each": "<p>from $ 5 to 6 $ each</p>",
             "$x $ and $ y$": "<p>$x $ and $ y$</p>",
             "$x$5": "<p>$x$5</p>",
+            "$x$0 $y$9": "<p>$x$0 $y$9</p>",
             r"\$x$ $y$": "<p>$x$ [y]</p>",
             r"$\$x$": "<p>[&#x24;x]</p>",
             r"\\$x$": "<p>\\[x]</p>",
@@ -122,9 +140,13 @@ class Formulas(unittest.TestCase):
             "$$\na\n- b\n+ c\n# d\n1. e\n> f\n$$": "[[a-b+c#d1.e&gt;f]]",
             "$$\na\n=\nb\n---\nc\n$$": "[[a=b---c]]",
             "$$\n    a\n$$": "[[a]]",
+            "$$\na \\$\n$$": "[[a&#x24;]]",
             "- a\n\n    $$\n    x\n    $$\n\n- b": "<ul>\n<li>\n<p>a</p>\n[[x]]\n</li>\n<li>\n<p>b</p>\n</li>\n</ul>",
             "- a\n  $$x$$\n- b": "<ul>\n<li>a[[x]]\n</li>\n<li>b</li>\n</ul>",
             "1. a\n$$x$$\n2. b": "<ol>\n<li>a[[x]]\n</li>\n<li>b</li>\n</ol>",
+            "+ a\n$$x$$\n+ b": "<ul>\n<li>a[[x]]\n</li>\n<li>b</li>\n</ul>",
+            "10. a\n$$x$$\n11. b": "<ol>\n<li>a[[x]]\n</li>\n<li>b</li>\n</ol>",
+            "   $$\n   x\n   $$  \nb": "[[x]]\n<p>b</p>",
             "- a\n- b $$x$$\n- c": "<ul>\n<li>a</li>\n<li>b [[x]]</li>\n<li>c</li>\n</ul>",
             "> $$\n> x\n> $$\n>\n> y": "<blockquote>\n[[x]]\n<p>y</p>\n</blockquote>",
             "$$\na\n\nb\n$$": "<p>$$\na</p>\n<p>b\n$$</p>",
@@ -145,7 +167,22 @@ class Formulas(unittest.TestCase):
             "| a | b |\n|---|---|\n| $x$ | $\\vert y \\vert$ |":
                 "<table>\n<thead>\n<tr>\n<th>a</th>\n<th>b</th>\n</tr>\n</thead>\n<tbody>\n<tr>\n<td>[x]</td>\n<td>[|y|]</td>\n</tr>\n</tbody>\n</table>",
             "# A $x$": '<h1 id="a-x">A [x]</h1>',
+            '<div markdown="1">\n$x$ and\n\n$$\ny\n$$\n\n<i title="$z$">b</i>\n</div>':
+                '<div>\n<p>[x] and</p>\n[[y]]\n<p><i title="$z$">b</i></p>\n</div>',
         }, others=["extra", "toc"])
+
+    def test_texts_that_are_slow_to_read(self):
+        """The formulas in each are found before the process that looks for them is ended."""
+        texts = {"$a$ ": 1000, "$a$\n": 1000, "$$\n": 500, "$$\na\n": 500, "> $$ ": 500, "- $$\n": 0, "$ ": 0, "\\$": 0, "`$": 0}
+        texts = {text * 1000: formulas for text, formulas in texts.items()}
+        # fewer, since Python-Markdown itself takes long for brackets that are not closed
+        texts |= {"$a$ $$ $ [ " * 100: 100, "$$\n" + "a\n" * 50_000: 0, "$" + "a " * 50_000: 0}
+        # a backslash and a letter are one character of a formula: there are many ways to read them as one or two
+        texts |= {begin + r"\a" * 40 + end: 0 for begin in ("$", "$$", "$$\n", "a $$") for end in ("", " $", "\n\n$$")}
+        pages = convert(*texts, options={"names": False}, timeout=20)
+        for (text, formulas), (page, said) in zip(texts.items(), pages, strict=True):
+            with self.subTest(text[:60]):
+                self.assertEqual((page.count("<math "), said), (formulas, []))
 
 
 @requires_python("markdown")
@@ -179,6 +216,18 @@ class Options(unittest.TestCase):
         found = [re.match(r"latex2mathml: (?:line (\d+): )?\{(\w)", line).groups() for line in said]
         self.assertEqual(found, [(None, "a"), ("3", "b"), ("6", "c"), ("12", "e"), ("15", "b"), ("15", "g"), ("17", "h")])
 
+    def test_lines_behind_what_is_put_aside(self):
+        """Code, HTML and definitions have lines too, and a line may end in spaces."""
+        text = "```\na\n```\n\n<p>\nc\n</p>\n\n[d]: e\n*[f]: g\n\n${x$\n\n$$  \n{y  \n$$  \n"
+        [[_, said]] = convert(text, others=["extra"])
+        self.assertEqual([line.partition("{")[0] for line in said], ["latex2mathml: line 12: ", "latex2mathml: line 14: "])
+
+    def test_lines_of_white_space(self):
+        """The line of a formula with no-break spaces is found, and soon where lines of spaces stand elsewhere."""
+        spaces, formula = "$$\n" + "    \n" * 30 + "x\n\n", "$$\n" + "\u00a0\n" * 30 + "{b\n$$"
+        [[_, [said]]] = convert(spaces + formula, timeout=20)
+        self.assertEqual(said, f"latex2mathml: line 34: {{b: {OPEN}")
+
     def test_marked(self):
         [[page, said]] = convert("a\n$\\foo$")
         self.assertIn('<mtext>[PARSE ERROR: Undefined("Command(\\"foo\\")")]</mtext>', page)
@@ -198,6 +247,10 @@ class Options(unittest.TestCase):
                 [page, _], [plain, _] = ask(environment("markdown"), CONVERT, [["$x$", option, []], ["x \\$", option, []]])
                 self.assertEqual(page.partition("<p>")[0], links.format(folder))
                 self.assertEqual(plain, "<p>x $</p>")
+
+    def test_by_the_name_of_the_module(self):
+        """A caller that names the module, as one that names the entry point, gives options and catches `FaultyFormula`."""
+        self.assertEqual(ask(environment("markdown"), BY_MODULE, [r"$\R$", r"${x$"]), ["<mi>x</mi>", f"line 1: {{x: {OPEN}"])
 
     def test_one_converter_for_many_pages(self):
         with_formula, without = ask(environment("markdown"), AGAIN, ["$x$", "x"])

@@ -1,15 +1,20 @@
 """The Python package: its wheel in a fresh virtual environment, its calls, and the names that integrations replace."""
 import re
+import tomllib
 import unittest
 import zipfile
 
+from tests import cases
 from tests.environments import NAME_CASES, NAMES, ask, environment, requires_python, run_python, wheel
 from tests.support import ROOT, Case, c_library, requires, run, scratch
 
+PACKAGE = ROOT / "integrations/python"
 MATH = '<math xmlns="http://www.w3.org/1998/Math/MathML" display="{}">{}</math>'
 LESS = "<mi>x</mi><mo>&lt;</mo><mi>y</mi>"
 LESS_INLINE, LESS_BLOCK = MATH.format("inline", LESS), MATH.format("block", LESS)
 OPEN = 'The token "RBrace" is expected, but the token "EOF" is found."'
+
+USUAL_NAMES = cases.names()
 
 # Calls each function with each list of arguments, and prints the result, or the error's name and text.
 CALLS = """
@@ -47,6 +52,41 @@ import json, sys
 from latex2mathml_proved.names import Names
 
 print(json.dumps([Names(option).replace(formula) for option, formula in json.load(sys.stdin)]))
+"""
+
+# Converts a text whose markup has no room in the memory that is left, and then one whose markup has.
+LITTLE_MEMORY = """
+import json, resource, sys
+import latex2mathml_proved._library as it
+
+it.ROOM_PER_BYTE = 0  # so that Python itself asks for little
+text = "x" * 4_000_000
+pages = int(open("/proc/self/statm").read().split()[0])
+limit = pages * resource.getpagesize() + 16_000_000
+resource.setrlimit(resource.RLIMIT_AS, (limit, limit))
+try:
+    it.formula(text)
+except MemoryError as error:
+    print(json.dumps([str(error), it.formula("x<y")]))
+"""
+
+# Imports the package where the system is another: its machine, or its C library.
+ELSEWHERE = """
+import json, sys
+import ctypes, platform
+
+def refuse(path):
+    raise OSError("no GLIBC_2.99")
+
+if json.load(sys.stdin) == "another machine":
+    platform.machine = lambda: "aarch64"
+else:
+    ctypes.CDLL = refuse
+try:
+    import latex2mathml_proved
+    print(json.dumps("imported"))
+except ImportError as error:
+    print(json.dumps(str(error)))
 """
 
 RENDER = """
@@ -89,6 +129,17 @@ class Wheel(Case):
             'note: Revealed type is "builtins.str"', 'note: Revealed type is "Union[builtins.str, None]"',
             'error: Argument 1 to "document" has incompatible type "bytes"; expected "str"  [arg-type]'])
 
+    @requires("mypy")
+    def test_oldest_python(self):
+        """The files of the package ask for no newer Python than its metadata and its README say."""
+        about = tomllib.loads((PACKAGE / "pyproject.toml").read_text(encoding="utf-8"))
+        oldest = about["project"]["requires-python"].removeprefix(">=")
+        self.assertIn(f"Python {oldest} or later", (PACKAGE / "README.md").read_text(encoding="utf-8"))
+        cache = self.enterContext(scratch())
+        done = run(["mypy", "--python-version", oldest, "--no-site-packages", "--ignore-missing-imports", "--check-untyped-defs",
+                    "--no-error-summary", "--cache-dir", cache, PACKAGE / "src/latex2mathml_proved", PACKAGE / "setup.py"])
+        self.expect(done, 0, b"", b"")
+
     def test_licence(self):
         """It comes with the package, as its terms ask."""
         with zipfile.ZipFile(wheel()) as packed:
@@ -96,18 +147,28 @@ class Wheel(Case):
             self.assertEqual(packed.read(licence), (ROOT / "LICENSE").read_bytes())
 
     def test_what_is_opened_is_closed(self):
-        """No file is left for the collector to close, of which it would warn."""
+        """Python would warn of a file that is left for the collector to close, and of one that is read as the locale has it."""
         script = ("import sys\nimport latex2mathml_proved.rendering as it\n"
                   "it.Renderer().render('x')\nit.Renderer().render('{')\nit.copy_page(sys.argv[1])")
         folder = self.enterContext(scratch()) / "site"
-        self.expect(run_python(environment(), "-W", "always::ResourceWarning", "-c", script, folder), 0, b"", b"")
+        options = ["-X", "warn_default_encoding", "-W", "always::ResourceWarning"]
+        self.expect(run_python(environment(), *options, "-c", script, folder), 0, b"", b"")
 
     def test_page_files(self):
-        """`python3 -m latex2mathml_proved FOLDER` copies them into a folder, even if it has them already."""
+        """`python3 -m latex2mathml_proved FOLDER` copies them into a folder, even if it has them already. Alone it says this."""
         folder = self.enterContext(scratch()) / "site"
         for _ in range(2):
             self.expect(run_python(environment(), "-m", "latex2mathml_proved", folder), stdout=b"")
         self.assertEqual(sorted(path.name for path in folder.iterdir()), ["latex2mathml.css", "latex2mathml.js"])
+        done = run_python(environment(), "-m", "latex2mathml_proved")
+        self.expect(done, 1, b"", None)
+        self.assertTrue(done.stderr.startswith(b"python3 -m latex2mathml_proved FOLDER: "), done.stderr)
+
+    def test_other_systems(self):
+        """Where the library does not run, the error of the import says what it needs."""
+        machine, library = (ask(environment(), ELSEWHERE, f"another {it}") for it in ("machine", "C library"))
+        self.assertEqual(machine, "latex2mathml_proved runs on Linux x86_64, and this is Linux aarch64")
+        self.assertRegex(library, "^latex2mathml_proved needs the GNU C library, .*: no GLIBC_2.99$")
 
 
 @requires_python()
@@ -147,6 +208,9 @@ class Calls(Case):
         little_room = "import latex2mathml_proved._library as it\nit.ROOM, it.ROOM_PER_BYTE = 1, 0\n"
         self.assertEqual(ask(environment(), little_room + CALLS, calls), [LESS_INLINE, ["Refused", True, OPEN], LESS_INLINE])
 
+    def test_little_memory(self):
+        self.assertEqual(ask(environment(), LITTLE_MEMORY, None), ["latex2mathml: out of memory", LESS_INLINE])
+
     def test_threads(self):
         self.assertIs(ask(environment(), THREADS, None), True)
 
@@ -177,12 +241,38 @@ class Names(unittest.TestCase):
                 self.assertTrue(all(f'Command("{name[1:]}")' in (fault or "").replace("\\", "") for fault in without), without)
                 self.assertIn(None, replaced)
 
+    def test_each_is_in_the_cases(self):
+        """cases/names.txt has each name, and in a formula of its own."""
+        self.assertEqual({f"\\{entry.name}" for entry in USUAL_NAMES}, set(usual_names()))
+        for entry in USUAL_NAMES:
+            self.assertIn(f"\\{entry.name}", re.findall(r"\\(?:[A-Za-z]+|.)", entry.formula), entry.line.place)
+
     def test_file_is_plain(self):
         """One name per line, and no escape except that of the backslash, so that a few lines of any language can read it."""
         lines = NAMES.read_text(encoding="utf-8").splitlines()
         self.assertEqual([lines[0], lines[-1]], ["{", "}"])
         for line in filter(None, lines[1:-1]):
             self.assertRegex(line, r'^"\\\\([A-Za-z]+|[^A-Za-z"\\])": "([^"\\]|\\\\)*",?$')
+
+
+@requires_python()
+class UsualNames(unittest.TestCase):
+    """Each line of cases/names.txt is a test, named by its line: the formula means what the name means in LaTeX."""
+
+    @classmethod
+    def setUpClass(cls):
+        answers = ask(environment(), RENDER, [[True, entry.formula] for entry in USUAL_NAMES])
+        cls.renderings = dict(zip(USUAL_NAMES, answers, strict=True))
+
+
+def test_of(entry):
+    def test(self):
+        self.assertEqual(self.renderings[entry], [MATH.format("inline", entry.contents), None], entry.line.place)
+    return test
+
+
+for each in USUAL_NAMES:
+    setattr(UsualNames, f"test_{each.line.number}", test_of(each))
 
 
 # Renders formulas, and answers how often the library was called for each.
@@ -225,6 +315,12 @@ class Renderings(unittest.TestCase):
         self.assertEqual(marked[1], 'a \\foo b \\bar: marked as an error: Undefined("Command(\\"foo\\")")')
         self.assertEqual(escaped[1], '\\<: marked as an error: Undefined("Command(\\"<\\")")')
         self.assertEqual(sound, [MATH.format("inline", "<mi>a</mi><mo>≤</mo><mi>b</mi>"), None])
+
+    def test_each_kind_of_mark(self):
+        """Also that of a sign that cannot be seen, as of a row break that lacks a backslash at the end of a line."""
+        marks = {"a & b": "Ampersand", "a \\\\ b": "NewLine", "a \\\nb": 'Undefined("Command(\\"\n\\")")', "x^": 'Undefined("EOF")'}
+        answers = ask(environment(), RENDER, [[False, latex] for latex in marks])
+        self.assertEqual([fault for _, fault in answers], [f"{latex}: marked as an error: {mark}" for latex, mark in marks.items()])
 
 
 def usual_names():

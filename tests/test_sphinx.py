@@ -26,9 +26,9 @@ class Project(Case):
         for name, text in pages.items():
             (self.source / f"{name}.rst").write_text(text, encoding="utf-8")
 
-    def build(self, *words, builder="html"):
-        """Builds the project anew."""
-        return run_python(environment("sphinx"), "-m", "sphinx", "-E", "-a", "-q", "-b", builder, *words, self.source, self.out, timeout=300)
+    def build(self, *words, builder="html", anew=("-E", "-a")):
+        """Builds the project, all of it unless `anew` is empty."""
+        return run_python(environment("sphinx"), "-m", "sphinx", *anew, "-q", "-b", builder, *words, self.source, self.out, timeout=300)
 
     def page(self, name="index"):
         return (self.out / f"{name}.html").read_text(encoding="utf-8")
@@ -67,6 +67,7 @@ class Markup(Project):
             (rf"\left({matrix}\right) {{{matrix}}}", 4, 8),
             (rf"a &= {matrix}", 3, 6),
             (r"a \& b", 0, 0),
+            (r"\{ a \rightarrow b \\ c \leftarrow d \}", 2, 2),
             (r"a \\\\ b", 3, 3),
         ]:
             with self.subTest(latex):
@@ -88,6 +89,10 @@ class Markup(Project):
             with self.subTest(option):
                 page, _ = self.page_of(CONF + f"latex2mathml_names = {option}\n", text)
                 self.assertEqual(re.findall(r'Command\(\\"(\w+)', page), marked)
+        with self.subTest("a build that brings the pages up to date"):
+            self.write(CONF + "latex2mathml_names = False\n")
+            self.expect(self.build(anew=()), 0, b"", None)
+            self.assertEqual(re.findall(r'Command\(\\"(\w+)', self.page()), ["R", "tfrac", "le"])
 
     def test_a_name_that_is_none(self):
         self.write(CONF + 'latex2mathml_names = {"R": "x"}\n', index="Title\n=====\n")
@@ -175,11 +180,22 @@ class Pages(Project):
         page, _ = self.page_of(CONF + "latex2mathml_page = False\n", ":math:`x`")
         self.assertEqual(self.links(page), [])
         self.assertFalse((self.out / "_static/latex2mathml.js").exists())
+        # and switched on, in a build that brings the pages up to date
+        self.write(CONF)
+        self.expect(self.build(anew=()), 0, b"", b"")
+        self.assertEqual(len(self.links(self.page())), 2)
+        self.assertTrue((self.out / "_static/latex2mathml.js").exists())
 
     def test_other_renderers_are_left_alone(self):
         page, _ = self.page_of('extensions = ["latex2mathml_proved.sphinx"]\nhtml_math_renderer = "mathjax"\n', ":math:`x`")
         self.assertEqual(self.links(page), [])
         self.assertIn(r"\(x\)", page)
+
+    def test_builders_without_renderers(self):
+        """They leave formulas as they are written."""
+        self.write(CONF, index="Title\n=====\n\n:math:`x<y`\n")
+        self.expect(self.build(builder="text"), 0, b"", b"")
+        self.assertIn("x<y", (self.out / "index.txt").read_text(encoding="utf-8"))
 
     def test_parallel(self):
         """Many pages, read and written by several processes, are the same as with one process."""

@@ -84,8 +84,8 @@ class Page:
     def line_of(self, number: int) -> Optional[int]:
         """The line of a formula, or None where the same text also stands elsewhere, as in code."""
         source = self.formulas[number].source
-        # the signs of lists and quotations at the beginning of a line were taken away
-        written = re.compile(_LINE_START.join(re.escape(line.strip()) for line in source.split("\n")))
+        # the signs of lists and quotations at the beginning of a line were taken away; other white space than spaces and tabs is kept
+        written = re.compile(_LINE_START.join(re.escape(line.strip(" \t")) for line in source.split("\n")))
         found = [it.start() for it in written.finditer(self.text)]
         same = [other for other, it in enumerate(self.formulas) if it.source == source]
         return self.text.count("\n", 0, found[same.index(number)]) + 1 if len(found) == len(same) else None
