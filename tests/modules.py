@@ -23,13 +23,11 @@ LIMIT = 900
 class Module:
     """A module of the tests, and what its cases came to.
 
-    In the module `ALONE = True` says that nothing may run beside it, `LONG = True` that it is to begin before the others, and
-    `LIMIT` how many seconds each of its classes has.
+    In the module `LONG = True` says that it is to begin before the others, and `LIMIT` how many seconds each of its classes has.
     """
 
     name: str
     parts: list
-    is_alone: bool = False
     is_long: bool = False
     limit: int = LIMIT
     left: int = 0
@@ -62,7 +60,7 @@ def module_of(name):
         # the worker says why
         return Module(name, [name])
     parts = [name] if len(words) > 2 else classes_of(loaded)
-    return Module(name, parts, getattr(loaded, "ALONE", False), getattr(loaded, "LONG", False), getattr(loaded, "LIMIT", LIMIT))
+    return Module(name, parts, getattr(loaded, "LONG", False), getattr(loaded, "LIMIT", LIMIT))
 
 
 def classes_of(module):
@@ -87,18 +85,16 @@ class Runs:
         self.is_stopped = False
 
     def run(self, modules):
-        beside = sorted((it for it in modules if not it.is_alone), key=lambda it: not it.is_long)
-        alone = [it for it in modules if it.is_alone]
         for module in modules:
             module.left = len(module.parts)
             if not module.parts:
                 self.report_failure(module, module.name, "it has no case")
                 self.report_end(module)
-        self.run_parts([(module, part) for module in beside for part in module.parts], len(os.sched_getaffinity(0)))
-        self.run_parts([(module, part) for module in alone for part in module.parts], 1)
+        longest_first = sorted(modules, key=lambda it: not it.is_long)
+        self.run_parts([(module, part) for module in longest_first for part in module.parts])
 
-    def run_parts(self, parts, at_once):
-        with concurrent.futures.ThreadPoolExecutor(at_once) as pool:
+    def run_parts(self, parts):
+        with concurrent.futures.ThreadPoolExecutor(len(os.sched_getaffinity(0))) as pool:
             runs = [pool.submit(self.run_part, *it) for it in parts]
             try:
                 while concurrent.futures.wait(runs, timeout=1).not_done:

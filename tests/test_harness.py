@@ -88,8 +88,8 @@ class Modules(unittest.TestCase):
         self.assertLess(screen.getvalue().index("\nlong: "), screen.getvalue().index("\nshort: "))
 
     def test_what_modules_set(self):
-        """A line that sets ALONE, LONG or LIMIT sets it of the module, and does not stand in a text or a class of it."""
-        names = ("ALONE", "LONG", "LIMIT")
+        """A line that sets LONG or LIMIT sets it of the module, and does not stand in a text or a class of it."""
+        names = ("LONG", "LIMIT")
         for module in every_name():
             text = (ROOT / f"{module.replace('.', '/')}.py").read_text(encoding="utf-8")
             written = {name for name in names if re.search(rf"^ *{name} = ", text, re.MULTILINE)}
