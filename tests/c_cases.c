@@ -214,6 +214,13 @@ static void judge_with_refusals(struct known_call known, const char *name, long 
 /* How many bytes such a call asks for, at most and in all: room for a short answer, and for the parts of a short formula. */
 enum { MOST_ASKED = 4096 };
 
+/* How many bytes such a call asks for, whose text needs less room than there is. */
+static size_t asked_for(enum conversion conversion, const char *text) {
+    refuse(0, -1);
+    answer_of(conversion, text, strlen(text), MOST_ASKED);
+    return bytes_asked;
+}
+
 static void memory(void) {
     long were_refused = 0;
     for (int i = 0; i < KNOWN; i++) {
@@ -226,6 +233,8 @@ static void memory(void) {
         judge(bytes_asked <= MOST_ASKED, known[i].name);
     }
     judge(were_refused > 50, "requests were refused");
+    /* room for the answer of a formula is asked for at once, and that of a document grows with it */
+    judge(asked_for(DOCUMENT, "$\\frac12$") <= asked_for(INLINE, "\\frac12"), "a document is converted once");
 }
 
 /* Each formula of standard input, with each request for memory refused in turn. */

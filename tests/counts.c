@@ -6,6 +6,8 @@
      peak       the most bytes that were held at once
      read       readings
      write      writings, but to standard error
+     errors     writings to standard error
+     sync       waits for the disk
      open       files and directories that were opened
      close      those that were closed */
 
@@ -31,7 +33,7 @@ extern void *__libc_realloc(void *, size_t);
 extern void *__libc_memalign(size_t, size_t);
 extern void __libc_free(void *);
 
-static long requests, held, readings, writings, openings, closings;
+static long requests, held, readings, writings, errors, syncs, openings, closings;
 static size_t bytes, peak;
 
 static void *count_block(void *block) {
@@ -97,8 +99,21 @@ ssize_t read(int file, void *room, size_t count) {
 }
 
 ssize_t write(int file, const void *from, size_t count) {
-    if (file != 2) writings++;
+    if (file == 2)
+        errors++;
+    else
+        writings++;
     return NEXT(write)(file, from, count);
+}
+
+int fsync(int file) {
+    syncs++;
+    return NEXT(fsync)(file);
+}
+
+int fdatasync(int file) {
+    syncs++;
+    return NEXT(fdatasync)(file);
 }
 
 static int count_file(int file) {
@@ -136,8 +151,9 @@ __attribute__((destructor)) static void tell(void) {
     if (file < 0) return;
     /* `dprintf` would ask for memory, which `faults.c` may refuse */
     char text[400];
-    int length = snprintf(text, sizeof text, "requests %ld\nheld %ld\npeak %zu\nread %ld\nwrite %ld\nopen %ld\nclose %ld\n",
-                          requests, held, peak, readings, writings, openings, closings);
+    int length = snprintf(text, sizeof text,
+                          "requests %ld\nheld %ld\npeak %zu\nread %ld\nwrite %ld\nerrors %ld\nsync %ld\nopen %ld\nclose %ld\n",
+                          requests, held, peak, readings, writings, errors, syncs, openings, closings);
     if (NEXT(write)(file, text, length) != length) _exit(125);
     NEXT(close)(file);
 }

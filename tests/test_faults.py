@@ -171,6 +171,16 @@ class Errors(Streams):
                 self.expect(done, 2, b"", USAGE[:taken])
                 self.assertEqual(source.read(), b"x")
 
+    def test_lines(self):
+        """Each line is written in one piece, so that the lines of several processes do not mix."""
+        with support.scratch() as folder:
+            for name in "abc":
+                (folder / f"{name}.html").write_bytes(b"$$$")
+            for words, given, lines in ((["inline"], b"{x", 1), (["inlines"], b"", 1), (["html", folder], b"", 3)):
+                with self.subTest(words[0]):
+                    done, counts = faulty.counts_of([support.program(), *words], stdin=given)
+                    self.assertEqual((done.stderr.count(b"\n"), counts["errors"]), (lines, lines))
+
     def test_inputs(self):
         for word, (given, _) in ((word, pair) for word, pairs in ANSWERS.items() for pair in pairs):
             for taken in self.each_end(UNREAD):

@@ -392,13 +392,15 @@ class Many(Folders):
         self.are_converted()
 
     def test_little_stack(self):
-        """No stack is taken for each name of a folder, nor for each line of what was not converted."""
+        """No stack is taken for each name of a folder, also one that is no text, nor for each line of what was not converted."""
         def limit():
             resource.setrlimit(resource.RLIMIT_STACK, (128 << 10, 128 << 10))
         self.make(20_000, text=b"$$$")
+        for number in range(20_000):
+            os.close(os.open(os.fsencode(self.site) + b"/%d\xff" % number, os.O_CREAT))
         done = support.run([support.program(), "html", self.site], preexec_fn=limit)
         self.expect(done, 1, b"", None)
-        self.assertEqual(done.stderr.count(UNPAIRED.encode()), 20_000)
+        self.assertEqual([done.stderr.count(fault.encode()) for fault in (UNPAIRED, BAD_ENTRY)], [20_000, 20_000])
 
 
 # What a file holds, and how often a walk asks for memory for it. The formulas of a file share the room for their parts: so 20 of
@@ -406,6 +408,8 @@ class Many(Folders):
 EACH_FILE = {b"$x$": 8, b"$x^2$": 11, b"$x^2$" * 20: 16, b"$\\frac12$" * 20: 16, b"no sign": 6, b"$$$": 10}
 # the names of a folder, and what was not converted: a list asks once more where it doubles
 MOST_DOUBLINGS = 6
+# a name of a folder: a block of memory for its text, and places in the list of names and in the room for sorting
+BYTES_OF_A_NAME = 128
 
 
 @support.requires("cc")
@@ -449,7 +453,8 @@ class Counts(Folders):
                 self.assertLessEqual(counts["read"], (size + 3) // 4096 + 2)
                 # the folder, and the file twice
                 self.assertLessEqual(counts["open"], 3)
-                self.assertEqual(counts["write"], 1)
+                # a wait for the disk takes longer than all else
+                self.assertEqual((counts["write"], counts["sync"]), (1, 0))
 
     def test_requests(self):
         """Memory is asked for a few times for each file, and for no list of a walk more than it doubles."""
@@ -457,6 +462,11 @@ class Counts(Folders):
             with self.subTest(text):
                 few, many = self.counts(100, 0, text), self.counts(500, 0, text)
                 self.assertLessEqual(many["requests"] - few["requests"], 400 * each + MOST_DOUBLINGS)
+
+    def test_names(self):
+        """A walk holds the names of one folder, and neither their paths nor more room than they need."""
+        few, many = self.counts(100, 0, b"no sign"), self.counts(1_100, 0, b"no sign")
+        self.assertLessEqual(many["peak"] - few["peak"], 1_000 * BYTES_OF_A_NAME)
 
     def test_unchanged_files_are_only_read(self):
         counts = self.counts(1, 0, b"no sign")

@@ -34,6 +34,11 @@ def between(before, piece, after):
     return lambda size: before.encode() + inner(size) + after.encode()
 
 
+def different_texts(size):
+    """A group of texts of which no two are equal."""
+    return b"{" + b"".join(b"\\text{%s}" % bytes(97 + number // 26**place % 26 for place in range(5)) for number in range(size // 12)) + b"}"
+
+
 def before_spaces(piece):
     """A text of a given size: this piece over and over, a letter, and as much white space. Each of what ends before white space
     looks for a mark behind it, and none may look through all of it again.
@@ -62,6 +67,7 @@ TEXTS = {
     "a long name": ("inline", between("\\operatorname{", "a", "}"), 25_000),
     "a long name of an environment": ("inline", between("\\begin{", "a", "}"), 25_000),
     "a group": ("inline", between("{", "a", "}"), 20_000),
+    "different texts of a group": ("inline", different_texts, 20_000),
     "a group in a style": ("inline", between("\\mathbf{", "a", "}"), 20_000),
     "a group between fences": ("inline", between("\\left(", "a", "\\right)"), 20_000),
     "cells": ("inline", between("\\begin{matrix}", "a&", "\\end{matrix}"), 20_000),

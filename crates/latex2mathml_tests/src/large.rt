@@ -54,10 +54,17 @@ fn faults(rt: HostRuntime) -> Result<(), Fail> {
     Ok(())
 }
 
-/// Gives as many bytes as there is room for. Takes all bytes, and counts them.
+/// Gives as many bytes as there is room for. Takes all bytes, and counts them and the calls.
 #[derive(Drop)]
 struct Pipe {
     taken: u64,
+    calls: u64,
+}
+
+impl Pipe {
+    fn new() -> Pipe {
+        Pipe { taken: 0, calls: 0 }
+    }
 }
 
 impl Read for Pipe {
@@ -70,6 +77,7 @@ impl Read for Pipe {
 impl Write for Pipe {
     fn write(&mut self, bytes: &[u8]) -> io::Result<usize> {
         self.taken = self.taken.saturating_add(bytes.len() as u64);
+        self.calls = self.calls.saturating_add(1);
         Ok(bytes.len())
     }
 
@@ -80,18 +88,18 @@ impl Write for Pipe {
 
 fn bytes_are_moved(alloc: Global, size: usize) -> Result<bool, AllocError> {
     let mut room = vec![in alloc; 0u8; size]?;
-    let mut source = stream(Pipe { taken: 0 });
+    let mut source = stream(Pipe::new());
     let given = source.take_in(room.as_mut_slice());
-    let mut sink = stream(Pipe { taken: 0 });
+    let mut sink = stream(Pipe::new());
     let taken = sink.put_out(room.as_slice());
     Ok(given == Some(size) && taken == Some(size) && sink.inner.taken == size as u64)
 }
 
 fn text_is_written(alloc: Global, size: usize) -> Result<bool, AllocError> {
     let text = repeat(alloc, 'x', size)?;
-    let mut sink = stream(Pipe { taken: 0 });
+    let mut sink = stream(Pipe::new());
     let ended = write_document(&mut sink, text.as_str());
-    Ok(ended == Ok(()) && sink.inner.taken == size as u64)
+    Ok(ended == Ok(()) && sink.inner.taken == size as u64 && sink.inner.calls == 1)
 }
 
 #[test]

@@ -156,19 +156,19 @@ fn writer_takes_nothing(rt: HostRuntime) {
     }
 }
 
-/// A reader that gives one byte per call, and ends.
+/// A reader that gives one byte per call, and ends. The rest of the room stays as it is.
 #[test]
 fn reader_gives(rt: HostRuntime) {
-    let mut room = [0u8; 4];
+    let mut room = [7u8; 4];
     let mut source = stream(Reader {
         bytes: b"ab",
         step: 1,
         calls_left: 9,
     });
     assert!(rt; source.take_in(&mut room) == Some(1));
-    assert!(rt; room[0] == b'a' && !source.failed && !source.ended);
+    assert!(rt; room == [b'a', 7, 7, 7] && !source.failed && !source.ended);
     assert!(rt; source.take_in(&mut room) == Some(1));
-    assert!(rt; room[0] == b'b' && !source.failed && !source.ended);
+    assert!(rt; room == [b'b', 7, 7, 7] && !source.failed && !source.ended);
     assert!(rt; source.take_in(&mut []) == Some(0));
     assert!(rt; !source.failed && !source.ended);
     assert!(rt; source.take_in(&mut room) == Some(0));

@@ -4,7 +4,7 @@
 use crate::samples::{Frame, Pair, Triple, Words, apply, leaf};
 use latex2mathml_nodes::ast::Node;
 use latex2mathml_tokens::LatexError;
-use latex2mathml_tokens::attribute::{Accent, ColumnAlign, LineThickness};
+use latex2mathml_tokens::attribute::{Accent, ColumnAlign, LineThickness, Variant};
 use latex2mathml_tokens::token::Token;
 use std::alloc::{AllocError, Global};
 use std::test::Fail;
@@ -168,6 +168,8 @@ fn wide_row(alloc: Global, count: usize, last: Node) -> Result<Node, AllocError>
     Ok(Node::Row(members))
 }
 
+const BOLD_LETTER: &str = "<mi mathvariant=\"bold\">x</mi>";
+
 /// Whether a text is these parts, one of them many times over.
 fn is_repeated(text: &str, before: &str, part: &str, count: usize, after: &str) -> bool {
     let Some(mut rest) = text.strip_prefix(before) else {
@@ -199,11 +201,72 @@ fn row_is_whole(alloc: Global, count: usize) -> Result<bool, AllocError> {
     Ok(copy == row && row != other && is_printed)
 }
 
+/// Whether such a row prints in bold once it has that style.
+fn row_is_styled(alloc: Global, count: usize) -> Result<bool, AllocError> {
+    let mut row = wide_row(alloc, count, leaf('<'))?;
+    row.set_variant(Variant::Bold);
+    let markup = row.to_string(alloc)?;
+    Ok(is_repeated(
+        markup.as_str(),
+        "<mrow>",
+        BOLD_LETTER,
+        count,
+        "<mo>&lt;</mo></mrow>",
+    ))
+}
+
+/// Whether a matrix of one row prints, which has so many letters in one cell.
+fn matrix_is_printed(alloc: Global, count: usize) -> Result<bool, AllocError> {
+    let mut members = Vec::new(alloc);
+    for _ in 0..count {
+        members.push(leaf('x'))?;
+    }
+    let markup = Node::Matrix(members, ColumnAlign::Center).to_string(alloc)?;
+    Ok(is_repeated(
+        markup.as_str(),
+        "<mtable><mtr><mtd>",
+        "<mi>x</mi>",
+        count,
+        "</mtd></mtr></mtable>",
+    ))
+}
+
 #[test]
 fn wide_rows(rt: HostRuntime) -> Result<(), Fail> {
     for count in [60_000, 1 << 20] {
         assert!(rt; row_is_whole(rt.alloc(), count)?, "{count}");
+        assert!(rt; row_is_styled(rt.alloc(), count)?, "{count}");
+        assert!(rt; matrix_is_printed(rt.alloc(), count)?, "{count}");
     }
+    Ok(())
+}
+
+/// A letter inside so many rows, each of which holds the next alone.
+fn nested_row(alloc: Global, levels: usize) -> Result<Node, AllocError> {
+    let mut x = leaf('x');
+    for _ in 0..levels {
+        x = Node::Row(between(alloc, None, x, None)?);
+    }
+    Ok(x)
+}
+
+const ROWS: usize = 64;
+
+/// Whether a nested row equals its copy, and prints with its letter in bold once it has that style. Each looks at a member
+/// once: twice would double the time with each level, and not end.
+fn nested_row_is_whole(alloc: Global) -> Result<bool, AllocError> {
+    let row = nested_row(alloc, ROWS)?;
+    let mut copy = row.clone(alloc)?;
+    let is_copied = copy == row;
+    copy.set_variant(Variant::Bold);
+    let markup = copy.to_string(alloc)?;
+    let length = ROWS * "<mrow></mrow>".len() + BOLD_LETTER.len();
+    Ok(is_copied && markup.as_str().contains(BOLD_LETTER) && markup.len() == length)
+}
+
+#[test]
+fn nested_rows(rt: HostRuntime) -> Result<(), Fail> {
+    assert!(rt; nested_row_is_whole(rt.alloc())?);
     Ok(())
 }
 
