@@ -221,7 +221,6 @@ class Formulas(unittest.TestCase):
             with self.subTest(text[:60]):
                 self.assertEqual((page.count("<math "), said), (formulas, []))
 
-
     def test_calls_of_functions(self):
         """Four times the text takes four times as many, also if its formulas are refused, or stand behind backslashes."""
         for pieces in (["${x$\n\n"], ["\\\\ ", "$a$ "]):
