@@ -1,6 +1,7 @@
 // Puts right in a page what browsers that draw MathML Core leave undone of latex2mathml's markup. It runs once the page
 // is read, and changes nothing where it ran before. For formulas that come later, call latex2mathml.mend(element).
-const latex2mathml = (() => {
+// A page may load it several times, as where each of its parts links it.
+var latex2mathml = latex2mathml ?? (() => {
     'use strict';
     const LATIN = 'ABCDEFGHIJKLMNOPQRSTUVWXYZabcdefghijklmnopqrstuvwxyz';
     const GREEK = 'ΑΒΓΔΕΖΗΘΙΚΛΜΝΞΟΠΡϴΣΤΥΦΧΨΩ∇αβγδεζηθικλμνξοπρςστυφχψω∂ϵϑϰϕϱϖ';

@@ -142,6 +142,16 @@ class Building(Case):
             self.expect(self.build(**{BUILD_NOTHING: "1"}), 1, b"", None)
         self.expect_calls(1)
 
+    def test_another_search_for_folders(self):
+        """CDPATH makes `cd` print the folder that it found, and may make it find another."""
+        self.build()
+        (self.folder / "elsewhere/tools").mkdir(parents=True)
+        for searched in (".", self.folder / "elsewhere"):
+            with self.subTest(searched):
+                environment = {**os.environ, BUILD_NOTHING: "1", "CDPATH": str(searched)}
+                done = run(["tools/built", "high"], cwd=self.house, env=environment)
+                self.expect(done, stdout=f"{self.house}/crates/high/out/high\n".encode())
+
     def test_no_such_crate(self):
         self.expect(self.build("nothing"), 1, b"", b"built: crates.txt names no crate nothing\n")
 

@@ -54,6 +54,33 @@ print(json.dumps([md.reset().convert(text) for text in json.load(sys.stdin)]))
 """
 
 
+# Counts the calls of functions, of Python and of C, that the conversion of texts takes: each piece so many times, one after another.
+CALLS = """
+import json, logging, sys
+import markdown
+
+logging.disable()
+calls = 0
+
+def count(frame, event, argument):
+    global calls
+    calls += event in ("call", "c_call")
+
+def calls_of(text):
+    global calls
+    calls = 0
+    sys.setprofile(count)
+    markdown.markdown(text, extensions=["latex2mathml"])
+    sys.setprofile(None)
+    return calls
+
+pieces, times = json.load(sys.stdin)
+# the first conversion also loads the extension
+calls_of("${x$")
+print(json.dumps([calls_of("".join(piece * count for piece in pieces)) for count in times]))
+"""
+
+
 def convert(*texts, options=None, others=(), **more):
     """The pages of texts, without links, and the log of each."""
     return ask(environment("markdown"), CONVERT, [[text, {"page": False, **(options or {})}, others] for text in texts], **more)
@@ -162,6 +189,16 @@ class Formulas(unittest.TestCase):
             '<p title="$x$">$y$</p>': '<p title="$x$">$y$</p>',
         })
 
+    def test_addresses(self):
+        """An address between angle brackets is one, as without the extension."""
+        address = "https://h/?$filter=a&$top=5"
+        link = f'<a href="{address}">{address}</a>'.replace("&", "&amp;")
+        self.check({
+            f"a <{address}> b": f"<p>a {link} b</p>",
+            f"$x$<{address}>$y$": f"<p>[x]{link}[y]</p>",
+            "$a<http://b$ >": "<p>[a&lt;http://b] &gt;</p>",
+        })
+
     def test_other_extensions(self):
         self.check({
             "| a | b |\n|---|---|\n| $x$ | $\\vert y \\vert$ |":
@@ -183,6 +220,13 @@ class Formulas(unittest.TestCase):
         for (text, formulas), (page, said) in zip(texts.items(), pages, strict=True):
             with self.subTest(text[:60]):
                 self.assertEqual((page.count("<math "), said), (formulas, []))
+
+    def test_calls_of_functions(self):
+        """Four times the text takes four times as many, also if its formulas are refused, or stand behind backslashes."""
+        for pieces in (["${x$\n\n"], ["\\\\ ", "$a$ "]):
+            with self.subTest(pieces):
+                few, many = ask(environment("markdown"), CALLS, [pieces, [100, 400]])
+                self.assertLessEqual(many, 4.1 * few, f"{few:,} for 100 pieces")
 
 
 @requires_python("markdown")
@@ -227,6 +271,19 @@ class Options(unittest.TestCase):
         spaces, formula = "$$\n" + "    \n" * 30 + "x\n\n", "$$\n" + "\u00a0\n" * 30 + "{b\n$$"
         [[_, [said]]] = convert(spaces + formula, timeout=20)
         self.assertEqual(said, f"latex2mathml: line 34: {{b: {OPEN}")
+
+    def test_lines_that_end_otherwise(self):
+        """The line of a formula is found whatever ends the lines, and where it has tabs."""
+        quotation, item = "> $$\n> {x\n> $$", "\t$$\n\t{x\ty\n\t$$"
+        cases = {f"a\n\n{quotation}".replace("\n", "\r\n"): 3, "a\r\rb\r${x$": 4, "a\n\nb ${\tx\ty$": 3, f"- a\n\n{item}": 3}
+        for text, line in cases.items():
+            with self.subTest(text):
+                [[_, [said]]] = convert(text)
+                self.assertTrue(said.startswith(f"latex2mathml: line {line}: {{"), said)
+
+    def test_lines_of_formulas_that_are_written_alike(self):
+        [[_, said]] = convert("${x$ and ${x$\n\n" * 50)
+        self.assertEqual(said, [f"latex2mathml: line {line}: {{x: {OPEN}" for line in range(1, 100, 2) for _ in range(2)])
 
     def test_marked(self):
         [[page, said]] = convert("a\n$\\foo$")

@@ -28,6 +28,21 @@ console.log(JSON.stringify(cases.map(([name, words]) => {
 })));
 """
 
+# Stands for the library. Each answer has more bytes than a string of Node can have characters, and nobody reads them.
+LONG_ANSWERS = """
+#include "latex2mathml.h"
+static uint32_t answer(size_t out_len, size_t *needed) {
+    *needed = 1u << 30;
+    return out_len < *needed ? LATEX2MATHML_TOO_SMALL : LATEX2MATHML_DONE;
+}
+uint32_t latex2mathml_formula(const char *latex, size_t latex_len, bool block, char *out, size_t out_len, size_t *needed) {
+    return answer(out_len, needed);
+}
+uint32_t latex2mathml_document(const char *document, size_t document_len, char *out, size_t out_len, size_t *needed) {
+    return answer(out_len, needed);
+}
+"""
+
 # Reads [Markdown, options, env] and prints the HTML and the warnings of each, or the error.
 RENDERER = """
 const markdownIt = require('markdown-it');
@@ -173,6 +188,20 @@ class Calls(Package):
 
     def test_half_a_character(self):
         self.assertEqual(self.call(("formula", ["\ud835"])), [answer_of("\ufffd")])
+
+    def test_an_answer_longer_than_a_string(self):
+        """It is an error, and not a call that returns nothing. The library is another here, which asks for that much room."""
+        package = self.copy("long")
+        (package / "long.c").write_text(LONG_ANSWERS)
+        library = package / "lib/liblatex2mathml.a"
+        library.unlink()
+        run(["cc", "-c", "-I", package / "lib", package / "long.c", "-o", package / "long.o"], check=True)
+        run(["ar", "rcs", library, package / "long.o"], check=True)
+        run([package / "make-addon"], check=True)
+        for name in ("formula", "document"):
+            with self.subTest(name):
+                answers = self.node(CALLER, package, cases=[(name, ["x"])])
+                self.assertEqual(answers, [[False, "RangeError", "The answer is longer than a string of Node can be."]])
 
     def test_modules_and_workers(self):
         answer = self.node("""

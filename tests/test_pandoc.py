@@ -160,6 +160,16 @@ class Filter(Case):
         self.assertIn("<title>The case x&lt;y</title>", page)
         self.assertRegex(page, r'<h1 class="title">The\s+case\s+' + re.escape(answer_of("x<y")) + "</h1>")
 
+    def test_images(self):
+        """The text that stands for an image has formulas as pandoc itself has them there. Its caption has the markup."""
+        source = "![The $x<y$](i.png)\n\na ![$x<y$](i.png) b ![$x<y$](i.png){alt=own} c ![d](i.png)"
+        page = self.page(source, "-t", "html")
+        of_pandoc = run(["pandoc", "-t", "html", "--mathml"], stdin=source.encode()).stdout.decode()
+        texts = ["The x&lt;y", "x&lt;y", "own", "d"]
+        for each in (of_pandoc, page):
+            self.assertEqual(re.findall(r'alt="([^"]*)"', each), texts)
+        self.assertRegex(page, r"<figcaption[^>]*>The\s+" + re.escape(answer_of("x<y")))
+
     def test_other_formats(self):
         for form, wanted in (("latex", "\\(x<y\\)"), ("rst", ":math:`x<y`"), ("markdown", "$x<y$")):
             with self.subTest(form):

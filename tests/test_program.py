@@ -55,6 +55,16 @@ class Launcher(Case):
         done = run([house / "latex2mathml", "inline"], stdin=b"x<y", env={**os.environ, BUILD_NOTHING: "1"})
         self.expect(done, stdout=INLINE + b"\n")
 
+    def test_a_link_to_it(self):
+        """A folder of the path may have a link to it."""
+        program()  # is built first
+        link = self.enterContext(scratch()) / "latex2mathml"
+        link.symlink_to(LAUNCHER)
+        for words, more in (([link], {}), (["sh", "latex2mathml"], {"cwd": link.parent})):
+            with self.subTest(words):
+                done = run([*words, "inline"], stdin=b"x<y", env={**os.environ, BUILD_NOTHING: "1"}, **more)
+                self.expect(done, stdout=INLINE + b"\n")
+
 
 class Formulas(Case):
     def test_answered(self):

@@ -89,6 +89,20 @@ except ImportError as error:
     print(json.dumps(str(error)))
 """
 
+# Copies the page files, where those of the package may only be read, and says which of the copies may be written.
+READ_ONLY = """
+import json, pathlib, shutil, sys
+import latex2mathml_proved.rendering as it
+
+folder = pathlib.Path(json.load(sys.stdin))
+it.PAGE = shutil.copytree(it.PAGE, folder / "page")
+for path in (*it.PAGE.iterdir(), it.PAGE):
+    path.chmod(0o555)
+site = folder / "a" / "site"
+it.copy_page(site)
+print(json.dumps([bool(path.stat().st_mode & 0o200) for path in (site, *site.iterdir())]))
+"""
+
 RENDER = """
 import json, sys
 from latex2mathml_proved.rendering import Renderer
@@ -163,6 +177,11 @@ class Wheel(Case):
         done = run_python(environment(), "-m", "latex2mathml_proved")
         self.expect(done, 1, b"", None)
         self.assertTrue(done.stderr.startswith(b"python3 -m latex2mathml_proved FOLDER: "), done.stderr)
+
+    def test_page_files_that_may_only_be_read(self):
+        """Their copies may be written, so that the next build can copy them again."""
+        folder = self.enterContext(scratch())
+        self.assertEqual(ask(environment(), READ_ONLY, str(folder)), [True, True, True])
 
     def test_other_systems(self):
         """Where the library does not run, the error of the import says what it needs."""

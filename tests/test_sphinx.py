@@ -242,6 +242,11 @@ class Faults(Project):
         self.assertIn("<mi>d</mi>", page)
         self.assertEqual(self.warnings(said), [(5, f"{{x<y: {OPEN}"), (8, f"{{a: {OPEN}"), (10, f"{{b &= c: {OPEN}")])
 
+    def test_lines_of_a_paragraph(self):
+        """Formulas that are written alike have a line each. One that is not written in the paragraph has the paragraph's."""
+        _, said = self.page_of(CONF, "One :math:`{x`\ntwo :math:`{x`\nthree |z|\nfour :math:`{x`.\n\n.. |z| replace:: :math:`{z`")
+        self.assertEqual([(line, text[:2]) for line, text in self.warnings(said)], [(4, "{x"), (5, "{x"), (4, "{z"), (7, "{x")])
+
     def test_marked(self):
         page, said = self.page_of(CONF, ":math:`a \\foo b`")
         self.assertIn('<mtext>[PARSE ERROR: Undefined("Command(\\"foo\\")")]</mtext>', page)

@@ -301,6 +301,16 @@ local function convert_document(document)
   return document
 end
 
+--- Gives an image the text that stands for it, in which formulas stand as they were written: no markup stands there.
+local function keep_alt(image)
+  local has_math = false
+  pandoc.walk_inline(image, {Math = function() has_math = true end})
+  if has_math and not image.attributes.alt then
+    image.attributes.alt = pandoc.utils.stringify(image.caption)
+    return image
+  end
+end
+
 local function replace(math)
   return places[key(math)]
 end
@@ -308,4 +318,4 @@ end
 local IS_HTML = FORMAT:match('^html') or FORMAT:match('^epub') or FORMAT:match('^chunkedhtml') or
   FORMAT:match('^s5') or FORMAT:match('^slid') or FORMAT:match('^dzslides') or FORMAT:match('^revealjs')
 
-return IS_HTML and {{Math = collect}, {Pandoc = convert_document}, {Math = replace}} or {}
+return IS_HTML and {{Math = collect, Image = keep_alt}, {Pandoc = convert_document}, {Math = replace}} or {}

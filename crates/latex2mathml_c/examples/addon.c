@@ -49,11 +49,13 @@ static struct text convert(enum kind kind, struct text text, uint32_t *code) {
     return answer;
 }
 
-/* The answer as the value that is returned, or as an error that is thrown. */
+/* The answer as the value that is returned, or as an error that is thrown: also where Node has no string of its length. */
 static napi_value result_of(napi_env env, uint32_t code, struct text answer) {
     napi_value value, name, error;
-    if (napi_create_string_utf8(env, answer.bytes, answer.length, &value) != napi_ok)
+    if (napi_create_string_utf8(env, answer.bytes, answer.length, &value) != napi_ok) {
+        napi_throw_range_error(env, "ERR_STRING_TOO_LONG", "The answer is longer than a string of Node can be.");
         return NULL;
+    }
     if (code == LATEX2MATHML_DONE)
         return value;
     if (napi_create_string_utf8(env, "LATEX2MATHML_REFUSED", NAPI_AUTO_LENGTH, &name) == napi_ok &&

@@ -15,7 +15,7 @@ from markdown.blockprocessors import BlockProcessor
 from markdown.extensions import Extension
 from markdown.inlinepatterns import InlineProcessor
 from markdown.postprocessors import Postprocessor
-from markdown.preprocessors import Preprocessor
+from markdown.preprocessors import NormalizeWhitespace, Preprocessor
 from markdown.treeprocessors import Treeprocessor
 from markdown.util import ETX, STX, AtomicString
 
@@ -33,9 +33,6 @@ _INLINE = (
     rf"|\$(?P<inline>(?!\s){_CHARACTER}+?(?<!\s))\$(?![0-9])"
 )
 _BLOCK = re.compile(rf"^[ ]{{0,3}}\$\$(?P<block>{_CHARACTER}+?)\$\$[ ]*$", re.MULTILINE)
-
-# Between two lines of a formula, with what the lines of a list or a quotation begin with.
-_LINE_START = r"[ \t]*\n[ \t>]*"
 
 # The lines of a list are parsed again, item by item.
 _LIST = re.compile(r"[ ]{0,3}(?:[*+-]|[0-9]+\.)[ ]")
@@ -67,13 +64,26 @@ class Page:
     """The page at hand: its text, and its formulas in the order in which they were found."""
 
     def __init__(self) -> None:
-        self.text = ""
         self.formulas: List[Formula] = []
+        self._text = ""
+        self._numbers: Dict[str, List[int]] = {}  # of the formulas that are written alike
+        self._lines: Dict[int, Optional[int]] = {}
+
+    def begin(self, lines: List[str]) -> None:
+        """Keeps the lines of the page, to tell those of formulas."""
+        self._text = bare(lines)
+        self._lines.clear()
+
+    def clear(self) -> None:
+        self.formulas.clear()
+        self._numbers.clear()
+        self._lines.clear()
 
     def place(self, source: str, latex: str, block: bool, tag: str) -> etree.Element:
         """The element that stands for a formula. `source` is the formula with its dollar signs, and `tag` that of its element."""
         element = etree.Element(NAME)
         element.text = AtomicString(f"{STX}{NAME}:{len(self.formulas)}{ETX}")
+        self._numbers.setdefault(source, []).append(len(self.formulas))
         self.formulas.append(Formula(source, latex, block, tag))
         return element
 
@@ -83,12 +93,25 @@ class Page:
 
     def line_of(self, number: int) -> Optional[int]:
         """The line of a formula, or None where the same text also stands elsewhere, as in code."""
-        source = self.formulas[number].source
-        # the signs of lists and quotations at the beginning of a line were taken away; other white space than spaces and tabs is kept
-        written = re.compile(_LINE_START.join(re.escape(line.strip(" \t")) for line in source.split("\n")))
-        found = [it.start() for it in written.finditer(self.text)]
-        same = [other for other, it in enumerate(self.formulas) if it.source == source]
-        return self.text.count("\n", 0, found[same.index(number)]) + 1 if len(found) == len(same) else None
+        if number not in self._lines:
+            self._find_lines(self.formulas[number].source)
+        return self._lines[number]
+
+    def _find_lines(self, source: str) -> None:
+        """Finds the lines of all formulas that are written alike at once, since there may be many."""
+        numbers = self._numbers[source]
+        starts = [found.start() for found in re.finditer(re.escape(bare(source.split("\n"))), self._text)]
+        self._lines.update(dict.fromkeys(numbers))
+        if len(starts) == len(numbers):
+            line = 1
+            for number, before, start in zip(numbers, [0, *starts], starts):
+                line += self._text.count("\n", before, start)
+                self._lines[number] = line
+
+
+def bare(lines: List[str]) -> str:
+    """The lines without the signs of lists and quotations at their beginnings, which Python-Markdown takes away."""
+    return "\n".join(line.lstrip(" >").rstrip(" ") for line in lines)
 
 
 class PageText(Preprocessor):
@@ -99,7 +122,8 @@ class PageText(Preprocessor):
         self._page = page
 
     def run(self, lines: List[str]) -> List[str]:
-        self._page.text = "\n".join(lines)
+        # with line ends and tabs as Python-Markdown reads them later
+        self._page.begin(NormalizeWhitespace(self.md).run(lines))
         return lines
 
 
@@ -133,10 +157,9 @@ class InlineFormulas(InlineProcessor):
         self._page = page
 
     def handleMatch(self, m: Any, data: str) -> Tuple[Any, Optional[int], Optional[int]]:
-        if m[0] == r"\$":
-            return "$", m.start(), m.end()
-        if m[0] == r"\\":
-            return None, None, None
+        if m[0].startswith("\\"):
+            # two backslashes too: if they were left, they would be found again for each formula behind them
+            return m[0][1], m.start(), m.end()
         block = m["block"] is not None
         return self._page.place(m[0], m["block"] if block else m["inline"], block, tag="span"), m.start(), m.end()
 
@@ -151,6 +174,8 @@ class Conversion(Treeprocessor):
         self._strict = strict
 
     def run(self, root: etree.Element) -> None:
+        for link in list(root.iter("a")):
+            self._restore_address(link)
         for element in root.iter():
             for name, value in element.items():
                 element.set(name, self._page.restore(value))
@@ -159,6 +184,14 @@ class Conversion(Treeprocessor):
                 self._convert(element, int(place[1]))
         stash = self.md.htmlStash.rawHtmlBlocks
         stash[:] = [self._page.restore(raw) if isinstance(raw, str) else raw for raw in stash]
+
+    def _restore_address(self, link: etree.Element) -> None:
+        """Gives a link that shows its address the address as it was written."""
+        if len(link):
+            shown = self._page.restore("".join(link.itertext()))
+            if shown == self._page.restore(link.get("href", "")):
+                link[:] = []
+                link.text = AtomicString(shown)
 
     def _convert(self, element: etree.Element, number: int) -> None:
         """Puts the markup of a formula into its element."""
@@ -217,7 +250,7 @@ class Latex2MathML(Extension):
             md.postprocessors.register(PageLinks(md, page, folder), NAME, _LAST)
 
     def reset(self) -> None:
-        self._page.formulas.clear()
+        self._page.clear()
 
 
 def makeExtension(**options: Any) -> Latex2MathML:

@@ -63,4 +63,8 @@ def links(folder: str) -> str:
 
 def copy_page(folder: Union[str, pathlib.Path]) -> None:
     """Puts the style sheet and the script into a folder, which is made where it is missing."""
-    shutil.copytree(PAGE, folder, dirs_exist_ok=True)
+    to = pathlib.Path(folder)
+    to.mkdir(parents=True, exist_ok=True)
+    for name in (STYLE_SHEET, SCRIPT):
+        # without the rights, since those of the package may be only to read, and the next build writes them again
+        shutil.copyfile(PAGE / name, to / name)

@@ -94,8 +94,20 @@ def place_of(node: nodes.Element) -> str:
     file = os.path.abspath(above.source or node.document["source"])
     if above.line is None:
         return file
-    lines_before = 0 if above is node else above.rawsource.partition(node.rawsource)[0].count("\n")
-    return f"{file}:{above.line + lines_before}"
+    return f"{file}:{above.line + lines_before(above, node)}"
+
+
+def lines_before(above: nodes.Element, node: nodes.Element) -> int:
+    """How many lines of a paragraph are before a formula in it: none if it is not written there, as that of a substitution."""
+    source, written = above.rawsource, node.rawsource
+    places = source.count(written) if written and above is not node else 0
+    if places == 0:
+        return 0
+    number = 0
+    if places > 1:
+        alike = [it for it in above.findall(type(node)) if it.rawsource == written]
+        number = min(alike.index(node), places - 1)
+    return written.join(source.split(written)[:number + 1]).count("\n")
 
 
 def align(latex: str) -> str:
