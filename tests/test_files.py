@@ -250,7 +250,6 @@ class Rights(Walks):
 @support.requires("cc")
 class NoFiles(Walks):
     """What is neither a file nor a directory is left alone, whatever its name is, and not opened: that might never end."""
-    SECONDS = 10
 
     def is_left_alone(self, make):
         """Makes something at a path, and walks the folder with it, and then the path alone."""
@@ -261,7 +260,7 @@ class NoFiles(Walks):
         # both folders are opened, and each file twice
         for name, top, opened in (("in a folder", self.site, 2 + 2 * len(FILES)), ("alone", path, 0)):
             with self.subTest(name):
-                done, counts = faulty.counts_of([faulty.program(), "html", top], timeout=self.SECONDS)
+                done, counts = faulty.counts_of([faulty.program(), "html", top])
                 self.holds(done)
                 self.assertEqual(counts["open"], opened)
                 self.assertEqual((path.lstat().st_mode, path.lstat().st_ino), (before.st_mode, before.st_ino))
@@ -288,23 +287,32 @@ class Full(Walks):
         self.assertIn(len(held), range(1, len(X) * self.COUNT))
         self.holds(done, [(f"/{file}", STOPPED.format(len(held)))], {file: held})
 
+    @support.requires("cc")
     def test_device(self):
+        """Where this user may mount no device, as in a container, a call that writes fails as for a full one."""
         self.anew()
         device = self.site / "device"
         device.mkdir()
-        if support.run(["mount", "-t", "tmpfs", "-o", "size=16k", "tmpfs", device]).returncode:
-            self.skipTest("this user may not mount a device")
+        is_mounted = not support.run(["mount", "-t", "tmpfs", "-o", "size=16k", "tmpfs", device]).returncode
+
+        def run_full(*words, number, **more):
+            if is_mounted:
+                return support.run([faulty.program(), *words], **more)
+            return faulty.run_with([faulty.program(), *words], fault=Fault("write", number, number, 28), step=4096, **more)[0]
+
         try:
             (device / "full.html").write_bytes(b"$x$" * self.COUNT)
-            self.is_cut(support.run([faulty.program(), "html", self.site]), "device/full.html")
+            # a.html is written before it
+            self.is_cut(run_full("html", self.site, number=4), "device/full.html")
             (device / "full.html").unlink()
             with open(device / "out", "wb") as output:
-                done = support.run([faulty.program(), "document"], stdin=b"$x$" * self.COUNT, stdout=output)
+                done = run_full("document", number=4, stdin=b"$x$" * self.COUNT, stdout=output)
             held = (device / "out").read_bytes()
             self.assertTrue((X * self.COUNT).startswith(held))
             self.expect(done, 1, None, ERROR + STOPPED.format(len(held)).encode() + b"\n")
         finally:
-            support.run(["umount", device])
+            if is_mounted:
+                support.run(["umount", device])
 
     def test_limit(self):
         """The system tells of the limit by a signal that ends a program, unless it is ignored as here, and then by an error."""
@@ -396,7 +404,8 @@ class Many(Folders):
         def limit():
             resource.setrlimit(resource.RLIMIT_STACK, (128 << 10, 128 << 10))
         self.make(20_000, text=b"$$$")
-        done = support.run([support.program(), "html", self.site], preexec_fn=limit)
+        # the variables of an environment would take a part of the stack
+        done = support.run([support.program(), "html", self.site], preexec_fn=limit, env={})
         self.expect(done, 1, b"", None)
         self.assertEqual(done.stderr.count(UNPAIRED.encode()), 20_000)
 
