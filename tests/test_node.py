@@ -194,21 +194,30 @@ class Calls(Package):
             const call = (convert, text) => { try { convert(text); } catch { } };
             const long = 'x'.repeat(300_000);
             const texts = [[formula, long], [formula, '{' + long], [document, long], [document, '$' + long]];
-            const held = texts.map(([convert, text]) => {
-                const resident = count => {
-                    for (let i = 0; i < count; i++) call(convert, text);
+            // The engine gives memory back in threads of its own, which a busy machine delays: so the least of some readings counts.
+            const clock = new Int32Array(new SharedArrayBuffer(4));
+            const resident = (convert, text, count, readings, enough) => {
+                for (let i = 0; i < count; i++) call(convert, text);
+                let least = Infinity;
+                for (let i = 0; i < readings && least >= enough; i++) {
+                    Atomics.wait(clock, 0, 0, 20);
                     global.gc();
-                    return process.memoryUsage().rss;
-                };
-                return -resident(20) + resident(200);
+                    least = Math.min(least, process.memoryUsage().rss);
+                }
+                return least;
+            };
+            const held = texts.map(([convert, text]) => {
+                const few = resident(convert, text, 20, 5, 0);
+                return resident(convert, text, 200, 500, few + MOST) - few;
             });
             console.log(JSON.stringify(held));
         """
-        done = run(["node", "--expose-gc", "-e", script, "--", self.package], timeout=300)
+        most = 100 * 300_000
+        done = run(["node", "--expose-gc", "-e", script.replace("MOST", str(most)), "--", self.package], timeout=300)
         self.expect(done)
         for kind, grown in zip(("a formula", "a refused formula", "a document", "a refused document"), json.loads(done.stdout), strict=True):
             with self.subTest(kind):
-                self.assertLess(grown, 100 * 300_000)
+                self.assertLess(grown, most)
 
     def test_names(self):
         cases = json.loads((ROOT / "integrations/names-cases.json").read_text())
@@ -429,8 +438,9 @@ class MarkdownIt(Package):
         for word, found in (("NAMES", names), ("OPTIONS", options)):
             head = head.replace(word, json.dumps(dict.fromkeys(found, 0)))
         (self.project / "calls.ts").write_text("\n".join([head, *taken, *refused, ""]))
-        flags = ["--noEmit", "--strict", "--lib", "es5", "--module", "node16", "--moduleResolution", "node16"]
-        done = run(["tsc", *flags, "calls.ts"], cwd=self.project)
+        # no types of packages that the system has
+        flags = ["--noEmit", "--strict", "--lib", "es5", "--types", "", "--module", "node16", "--moduleResolution", "node16"]
+        done = run(["tsc", *flags, "calls.ts"], cwd=self.project, timeout=300)
         first = head.count("\n") + 2
         faults = {}
         for file, line, fault in re.findall(r"^(\S.*)\((\d+),\d+\): (error .*)$", done.stdout.decode(), re.MULTILINE):
