@@ -49,7 +49,8 @@ class Dist(Case):
         # as old as it is, since a program that is older is built anew
         shutil.copy2(ROOT / "crates.txt", house)
         for name in ("tools", "integrations"):
-            shutil.copytree(ROOT / name, house / name)
+            # other tests may be writing what Python compiles there
+            shutil.copytree(ROOT / name, house / name, ignore=shutil.ignore_patterns("__pycache__"))
         return house
 
     def run_there(self, *words, **more):
