@@ -6,6 +6,7 @@ import functools
 import importlib.util
 import os
 import pathlib
+import resource
 import shutil
 import subprocess
 import tempfile
@@ -102,6 +103,11 @@ def run(words, *, stdin=b"", timeout=60, **more):
     for stream in ("stdout", "stderr"):
         more.setdefault(stream, subprocess.PIPE)
     return subprocess.run([os.fspath(word) for word in words], timeout=timeout, **given, **more)
+
+
+def limit_processor(seconds):
+    """A `preexec_fn` for `run`: it ends a command that takes more than these seconds of a processor, however busy the machine is."""
+    return lambda: resource.setrlimit(resource.RLIMIT_CPU, (seconds, seconds))
 
 
 @contextlib.contextmanager

@@ -8,7 +8,7 @@ import shutil
 import unittest
 
 from tests.integration import UNCLOSED, answer_of
-from tests.support import ROOT, Case, c_library, requires, run, scratch
+from tests.support import ROOT, Case, c_library, limit_processor, requires, run, scratch
 
 LONG = True
 
@@ -290,8 +290,8 @@ class MarkdownIt(Package):
         (cls.project / "node_modules").mkdir(parents=True)
         (cls.project / "node_modules/latex2mathml-proved").symlink_to(cls.package)
 
-    def render(self, *cases, timeout=60):
-        return self.node(RENDERER, self.package, cases=cases, timeout=timeout)
+    def render(self, *cases, **more):
+        return self.node(RENDERER, self.package, cases=cases, **more)
 
     def content(self, source, **options):
         """The page of a source that raises no warning, without the links."""
@@ -415,10 +415,11 @@ class MarkdownIt(Package):
         self.assertEqual(self.node(script, self.package), f"a {answer_of('x<y')}\n")
 
     def test_texts_that_are_slow_to_read(self):
+        slow = {"preexec_fn": limit_processor(30), "timeout": 300}
         for source in ("$a$ $$ $ [ ", "$a$\n", "$$\n", "$$\na\n", "$ ", "\\$", "`$", "- $$\n", "> $$ "):
             with self.subTest(source):
-                self.render((source * 20_000, {"names": False, "warn": None}, {}), timeout=30)
-        self.render(("$$\n" + "a\n" * 50_000, {}, {}), ("$" + "a " * 50_000, {}, {}), timeout=30)
+                self.render((source * 20_000, {"names": False, "warn": None}, {}), **slow)
+        self.render(("$$\n" + "a\n" * 50_000, {}, {}), ("$" + "a " * 50_000, {}, {}), **slow)
 
     def test_the_readme(self):
         """Its lines of JavaScript. What the last one of each returns is printed."""
@@ -438,8 +439,8 @@ class MarkdownIt(Package):
         for word, found in (("NAMES", names), ("OPTIONS", options)):
             head = head.replace(word, json.dumps(dict.fromkeys(found, 0)))
         (self.project / "calls.ts").write_text("\n".join([head, *taken, *refused, ""]))
-        # no types of packages that the system has
-        flags = ["--noEmit", "--strict", "--lib", "es5", "--types", "", "--module", "node16", "--moduleResolution", "node16"]
+        # the types of packages that the system may have stand in no such folder
+        flags = ["--noEmit", "--strict", "--lib", "es5", "--typeRoots", "none", "--module", "node16", "--moduleResolution", "node16"]
         done = run(["tsc", *flags, "calls.ts"], cwd=self.project, timeout=300)
         first = head.count("\n") + 2
         faults = {}
