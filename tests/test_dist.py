@@ -169,7 +169,8 @@ class Dist(Case):
 
     @requires("cargo")
     def test_the_crate_for_rust(self):
+        environment = {**os.environ, "CARGO_HOME": str(self.enterContext(scratch()))}
         done = run(["cargo", "run", "--quiet", "--offline", "--example", "page"], stdin=b"$x<y$", cwd=self.dist / "integrations/rust",
-                   timeout=300)
+                   env=environment, timeout=300)
         self.expect(done, stdout=None)
         self.assertIn(INLINE.encode(), done.stdout)
