@@ -241,7 +241,7 @@ class Calls(Package):
 
     def test_headers_elsewhere(self):
         """NODE_HEADERS names their folder, and they are looked for nowhere else."""
-        built, headers = self.copy("beside-headers"), self.folder / "headers"
+        built, headers = self.copy("beside-headers"), self.folder / "the headers"
         headers.mkdir()
         environment = {**os.environ, "NODE_HEADERS": str(headers)}
         with self.subTest("they are not there"):
