@@ -5,7 +5,7 @@ import re
 
 from tests import support
 
-# The C library reads each variable of the environment at its start, which takes about 700 instructions. And it copies memory by
+# The C library reads each variable of the environment at its start, which takes about 500 instructions. And it copies memory by
 # what the processor has: here by what each processor has.
 ENVIRONMENT = {"PATH": os.environ["PATH"], "GLIBC_TUNABLES": "glibc.cpu.hwcaps=-AVX2,-ERMS,-AVX_Fast_Unaligned_Load"}
 
