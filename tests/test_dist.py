@@ -144,11 +144,11 @@ class Dist(Case):
     def test_the_package_for_python(self):
         """The README's lines install it and call it."""
         environment = self.enterContext(scratch()) / "environment"
-        self.expect(run([interpreter("ensurepip"), "-m", "venv", environment]))
+        self.expect(run([interpreter("ensurepip"), "-m", "venv", environment], timeout=300))
         text = (self.dist / "README.md").read_text(encoding="utf-8")
         install, call = re.findall(r"^    (python3 -.*)$", text, re.MULTILINE)
         path = f"{environment}/bin:{os.environ['PATH']}"
-        self.expect(run(["sh", "-c", install], cwd=self.dist, env={"PATH": path}), stdout=None, stderr=None)
+        self.expect(run(["sh", "-c", install], cwd=self.dist, env={"PATH": path}, timeout=300), stdout=None, stderr=None)
         self.expect(run(["sh", "-c", call], cwd=self.dist, env={"PATH": path}), stdout=f"{INLINE}\n".encode())
 
     @requires("python3")
