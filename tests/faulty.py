@@ -4,6 +4,7 @@ import contextlib
 import dataclasses
 import functools
 import os
+import pathlib
 import shutil
 
 from tests import support
@@ -37,6 +38,14 @@ def library(name):
     return built
 
 
+def preload(*names):
+    """The variables with which a program loads these libraries. They are looked for by their names alone, because a space in a path
+    would end it."""
+    libraries = [library(name) for name in names]
+    folders = [*(str(it.parent) for it in libraries), os.environ.get("LD_LIBRARY_PATH")]
+    return {"LD_PRELOAD": " ".join(it.name for it in libraries), "LD_LIBRARY_PATH": ":".join(filter(None, folders))}
+
+
 @functools.cache
 def program():
     """The path of a copy of the program that another user may run."""
@@ -44,7 +53,9 @@ def program():
     atexit.register(keeping.close)
     folder = keeping.enter_context(support.scratch())
     folder.chmod(0o755)
-    return shutil.copy(support.program(), folder / "latex2mathml")
+    copy = pathlib.Path(shutil.copy(support.program(), folder / "latex2mathml"))
+    copy.chmod(0o755)
+    return copy
 
 
 @dataclasses.dataclass(frozen=True)
@@ -78,7 +89,7 @@ def run_with(words, *, fault=None, marked=False, step=None, errors=None, command
     """
     with support.scratch() as folder:
         report = folder / "report"
-        told = {"LD_PRELOAD": str(library("faults")), "FAULT_REPORT": str(report)}
+        told = {**preload("faults"), "FAULT_REPORT": str(report)}
         if fault:
             told["FAULT"] = str(fault)
         if marked:
@@ -89,7 +100,7 @@ def run_with(words, *, fault=None, marked=False, step=None, errors=None, command
             told["FAULT_ERRORS"] = str(errors)
         if counts:
             counts.unlink(missing_ok=True)
-            told |= {"LD_PRELOAD": f"{library('faults')} {library('counts')}", "COUNTS": str(counts)}
+            told |= {**preload("faults", "counts"), "COUNTS": str(counts)}
         if command:
             told |= {"FAULT_PATH": command.path, "FAULT_TIME": str(command.time), "FAULT_RUN": command.text}
         done = support.run(words, stdin=stdin, timeout=timeout, env=os.environ | told, **more)
@@ -101,7 +112,7 @@ def counts_of(words, *, stdin=b"", timeout=60, **more):
     """Runs a command and returns its `CompletedProcess` and what it asked of the C library, as `counts.c` counts it."""
     with support.scratch() as folder:
         counts = folder / "counts"
-        told = {"LD_PRELOAD": str(library("counts")), "COUNTS": str(counts)}
+        told = {**preload("counts"), "COUNTS": str(counts)}
         done = support.run(words, stdin=stdin, timeout=timeout, env=os.environ | told, **more)
         return done, counts_in(counts)
 

@@ -12,7 +12,7 @@ import threading
 import unittest
 
 from tests.results import Counts
-from tests.support import ROOT, SCREEN
+from tests.support import ROOT, SCREEN, processors
 from tools.progress import SHOWN, Stopwatch, clock
 
 # Seconds that the cases of a class may take, if its module has no LIMIT of its own.
@@ -94,7 +94,7 @@ class Runs:
         self.run_parts([(module, part) for module in longest_first for part in module.parts])
 
     def run_parts(self, parts):
-        with concurrent.futures.ThreadPoolExecutor(len(os.sched_getaffinity(0))) as pool:
+        with concurrent.futures.ThreadPoolExecutor(processors()) as pool:
             runs = [pool.submit(self.run_part, *it) for it in parts]
             try:
                 while concurrent.futures.wait(runs, timeout=1).not_done:

@@ -9,7 +9,7 @@ import shutil
 import time
 
 from tests.results import Counts
-from tests.support import ROOT, kit
+from tests.support import ROOT, kit, processors
 from tools.progress import Stopwatch, end_of, follow
 from tools.wrong_bodies import rounds, wrong_bodies_of
 
@@ -177,7 +177,7 @@ class WrongBodies(Beside):
     tasks_are = "checks"
 
     def __init__(self, folder):
-        super().__init__("the last wrong bodies", len(os.sched_getaffinity(0)))
+        super().__init__("the last wrong bodies", processors())
         self.folder = folder
 
     def begin(self, crate, screen):

@@ -6,6 +6,7 @@ import functools
 import importlib.util
 import os
 import pathlib
+import resource
 import shutil
 import subprocess
 import tempfile
@@ -21,6 +22,9 @@ BUILD_NOTHING = "LATEX2MATHML_BUILD_NOTHING"
 
 # The number of the stream on which a build shows its progress.
 SCREEN = "LATEX2MATHML_SCREEN"
+
+# Says how much of the processors a container may use: microseconds in a period, or `max`, and the period.
+QUOTA = pathlib.Path("/sys/fs/cgroup/cpu.max")
 
 # The most bytes of a stream that a failure shows.
 SHOWN = 2000
@@ -79,6 +83,16 @@ def kit():
     return pathlib.Path(os.fsdecode(done.stdout).strip()).parent
 
 
+def processors():
+    """How many processors the tests may keep busy. A container may show more than it may use."""
+    seen = len(os.sched_getaffinity(0))
+    try:
+        quota, period = QUOTA.read_text(encoding="utf-8").split()
+    except (OSError, ValueError):
+        return seen
+    return seen if quota == "max" else max(min(seen, int(quota) // int(period)), 1)
+
+
 def run(words, *, stdin=b"", timeout=60, **more):
     """Runs a command to its end and returns its `CompletedProcess`, whose streams are bytes.
 
@@ -89,6 +103,11 @@ def run(words, *, stdin=b"", timeout=60, **more):
     for stream in ("stdout", "stderr"):
         more.setdefault(stream, subprocess.PIPE)
     return subprocess.run([os.fspath(word) for word in words], timeout=timeout, **given, **more)
+
+
+def limit_processor(seconds):
+    """A `preexec_fn` for `run`: it ends a command that takes more than these seconds of a processor, however busy the machine is."""
+    return lambda: resource.setrlimit(resource.RLIMIT_CPU, (seconds, seconds))
 
 
 @contextlib.contextmanager
@@ -103,8 +122,10 @@ def scratch():
     finally:
         for path, inner, _ in os.walk(folder):
             for name in inner:
-                if not os.path.islink(os.path.join(path, name)):
-                    os.chmod(os.path.join(path, name), 0o700)
+                # what was ended, as a browser, may still be tidying up
+                with contextlib.suppress(FileNotFoundError):
+                    if not os.path.islink(os.path.join(path, name)):
+                        os.chmod(os.path.join(path, name), 0o700)
         shutil.rmtree(folder, ignore_errors=True)
 
 

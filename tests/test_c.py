@@ -1,4 +1,5 @@
 """The library for C: its folder, its calls from C and C++, with failing allocations, deep nesting and threads, and its examples."""
+import ctypes
 import os
 import re
 import shlex
@@ -9,6 +10,8 @@ from tests.support import Case, ROOT, c_library, requires, run, scratch
 
 CC = shlex.split(os.environ.get("CC", "cc"))
 CXX = shlex.split(os.environ.get("CXX", "c++"))
+# an option of `personality`: the system places memory at the same addresses in each run
+ADDR_NO_RANDOMIZE = 0x0040000
 WRAP = ["-Wl,--wrap=malloc,--wrap=realloc,--wrap=free", "-pthread"]
 
 
@@ -68,6 +71,7 @@ class Built(Case):
     """Cases in C, `c_cases.c`, which are built once with these options of the compiler."""
 
     options = []
+    preparation = None
 
     @classmethod
     def setUpClass(cls):
@@ -79,7 +83,7 @@ class Built(Case):
             raise RuntimeError(done.stderr.decode(errors="replace"))
 
     def judge(self, word, stdin=b""):
-        done = run([self.program, word], stdin=stdin, timeout=300)
+        done = run([self.program, word], stdin=stdin, timeout=300, preexec_fn=self.preparation)
         lines, notes, verdicts = done.stdout.decode(errors="replace").splitlines(), [], set()
         for line in lines:
             verdict, _, name = line.partition(": ")
@@ -130,6 +134,11 @@ class Sanitized(Built):
     """Under the address sanitizer."""
 
     options = ["-O1", "-g", "-fsanitize=address"]
+
+    @staticmethod
+    def preparation():
+        """The sanitizer of older compilers sometimes finds its own room taken where vm.mmap_rnd_bits is 32."""
+        ctypes.CDLL(None).personality(ADDR_NO_RANDOMIZE)
 
     def test_answers(self):
         self.judge("answers")

@@ -28,7 +28,7 @@ class Run(Case):
         self.program(self.house / "test", 'echo "skips nothing: $LATEX2MATHML_SKIP_NOTHING"; exit ${STATUS:-0}')
         for name, text in STUBS.items():
             self.program(self.folder / "bin" / name, text)
-        for name in ("sh", "dirname", "sed", "grep", "timeout"):
+        for name in ("sh", "dirname", "sed", "grep", "timeout", "date"):
             (self.folder / "bin" / name).symlink_to(shutil.which(name))
 
     def program(self, path, text):
@@ -79,6 +79,18 @@ class Run(Case):
         with self.subTest("without apt-get"):
             (self.folder / "bin/apt-get").unlink()
             self.expect(self.run_ci()[0], stdout=b"skips nothing: \n", stderr=None)
+
+    def test_a_network_that_never_answers(self):
+        """Once a quarter of an hour is over, no other package is tried alone."""
+        (self.folder / "bin/date").unlink()
+        self.program(self.folder / "bin/date", """
+            echo >>"$CALLS.dates"
+            while read -r _; do now=$((now + 600)); done <"$CALLS.dates"
+            echo $now""")
+        done, calls = self.run_ci(NOT_THERE="install")
+        self.expect(done, stdout=b"skips nothing: \n", stderr=None)
+        self.assertEqual(calls[2:], ["install --no-install-recommends missing"])
+        self.assertIn(b"lost could not be installed", done.stderr)
 
     def test_the_status(self):
         self.expect(self.run_ci(STATUS="1")[0], 1, None, None)

@@ -49,7 +49,8 @@ class Dist(Case):
         # as old as it is, since a program that is older is built anew
         shutil.copy2(ROOT / "crates.txt", house)
         for name in ("tools", "integrations"):
-            shutil.copytree(ROOT / name, house / name)
+            # other tests may be writing what Python compiles there
+            shutil.copytree(ROOT / name, house / name, ignore=shutil.ignore_patterns("__pycache__"))
         return house
 
     def run_there(self, *words, **more):
@@ -143,11 +144,11 @@ class Dist(Case):
     def test_the_package_for_python(self):
         """The README's lines install it and call it."""
         environment = self.enterContext(scratch()) / "environment"
-        self.expect(run([interpreter("ensurepip"), "-m", "venv", environment]))
+        self.expect(run([interpreter("ensurepip"), "-m", "venv", environment], timeout=300))
         text = (self.dist / "README.md").read_text(encoding="utf-8")
         install, call = re.findall(r"^    (python3 -.*)$", text, re.MULTILINE)
         path = f"{environment}/bin:{os.environ['PATH']}"
-        self.expect(run(["sh", "-c", install], cwd=self.dist, env={"PATH": path}), stdout=None, stderr=None)
+        self.expect(run(["sh", "-c", install], cwd=self.dist, env={"PATH": path}, timeout=300), stdout=None, stderr=None)
         self.expect(run(["sh", "-c", call], cwd=self.dist, env={"PATH": path}), stdout=f"{INLINE}\n".encode())
 
     @requires("python3")
@@ -168,7 +169,8 @@ class Dist(Case):
 
     @requires("cargo")
     def test_the_crate_for_rust(self):
+        environment = {**os.environ, "CARGO_HOME": str(self.enterContext(scratch()))}
         done = run(["cargo", "run", "--quiet", "--offline", "--example", "page"], stdin=b"$x<y$", cwd=self.dist / "integrations/rust",
-                   timeout=300)
+                   env=environment, timeout=300)
         self.expect(done, stdout=None)
         self.assertIn(INLINE.encode(), done.stdout)

@@ -10,7 +10,6 @@ import unittest
 
 from tests import faulty, support
 from tests.faulty import ALL, Command, ERROR, Fault, X
-from tests.instructions import instructions
 
 UNREAD = "The input could not be read."
 UNLISTED = "The directory could not be listed."
@@ -250,7 +249,6 @@ class Rights(Walks):
 @support.requires("cc")
 class NoFiles(Walks):
     """What is neither a file nor a directory is left alone, whatever its name is, and not opened: that might never end."""
-    SECONDS = 10
 
     def is_left_alone(self, make):
         """Makes something at a path, and walks the folder with it, and then the path alone."""
@@ -261,7 +259,7 @@ class NoFiles(Walks):
         # both folders are opened, and each file twice
         for name, top, opened in (("in a folder", self.site, 2 + 2 * len(FILES)), ("alone", path, 0)):
             with self.subTest(name):
-                done, counts = faulty.counts_of([faulty.program(), "html", top], timeout=self.SECONDS)
+                done, counts = faulty.counts_of([faulty.program(), "html", top])
                 self.holds(done)
                 self.assertEqual(counts["open"], opened)
                 self.assertEqual((path.lstat().st_mode, path.lstat().st_ino), (before.st_mode, before.st_ino))
@@ -288,23 +286,32 @@ class Full(Walks):
         self.assertIn(len(held), range(1, len(X) * self.COUNT))
         self.holds(done, [(f"/{file}", STOPPED.format(len(held)))], {file: held})
 
+    @support.requires("cc")
     def test_device(self):
+        """Where this user may mount no device, as in a container, a call that writes fails as for a full one."""
         self.anew()
         device = self.site / "device"
         device.mkdir()
-        if support.run(["mount", "-t", "tmpfs", "-o", "size=16k", "tmpfs", device]).returncode:
-            self.skipTest("this user may not mount a device")
+        is_mounted = not support.run(["mount", "-t", "tmpfs", "-o", "size=16k", "tmpfs", device]).returncode
+
+        def run_full(*words, number, **more):
+            if is_mounted:
+                return support.run([faulty.program(), *words], **more)
+            return faulty.run_with([faulty.program(), *words], fault=Fault("write", number, number, 28), step=4096, **more)[0]
+
         try:
             (device / "full.html").write_bytes(b"$x$" * self.COUNT)
-            self.is_cut(support.run([faulty.program(), "html", self.site]), "device/full.html")
+            # a.html is written before it
+            self.is_cut(run_full("html", self.site, number=4), "device/full.html")
             (device / "full.html").unlink()
             with open(device / "out", "wb") as output:
-                done = support.run([faulty.program(), "document"], stdin=b"$x$" * self.COUNT, stdout=output)
+                done = run_full("document", number=4, stdin=b"$x$" * self.COUNT, stdout=output)
             held = (device / "out").read_bytes()
             self.assertTrue((X * self.COUNT).startswith(held))
             self.expect(done, 1, None, ERROR + STOPPED.format(len(held)).encode() + b"\n")
         finally:
-            support.run(["umount", device])
+            if is_mounted:
+                support.run(["umount", device])
 
     def test_limit(self):
         """The system tells of the limit by a signal that ends a program, unless it is ignored as here, and then by an error."""
@@ -340,159 +347,6 @@ class Large(Walks):
         (self.site / "a.html").write_bytes(b"$x$" * 700_000)
         self.expect(support.run([support.program(), "html", self.site]), 0, b"")
         self.assertTrue((self.site / "a.html").read_bytes() == X * 700_000)
-
-
-class Folders(Walks):
-    """Folders with a given number of files and folders."""
-
-    def make(self, files, folders=0, text=b"$x$"):
-        remove(self.site)
-        self.site.mkdir()
-        for number in range(files):
-            (self.site / f"{number}.html").write_bytes(text)
-        for number in range(folders):
-            (self.site / f"folder{number}").mkdir()
-            (self.site / f"folder{number}/a.html").write_bytes(text)
-
-
-class Many(Folders):
-    """Nothing that one file needs is kept for the others."""
-
-    def are_converted(self):
-        for file in self.site.rglob("*.html"):
-            self.assertEqual(file.read_bytes(), X, file)
-
-    def test_few_descriptors(self):
-        """Each file and each folder is closed before the next is opened."""
-        def limit():
-            resource.setrlimit(resource.RLIMIT_NOFILE, (16, 16))
-        self.make(100, 100)
-        deep = self.site.joinpath("deep", *["d"] * 60)
-        deep.mkdir(parents=True)
-        (deep / "a.html").write_bytes(b"$x$")
-        self.expect(support.run([support.program(), "html", self.site], preexec_fn=limit), 0, b"")
-        self.are_converted()
-
-    def test_few_descriptors_where_nothing_is_written(self):
-        """A file that takes none of its answer is closed too, and the walk goes on."""
-        def limit():
-            signal.signal(signal.SIGXFSZ, signal.SIG_IGN)
-            resource.setrlimit(resource.RLIMIT_FSIZE, (0, 0))
-            resource.setrlimit(resource.RLIMIT_NOFILE, (16, 16))
-        self.make(100)
-        with open(os.devnull, "wb") as output:
-            done = support.run([support.program(), "html", self.site], preexec_fn=limit, restore_signals=False, stdout=output)
-        self.assertEqual(done.stderr.count(b": " + STOPPED.format(0).encode()), 100, support.show(done.stderr))
-        self.expect(done, 1, None, None)
-
-    def test_all(self):
-        """All files of a large folder are converted."""
-        self.make(5_000)
-        self.expect(support.run([support.program(), "html", self.site]), 0, b"")
-        self.are_converted()
-
-    def test_little_stack(self):
-        """No stack is taken for each name of a folder, also one that is no text, nor for each line of what was not converted."""
-        def limit():
-            resource.setrlimit(resource.RLIMIT_STACK, (128 << 10, 128 << 10))
-        self.make(20_000, text=b"$$$")
-        for number in range(20_000):
-            os.close(os.open(os.fsencode(self.site) + b"/%d\xff" % number, os.O_CREAT))
-        done = support.run([support.program(), "html", self.site], preexec_fn=limit)
-        self.expect(done, 1, b"", None)
-        self.assertEqual([done.stderr.count(fault.encode()) for fault in (UNPAIRED, BAD_ENTRY)], [20_000, 20_000])
-
-
-# What a file holds, and how often a walk asks for memory for it. The formulas of a file share the room for their parts: so 20 of
-# them need 5 more requests than one, because the answer is longer, and no more.
-EACH_FILE = {b"$x$": 8, b"$x^2$": 11, b"$x^2$" * 20: 16, b"$\\frac12$" * 20: 16, b"no sign": 6, b"$$$": 10}
-# the names of a folder, and what was not converted: a list asks once more where it doubles
-MOST_DOUBLINGS = 6
-# a name of a folder: a block of memory for its text, and places in the list of names and in the room for sorting
-BYTES_OF_A_NAME = 128
-
-
-@support.requires("cc")
-class Counts(Folders):
-    """The memory that a walk has not freed at its end, how often it asks for memory, and how often it reads."""
-
-    def counts(self, files, folders, text=b"$x$"):
-        self.make(files, folders, text)
-        _, counts = faulty.counts_of([faulty.program(), "html", self.site])
-        return counts
-
-    def leaves_nothing(self, text):
-        """The memory at the end is the same for a hundred files as for one, and all files are closed."""
-        one, hundred = self.counts(1, 1, text), self.counts(100, 100, text)
-        with self.subTest("blocks of memory"):
-            self.assertEqual(hundred["held"], one["held"])
-        with self.subTest("descriptors"):
-            self.assertEqual(hundred["open"] - hundred["close"], one["open"] - one["close"])
-
-    def test_converted(self):
-        self.leaves_nothing(b"$x$")
-
-    def test_converted_parts(self):
-        """A letter alone needs no parts. These do, and a text that is spelled out."""
-        self.leaves_nothing(b"$x^2$ $\\frac12$ $\\text{ab}$")
-
-    def test_unchanged(self):
-        self.leaves_nothing(b"no sign")
-
-    def test_refused(self):
-        self.leaves_nothing(b"$$$")
-
-    def test_no_text(self):
-        self.leaves_nothing(b"\xff")
-
-    def test_readings(self):
-        """A file is opened and read once, 4,096 bytes at a time, and opened once more for writing."""
-        for size in (0, 1, 4095, 4096, 1_000_000):
-            with self.subTest(bytes=size):
-                counts = self.counts(1, 0, b"x" * size + b"$x$")
-                self.assertLessEqual(counts["read"], (size + 3) // 4096 + 2)
-                # the folder, and the file twice
-                self.assertLessEqual(counts["open"], 3)
-                # a wait for the disk takes longer than all else
-                self.assertEqual((counts["write"], counts["sync"]), (1, 0))
-
-    def test_requests(self):
-        """Memory is asked for a few times for each file, and for no list of a walk more than it doubles."""
-        for text, each in EACH_FILE.items():
-            with self.subTest(text):
-                few, many = self.counts(100, 0, text), self.counts(500, 0, text)
-                self.assertLessEqual(many["requests"] - few["requests"], 400 * each + MOST_DOUBLINGS)
-
-    def test_names(self):
-        """A walk holds the names of one folder, and neither their paths nor more room than they need."""
-        few, many = self.counts(100, 0, b"no sign"), self.counts(1_100, 0, b"no sign")
-        self.assertLessEqual(many["peak"] - few["peak"], 1_000 * BYTES_OF_A_NAME)
-
-    def test_unchanged_files_are_only_read(self):
-        counts = self.counts(1, 0, b"no sign")
-        self.assertEqual((counts["write"], counts["open"]), (0, 2))
-
-
-@support.requires("valgrind")
-class Instructions(Folders):
-    """Five times the files take five times the instructions, but for the sorting of their names."""
-
-    def judge(self, text, status=0):
-        counted = []
-        for files in (200, 1_000):
-            self.make(files, text=text)
-            counted.append(instructions([support.program(), "html", self.site], status=status))
-        few, many = counted
-        self.assertLessEqual(many, 5.5 * few, f"{few:,} for 200 files, {many:,} for 1,000")
-
-    def test_converted(self):
-        self.judge(b"$x$")
-
-    def test_unchanged(self):
-        self.judge(b"no sign")
-
-    def test_refused(self):
-        self.judge(b"$$$", 1)
 
 
 if __name__ == "__main__":

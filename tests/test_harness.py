@@ -15,7 +15,7 @@ from tests.modules import Module, Runs, classes_of, every_name, name_of
 from tests.results import Counts, Result, SKIP_NOTHING
 from tests.sources import Sources
 from tests.steps import Command, Copy, Library, Proofs, Step, WrongBodies, crates_below
-from tests.support import ROOT, Case, run, scratch
+from tests.support import ROOT, Case, processors, run, scratch
 from tools.progress import Screen, clock
 
 
@@ -83,9 +83,20 @@ class Modules(unittest.TestCase):
     def test_a_long_module_begins_first(self):
         screen = io.StringIO()
         short, long = (Module(name, ["tests.samples.Unready"], is_long=name == "long") for name in ("short", "long"))
-        with unittest.mock.patch("os.sched_getaffinity", return_value={0}):
+        with unittest.mock.patch("tests.modules.processors", return_value=1):
             Runs(Screen(screen)).run([short, long])
         self.assertLess(screen.getvalue().index("\nlong: "), screen.getvalue().index("\nshort: "))
+
+    def test_processors(self):
+        """A quota of a container counts where it is smaller than what can be seen."""
+        quota = self.enterContext(scratch()) / "cpu.max"
+        for text, count in (("max 100000", 8), ("200000 100000", 2), ("50000 100000", 1), ("1600000 100000", 8), ("", 8), (None, 8)):
+            with self.subTest(text), unittest.mock.patch("tests.support.QUOTA", quota), \
+                    unittest.mock.patch("os.sched_getaffinity", return_value=set(range(8))):
+                quota.unlink(missing_ok=True)
+                if text is not None:
+                    quota.write_text(text)
+                self.assertEqual(processors(), count)
 
     def test_what_modules_set(self):
         """A line that sets LONG or LIMIT sets it of the module, and does not stand in a text or a class of it."""
@@ -219,7 +230,7 @@ class Proving(unittest.TestCase):
         self.assertEqual(self.tried.read_text(), "one/a\n")
         self.assertEqual(proofs.counts, Counts(passed=3), self.screen.getvalue())
         self.assertEqual(self.wrong_bodies.counts, Counts(passed=2), self.screen.getvalue())
-        self.assertIn("    one: wrong bodies: 2 passed, 0 failed, 0:00\n", self.screen.getvalue())
+        self.assertRegex(self.screen.getvalue(), r"\n    one: wrong bodies: 2 passed, 0 failed, \d+:\d\d\n")
 
     def test_so_are_those_of_what_an_earlier_run_proved(self):
         self.program("rt", RT.replace("rt: one proved", "rt: one is kept: an earlier run on this machine proved the same files"))
@@ -233,12 +244,12 @@ class Proving(unittest.TestCase):
         for name in ("a", "b"):
             (folder / f"must-fail/{name}.edit").write_text("file: src/lib.rt\nold: 7\nnew: 8\n")
         self.program("tools/try-wrong-body", TRY_WRONG_BODY.replace("echo '2", "until test $(wc -l <\"$TRIED\") = 2; do sleep 0.01; done; echo '2"))
-        with unittest.mock.patch("os.sched_getaffinity", return_value={0, 1}):
+        with unittest.mock.patch("tests.steps.processors", return_value=2):
             proofs = self.prove()
         self.assertEqual(sorted(self.tried.read_text().split()), ["one/a", "one/b"])
         self.assertEqual(self.wrong_bodies.counts, Counts(passed=4), self.screen.getvalue())
         for number in (1, 2):
-            self.assertIn(f"    one, check {number} of 2: wrong bodies: 2 passed, 0 failed, 0:00\n", self.screen.getvalue())
+            self.assertRegex(self.screen.getvalue(), rf"\n    one, check {number} of 2: wrong bodies: 2 passed, 0 failed, \d+:\d\d\n")
 
     def test_wrong_bodies_that_fail(self):
         for text, counts in [

@@ -3,9 +3,12 @@ import re
 import unittest
 
 from tests.environments import ask, environment, requires_python, run_python
-from tests.support import ROOT, Case, scratch
+from tests.support import ROOT, Case, limit_processor, scratch
 
 LONG = True
+
+# What a process may take that reads a slow text.
+SLOW = {"preexec_fn": limit_processor(20), "timeout": 300}
 
 OPEN = 'The token "RBrace" is expected, but the token "EOF" is found."'
 
@@ -216,7 +219,7 @@ class Formulas(unittest.TestCase):
         texts |= {"$a$ $$ $ [ " * 100: 100, "$$\n" + "a\n" * 50_000: 0, "$" + "a " * 50_000: 0}
         # a backslash and a letter are one character of a formula: there are many ways to read them as one or two
         texts |= {begin + r"\a" * 40 + end: 0 for begin in ("$", "$$", "$$\n", "a $$") for end in ("", " $", "\n\n$$")}
-        pages = convert(*texts, options={"names": False}, timeout=20)
+        pages = convert(*texts, options={"names": False}, **SLOW)
         for (text, formulas), (page, said) in zip(texts.items(), pages, strict=True):
             with self.subTest(text[:60]):
                 self.assertEqual((page.count("<math "), said), (formulas, []))
@@ -269,7 +272,7 @@ class Options(unittest.TestCase):
     def test_lines_of_white_space(self):
         """The line of a formula with no-break spaces is found, and soon where lines of spaces stand elsewhere."""
         spaces, formula = "$$\n" + "    \n" * 30 + "x\n\n", "$$\n" + "\u00a0\n" * 30 + "{b\n$$"
-        [[_, [said]]] = convert(spaces + formula, timeout=20)
+        [[_, [said]]] = convert(spaces + formula, **SLOW)
         self.assertEqual(said, f"latex2mathml: line 34: {{b: {OPEN}")
 
     def test_lines_that_end_otherwise(self):

@@ -8,7 +8,7 @@ import shutil
 import unittest
 
 from tests.integration import UNCLOSED, answer_of
-from tests.support import ROOT, Case, c_library, requires, run, scratch
+from tests.support import ROOT, Case, c_library, limit_processor, requires, run, scratch
 
 LONG = True
 
@@ -223,21 +223,30 @@ class Calls(Package):
             const call = (convert, text) => { try { convert(text); } catch { } };
             const long = 'x'.repeat(300_000);
             const texts = [[formula, long], [formula, '{' + long], [document, long], [document, '$' + long]];
-            const held = texts.map(([convert, text]) => {
-                const resident = count => {
-                    for (let i = 0; i < count; i++) call(convert, text);
+            // The engine gives memory back in threads of its own, which a busy machine delays: so the least of some readings counts.
+            const clock = new Int32Array(new SharedArrayBuffer(4));
+            const resident = (convert, text, count, readings, enough) => {
+                for (let i = 0; i < count; i++) call(convert, text);
+                let least = Infinity;
+                for (let i = 0; i < readings && least >= enough; i++) {
+                    Atomics.wait(clock, 0, 0, 20);
                     global.gc();
-                    return process.memoryUsage().rss;
-                };
-                return -resident(20) + resident(200);
+                    least = Math.min(least, process.memoryUsage().rss);
+                }
+                return least;
+            };
+            const held = texts.map(([convert, text]) => {
+                const few = resident(convert, text, 20, 5, 0);
+                return resident(convert, text, 200, 500, few + MOST) - few;
             });
             console.log(JSON.stringify(held));
         """
-        done = run(["node", "--expose-gc", "-e", script, "--", self.package], timeout=300)
+        most = 100 * 300_000
+        done = run(["node", "--expose-gc", "-e", script.replace("MOST", str(most)), "--", self.package], timeout=300)
         self.expect(done)
         for kind, grown in zip(("a formula", "a refused formula", "a document", "a refused document"), json.loads(done.stdout), strict=True):
             with self.subTest(kind):
-                self.assertLess(grown, 100 * 300_000)
+                self.assertLess(grown, most)
 
     def test_names(self):
         cases = json.loads((ROOT / "integrations/names-cases.json").read_text())
@@ -261,7 +270,7 @@ class Calls(Package):
 
     def test_headers_elsewhere(self):
         """NODE_HEADERS names their folder, and they are looked for nowhere else."""
-        built, headers = self.copy("beside-headers"), self.folder / "headers"
+        built, headers = self.copy("beside-headers"), self.folder / "the headers"
         headers.mkdir()
         environment = {**os.environ, "NODE_HEADERS": str(headers)}
         with self.subTest("they are not there"):
@@ -310,8 +319,8 @@ class MarkdownIt(Package):
         (cls.project / "node_modules").mkdir(parents=True)
         (cls.project / "node_modules/latex2mathml-proved").symlink_to(cls.package)
 
-    def render(self, *cases, timeout=60):
-        return self.node(RENDERER, self.package, cases=cases, timeout=timeout)
+    def render(self, *cases, **more):
+        return self.node(RENDERER, self.package, cases=cases, **more)
 
     def content(self, source, **options):
         """The page of a source that raises no warning, without the links."""
@@ -435,10 +444,11 @@ class MarkdownIt(Package):
         self.assertEqual(self.node(script, self.package), f"a {answer_of('x<y')}\n")
 
     def test_texts_that_are_slow_to_read(self):
+        slow = {"preexec_fn": limit_processor(30), "timeout": 300}
         for source in ("$a$ $$ $ [ ", "$a$\n", "$$\n", "$$\na\n", "$ ", "\\$", "`$", "- $$\n", "> $$ "):
             with self.subTest(source):
-                self.render((source * 20_000, {"names": False, "warn": None}, {}), timeout=30)
-        self.render(("$$\n" + "a\n" * 50_000, {}, {}), ("$" + "a " * 50_000, {}, {}), timeout=30)
+                self.render((source * 20_000, {"names": False, "warn": None}, {}), **slow)
+        self.render(("$$\n" + "a\n" * 50_000, {}, {}), ("$" + "a " * 50_000, {}, {}), **slow)
 
     def test_the_readme(self):
         """Its lines of JavaScript. What the last one of each returns is printed."""
@@ -458,8 +468,9 @@ class MarkdownIt(Package):
         for word, found in (("NAMES", names), ("OPTIONS", options)):
             head = head.replace(word, json.dumps(dict.fromkeys(found, 0)))
         (self.project / "calls.ts").write_text("\n".join([head, *taken, *refused, ""]))
-        flags = ["--noEmit", "--strict", "--lib", "es5", "--module", "node16", "--moduleResolution", "node16"]
-        done = run(["tsc", *flags, "calls.ts"], cwd=self.project)
+        # the types of packages that the system may have stand in no such folder
+        flags = ["--noEmit", "--strict", "--lib", "es5", "--typeRoots", "none", "--module", "node16", "--moduleResolution", "node16"]
+        done = run(["tsc", *flags, "calls.ts"], cwd=self.project, timeout=300)
         first = head.count("\n") + 2
         faults = {}
         for file, line, fault in re.findall(r"^(\S.*)\((\d+),\d+\): (error .*)$", done.stdout.decode(), re.MULTILINE):

@@ -17,8 +17,8 @@ PAGES = support.ROOT / "tests/page"
 # The width of the window of a page, if it is not 1,000 pixels.
 WIDTHS = {"narrow.html": 320}
 
-# The seconds that a browser may take to start and to check a page.
-LONGEST = 120
+# The seconds that a browser may take to start and to check a page. They are many, since only one that hangs meets them.
+LONGEST = 300
 
 TALL = r"\frac{\frac{a}{b}}{\frac{c}{d}}"
 
@@ -55,8 +55,9 @@ class Answer(http.server.SimpleHTTPRequestHandler):
 
 
 def chromium(profile, address):
-    sandbox = ["--no-sandbox"] if os.geteuid() == 0 else []
-    return ["chromium", "--headless", *sandbox, "--disable-gpu", f"--user-data-dir={profile}", address]
+    # A container may let no user make a sandbox, and may have little room in /dev/shm. The pages are our own.
+    flags = ["--no-sandbox", "--disable-dev-shm-usage", "--disable-gpu"]
+    return ["chromium", "--headless", *flags, f"--user-data-dir={profile}", address]
 
 
 def firefox(profile, address):

@@ -1,5 +1,6 @@
 """The program, through the launcher: its arguments, its streams, its status, and the files that it converts."""
 import os
+import pathlib
 import resource
 import shutil
 import subprocess
@@ -176,7 +177,7 @@ class Words(Case):
         """One line is printed although nothing is ever written to the input."""
         reading, writing = os.pipe()
         with open(reading, "rb") as never, open(writing, "wb"):
-            self.expect(run([LAUNCHER, "markup"], stdin=never, timeout=20), 2, b"", USAGE)
+            self.expect(run([LAUNCHER, "markup"], stdin=never), 2, b"", USAGE)
 
 
 class Streams(Case):
@@ -370,7 +371,8 @@ class Rights(Site):
 
     def setUp(self):
         super().setUp()
-        self.command = shutil.copy(program(), self.folder / "latex2mathml")
+        self.command = pathlib.Path(shutil.copy(program(), self.folder / "latex2mathml"))
+        self.command.chmod(0o755)
         self.put({"a.html": b"$x$", "b.html": b"$x$", "c.html": b"no sign", "d/a.html": b"$x$", "walled/a.html": b"$x$", "z.html": b"$x$"})
         self.as_other = {}
         if os.geteuid() == 0:

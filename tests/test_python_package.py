@@ -137,10 +137,12 @@ class Wheel(Case):
             "reveal_type(latex2mathml_proved.formula('x', block=True))\n"
             "reveal_type(Renderer({'\\\\R': 'x'}).render('x').fault)\n"
             "latex2mathml_proved.document(b'x')\n")
-        done = run(["mypy", "--strict", "--no-error-summary", "--python-executable", environment(), "--cache-dir", program.parent / "cache", program])
-        said = [line.partition(": ")[2] for line in done.stdout.decode().splitlines()]
+        done = run(["mypy", "--strict", "--no-error-summary", "--python-executable", environment(), "--cache-dir", program.parent / "cache",
+                    program], timeout=300)
+        # older checkers write the second type so
+        said = [line.partition(": ")[2].replace("Union[builtins.str, None]", "builtins.str | None") for line in done.stdout.decode().splitlines()]
         self.assertEqual(said, [
-            'note: Revealed type is "builtins.str"', 'note: Revealed type is "Union[builtins.str, None]"',
+            'note: Revealed type is "builtins.str"', 'note: Revealed type is "builtins.str | None"',
             'error: Argument 1 to "document" has incompatible type "bytes"; expected "str"  [arg-type]'])
 
     @requires("mypy")
@@ -151,7 +153,7 @@ class Wheel(Case):
         self.assertIn(f"Python {oldest} or later", (PACKAGE / "README.md").read_text(encoding="utf-8"))
         cache = self.enterContext(scratch())
         done = run(["mypy", "--python-version", oldest, "--no-site-packages", "--ignore-missing-imports", "--check-untyped-defs",
-                    "--no-error-summary", "--cache-dir", cache, PACKAGE / "src/latex2mathml_proved", PACKAGE / "setup.py"])
+                    "--no-error-summary", "--cache-dir", cache, PACKAGE / "src/latex2mathml_proved", PACKAGE / "setup.py"], timeout=300)
         self.expect(done, 0, b"", b"")
 
     def test_licence(self):

@@ -144,7 +144,8 @@ class Builders(Recipe):
         comment = "".join(blocks("rustdoc", "rust"))
         self.put({**files("rustdoc"), "Cargo.toml": '[package]\nname = "mean"\nversion = "0.1.0"\nedition = "2018"\n',
                   "src/lib.rs": f"{comment}//!\n//! `$x$` for $5, and <!--mm-->\\sum\\_a b\\_c<!--mm-->\n"})
-        self.do("cargo", "doc", "--quiet", "--offline", RUSTDOCFLAGS=f"--html-in-header {self.site}/head.html")
+        self.do("cargo", "doc", "--quiet", "--offline", RUSTDOCFLAGS=f"--html-in-header {self.site}/head.html",
+                CARGO_TARGET_DIR=str(self.site / "target"), CARGO_HOME=str(self.folder / "cargo"))
         self.convert("target/doc/mean")
         page = (self.site / "target/doc/mean/index.html").read_text()
         mean = answer_of("\\frac{x + y}{2} \\leq x_{\\max}")

@@ -82,7 +82,8 @@ class Crate(Case):
         return shutil.copytree(CRATE, cls.folder / name, ignore=shutil.ignore_patterns("target", "lib", "Cargo.lock"))
 
     def cargo(self, *words, folder=None, **environment):
-        environment = {"CARGO_TARGET_DIR": str(self.folder / "target"), **environment}
+        # what cargo keeps for itself stands there too, since a user may have no home to write to
+        environment = {"CARGO_TARGET_DIR": str(self.folder / "target"), "CARGO_HOME": str(self.folder / "cargo"), **environment}
         inherited = {name: value for name, value in os.environ.items() if name != "LATEX2MATHML_LIB"}
         command = ["cargo", words[0], "--quiet", "--offline", *words[1:]]
         return run(command, cwd=folder or self.crate, env={**inherited, **environment}, timeout=600)
