@@ -1,4 +1,4 @@
-"""Files under a path: calls that fail during a walk, files that change meanwhile, full devices, and what a walk leaves open."""
+"""Files under a path: calls that fail during a walk, files that change meanwhile, full devices, pipes and sockets."""
 import itertools
 import os
 import re
