@@ -6,12 +6,13 @@ import os
 import pathlib
 import re
 import shutil
+import tempfile
 import time
 
 from tests.results import Counts
 from tests.support import ROOT, kit, processors
 from tools.progress import Stopwatch, end_of, follow
-from tools.wrong_bodies import rounds, wrong_bodies_of
+from tools.wrong_bodies import rounds, with_a_short_one_first, wrong_bodies_of
 
 OUT = ROOT / "out"
 LAST_LINE = re.compile(r"(\d+) passed, (\d+) failed")
@@ -179,22 +180,40 @@ class WrongBodies(Beside):
     def __init__(self, folder):
         super().__init__("the last wrong bodies", processors())
         self.folder = folder
+        self.room = tempfile.TemporaryDirectory(prefix="latex2mathml-")
+
+    def __exit__(self, kind, *how):
+        super().__exit__(kind, *how)
+        self.room.cleanup()
 
     def begin(self, crate, screen):
-        """Begins to try those of the crate, each group that shares a check beside the others."""
+        """Begins to try those of the crate. Where they take several checks, a short one is the first, and the others use its work."""
         folder = ROOT / "crates" / crate
-        groups = rounds(wrong_bodies_of(folder), folder)
-        for number, group in enumerate(groups, 1):
-            name = crate if len(groups) == 1 else f"{crate}, check {number} of {len(groups)}"
-            self.submit(self.try_group, crate, group, number, name, screen)
+        groups = with_a_short_one_first(rounds(wrong_bodies_of(folder), folder))
+        if groups:
+            self.submit(self.try_first, crate, groups, screen)
 
-    def try_group(self, crate, group, number, name, screen):
-        watch, log = Stopwatch(), OUT / f"wrong-bodies-{crate}-{number}.log"
-        bodies = [f"{crate}/{it.path.stem}" for it in group]
-        words = ["nice", "-n", "19", ROOT / "tools/try-wrong-body", "--proved", self.folder, *bodies]
+    def try_first(self, crate, groups, screen):
+        """Tries the first group of a crate, and begins those that are left, side by side, each over a copy of its work."""
+        counts = self.try_group(crate, groups, 1, screen)
+        for number in range(2, len(groups) + 1):
+            shutil.copytree(self.work(crate, 1), self.work(crate, number))
+            self.submit(self.try_group, crate, groups, number, screen)
+        return counts
+
+    def try_group(self, crate, groups, number, screen):
+        watch, log, work = Stopwatch(), OUT / f"wrong-bodies-{crate}-{number}.log", self.work(crate, number)
+        name = crate if len(groups) == 1 else f"{crate}, check {number} of {len(groups)}"
+        work.mkdir(exist_ok=True)
+        bodies = [f"{crate}/{it.path.stem}" for it in groups[number - 1]]
+        words = ["nice", "-n", "19", ROOT / "tools/try-wrong-body", "--proved", self.folder, "--kept", work, *bodies]
         counts = counts_of(words, log, screen, **self.callbacks())
         screen.say(f"    {name}: wrong bodies: {counts}, {watch}")
         return counts
+
+    def work(self, crate, number):
+        """The folder where this check of the crate keeps its work."""
+        return pathlib.Path(self.room.name, f"{crate}-{number}")
 
 
 class Library(Beside):

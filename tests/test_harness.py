@@ -182,8 +182,9 @@ echo '3 passed, 0 failed'
 """
 
 TRY_WRONG_BODY = """#!/bin/sh
-test "$1" = --proved && test -e "$2/crates/one/src/lib.rt" && test $# = 3 || exit 1
-echo "$3" >>"$TRIED"
+test "$1" = --proved && test -e "$2/crates/one/src/lib.rt" && test "$3" = --kept && test $# = 5 || exit 1
+echo "$5, with the work of" $(ls "$4") >>"$TRIED"
+touch "$4/${5#*/}"
 echo '2 passed, 0 failed'
 """
 
@@ -227,7 +228,7 @@ class Proving(unittest.TestCase):
     def test_the_wrong_bodies_of_what_is_proved_are_tried(self):
         proofs = self.prove()
         self.assertEqual(proofs.proved, {"one"})
-        self.assertEqual(self.tried.read_text(), "one/a\n")
+        self.assertEqual(self.tried.read_text(), "one/a, with the work of\n")
         self.assertEqual(proofs.counts, Counts(passed=3), self.screen.getvalue())
         self.assertEqual(self.wrong_bodies.counts, Counts(passed=2), self.screen.getvalue())
         self.assertRegex(self.screen.getvalue(), r"\n    one: wrong bodies: 2 passed, 0 failed, \d+:\d\d\n")
@@ -235,21 +236,24 @@ class Proving(unittest.TestCase):
     def test_so_are_those_of_what_an_earlier_run_proved(self):
         self.program("rt", RT.replace("rt: one proved", "rt: one is kept: an earlier run on this machine proved the same files"))
         self.assertEqual(self.prove().proved, {"one"})
-        self.assertEqual(self.tried.read_text(), "one/a\n")
+        self.assertEqual(self.tried.read_text(), "one/a, with the work of\n")
 
     def test_wrong_bodies_that_change_one_function_are_tried_side_by_side(self):
-        """Neither trial ends before the other has begun."""
+        """The first is tried alone, and the others use its work. Neither of these ends before the other has begun."""
         folder = self.root / "crates/one"
         (folder / "src/lib.rt").write_text("fn first() -> u32 {\n    7\n}\n")
-        for name in ("a", "b"):
+        for name in ("a", "b", "c"):
             (folder / f"must-fail/{name}.edit").write_text("file: src/lib.rt\nold: 7\nnew: 8\n")
-        self.program("tools/try-wrong-body", TRY_WRONG_BODY.replace("echo '2", "until test $(wc -l <\"$TRIED\") = 2; do sleep 0.01; done; echo '2"))
+        wait = "until test $(wc -l <\"$TRIED\") = 1 -o $(wc -l <\"$TRIED\") = 3; do sleep 0.01; done; echo '2"
+        self.program("tools/try-wrong-body", TRY_WRONG_BODY.replace("echo '2", wait))
         with unittest.mock.patch("tests.steps.processors", return_value=2):
             proofs = self.prove()
-        self.assertEqual(sorted(self.tried.read_text().split()), ["one/a", "one/b"])
-        self.assertEqual(self.wrong_bodies.counts, Counts(passed=4), self.screen.getvalue())
-        for number in (1, 2):
-            self.assertRegex(self.screen.getvalue(), rf"\n    one, check {number} of 2: wrong bodies: 2 passed, 0 failed, \d+:\d\d\n")
+        first, *others = self.tried.read_text().splitlines()
+        self.assertEqual(first, "one/c, with the work of")
+        self.assertEqual(sorted(others), ["one/a, with the work of c", "one/b, with the work of c"])
+        self.assertEqual(self.wrong_bodies.counts, Counts(passed=6), self.screen.getvalue())
+        for number in (1, 2, 3):
+            self.assertRegex(self.screen.getvalue(), rf"\n    one, check {number} of 3: wrong bodies: 2 passed, 0 failed, \d+:\d\d\n")
 
     def test_wrong_bodies_that_fail(self):
         for text, counts in [

@@ -7,7 +7,7 @@ import unittest
 import unittest.mock
 
 from tests.support import ROOT, scratch
-from tools.wrong_bodies import Trial, WrongBody, copy_with_holes, errors_in, functions_in, rounds
+from tools.wrong_bodies import Trial, WrongBody, copy_with_holes, errors_in, functions_in, rounds, with_a_short_one_first
 
 CODE = {
     "src/lib.rt": """//! A crate.
@@ -198,6 +198,17 @@ list_spec = ?
         with unittest.mock.patch("tools.wrong_bodies.MOST_TOGETHER", 2):
             groups = rounds([self.body(name) for name in names], self.folder)
         self.assertEqual([[it.path.stem for it in group] for group in groups], [names[:2], names[2:4], names[4:]])
+
+    def test_a_short_round_is_first(self):
+        for groups, ordered in [
+            ([], []),
+            ([[1, 2, 3]], [[1, 2, 3]]),
+            ([[1, 2, 3], [4]], [[4], [1, 2, 3]]),
+            ([[1, 2], [3, 4]], [[3, 4], [1, 2]]),
+            ([[1, 2, 3], [4, 5, 6], [7, 8, 9]], [[7, 8], [1, 2, 3], [4, 5, 6], [9]]),
+        ]:
+            with self.subTest(groups):
+                self.assertEqual(with_a_short_one_first(groups), ordered)
 
     def try_these(self, names, output, **more):
         prover = Prover("\n".join(output), **more)

@@ -199,6 +199,14 @@ def rounds(bodies, folder):
     return [group for group, _ in groups]
 
 
+def with_a_short_one_first(groups):
+    """The groups, and before them one of at most two wrong bodies of the last group, if there are several groups."""
+    if len(groups) < 2:
+        return groups
+    *others, last = groups
+    return [it for it in (last[:2], *others, last[2:]) if it]
+
+
 def errors_in(output):
     """The first error in each proof that a check reports. Of a long error, the end stands in an indented line of its own."""
     found = {}
