@@ -1,98 +1,183 @@
 """Proves and tests everything, or runs some of the cases:
 
-    ./test                                              all
-    ./test proofs                                       the proofs, the wrong bodies and the tests in Rattle alone
-    ./test tests.test_program [tests.test_program.Words.test_wrong ..]    modules, classes or cases, over what is built
+    ./test                                   all: `rt ci`, then pytest over what it built
+    ./test proofs                            `rt ci` alone
+    ./test tests.test_program [test_c.Deep cases/refusals.txt:12 tests/test_c.py ..]      cases, as pytest or Python names them
 
-The last line is 'N passed, M failed', and the status is 1 if a case failed.
+The last line is 'N passed, M failed', and the status is 1 if a case failed. Words that begin with `-` go to pytest.
 """
 import contextlib
+import filecmp
+import json
 import os
+import pathlib
+import re
+import resource
+import shutil
 import signal
+import subprocess
 import sys
+import time
 
-from tests.cases import WrongCase
-from tests.modules import Runs, every_name, module_of, name_of
-from tests.results import Counts
-from tests.sources import Sources
-from tests.steps import Copy, Library, Proofs, WrongBodies
-from tests.support import BUILD_NOTHING, ROOT, RUN, scratch
-from tools.progress import Screen, Stopwatch, clock
+from tests import cases
+from tests.support import BUILD_NOTHING, COUNTS, ROOT, RUN, SCREEN, SKIP_NOTHING, processors, scratch
+from tools.progress import Screen, Stopwatch, clock, end_of, follow
 
-PROGRAM = "latex2mathml_app"
+OUT = ROOT / "out"
+LAST_LINE = re.compile(r"(\d+) passed, (\d+) failed")
 
 
-@contextlib.contextmanager
-def prove(screen):
-    """Proves everything, and builds the library for C from what was proved. The block, which gets the steps, runs beside the last
-    wrong bodies."""
+class Total:
+    """What passed and what failed, and the time of each step."""
+
+    def __init__(self, screen):
+        self.screen, self.passed, self.failed, self.lines, self.watch = screen, 0, 0, [], Stopwatch()
+
+    def do(self, name, step):
+        """Does a step, which returns what passed and what failed, and says whether nothing failed."""
+        self.screen.say(name)
+        watch, before = Stopwatch(), spent()
+        passed, failed = step(self.screen)
+        self.screen.clear()
+        self.passed, self.failed = self.passed + passed, self.failed + failed
+        self.lines.append(f"{name}: {passed} passed, {failed} failed, {watch} ({clock(spent() - before)} of a processor)")
+        self.screen.say(f"    {self.lines[-1]}")
+        return not failed
+
+    def say(self):
+        for line in self.lines:
+            self.screen.say(line)
+        self.screen.say(f"all: {self.watch}")
+        self.screen.say(f"{self.passed} passed, {self.failed} failed")
+
+
+def spent():
+    """The processor seconds of the commands that have ended."""
+    used = resource.getrusage(resource.RUSAGE_CHILDREN)
+    return used.ru_utime + used.ru_stime
+
+
+def look_at_layout(screen):
+    """`rt ci` refuses a crate that is not in the layout of `rt fmt`, but only once it comes to it: this takes seconds."""
+    failed = 0
     with scratch() as folder:
-        copy = Copy(folder)
-        with Library(copy) as library, WrongBodies(folder) as wrong_bodies:
-            proofs = Proofs(copy, [library, wrong_bodies])
-            proofs.do(screen)
-            library.do(screen)
-            yield proofs, library, wrong_bodies
-            wrong_bodies.do(screen)
+        for name in ("crates.txt", "HANDLES"):
+            shutil.copy(ROOT / name, folder)
+        shutil.copytree(ROOT / "crates", folder / "crates", ignore=shutil.ignore_patterns("out"))
+        for crate in sorted((folder / "crates").iterdir()):
+            done = subprocess.run(["rt", "fmt"], cwd=crate, stdin=subprocess.DEVNULL, stdout=subprocess.PIPE, stderr=subprocess.STDOUT)
+            files = [it.relative_to(folder) for it in crate.rglob("*") if it.suffix in (".rt", ".antt")]
+            wrong = [str(it) for it in files if not filecmp.cmp(folder / it, ROOT / it, shallow=False)]
+            if done.returncode or wrong:
+                failed += 1
+                screen.say(f"    FAILED: not in the layout of `rt fmt`: {', '.join(wrong) or crate.name}")
+    return int(not failed), failed
 
 
-def try_modules(names, screen, renews=True):
-    runs = Runs(screen, renews)
-    modules = [module_of(name) for name in names]
-    runs.run(modules)
-    return modules, runs.failures
+def prove(screen):
+    """Runs `rt ci` here. Each line with which it says how far it is stays, and all that it prints is kept in a file."""
+    watch, begun, log = Stopwatch(), time.time(), OUT / "rt-ci.log"
+    last = None
+    screen.say(f"    all that it prints is kept in {log}")
+
+    def read(line):
+        nonlocal last
+        last = LAST_LINE.match(line)
+        if line.startswith("rt: ") or last:
+            screen.say(f"    {line.removeprefix('rt: ')}")
+
+    status = follow(["rt", "ci"], log, cwd=ROOT, on_line=read, on_second=lambda: screen.renew(f"    {watch}"))
+    passed, failed = (int(last[1]), int(last[2])) if last else (0, 0)
+    if status or failed or not last:
+        screen.say(end_of(log))
+        return passed, failed or 1
+    # a source that was edited meanwhile is then newer than what was built
+    for made in (ROOT / "crates").glob("*/out/*"):
+        if made.is_file() and made.stat().st_mtime >= begun:
+            os.utime(made, (begun, begun))
+    return passed, failed
 
 
-def try_everything(screen, tries_modules=True):
-    sources = Sources()
-    sources.do(screen)
-    if sources.counts.failed:
-        screen.say("    nothing else is tried, since `rt ci` would refuse these sources, or cases would not run")
-        return [sources], []
-    modules, failures = [], []
-    with prove(screen) as (proofs, library, wrong_bodies):
-        if tries_modules and PROGRAM in proofs.proved and not library.counts.failed:
-            # from here on, the tests use only what was proved and built
-            os.environ[BUILD_NOTHING] = "1"
-            modules, failures = try_modules(every_name(), screen)
-        elif tries_modules:
-            screen.say("    the tests in Python are not tried, since the program or the library for C is not built")
-    return [sources, proofs, library, wrong_bodies, *modules], failures
+def build_c_library(screen):
+    """`rt ci` proves the static library and keeps nothing of it. The libraries below it are kept."""
+    is_built = not subprocess.run([ROOT / "tools/built", "latex2mathml_c"], stdout=subprocess.DEVNULL).returncode
+    return int(is_built), int(not is_built)
+
+
+def run_to_its_end(words):
+    """Runs a command and returns its status. No process that it began outlives it, however this one ends."""
+    with subprocess.Popen(words, cwd=ROOT, start_new_session=True) as running:
+        try:
+            return running.wait()
+        finally:
+            with contextlib.suppress(ProcessLookupError):
+                os.killpg(running.pid, signal.SIGKILL)
+
+
+def try_cases(words):
+    """A step that has pytest run these cases, or all."""
+    def run(screen):
+        with scratch() as folder:
+            counts = folder / "counts"
+            os.environ[COUNTS] = str(counts)
+            at_once = [] if any("::" in word for word in words) else ["-n", str(processors())]
+            status = run_to_its_end([sys.executable, "-B", "-m", "pytest", *at_once, *words])
+            found = json.loads(counts.read_text()) if counts.exists() else {}
+        without = [] if words else modules_without(found.get("modules", []))
+        for module in without:
+            screen.say(f"    FAILED: no case of {module} was tried")
+        passed, failed, skipped = (found.get(name, 0) for name in ("passed", "failed", "skipped"))
+        if os.environ.get(SKIP_NOTHING) == "1":
+            # where nothing may be skipped, what was has failed
+            failed += skipped
+        return passed, failed + len(without) or int(status != 0)
+    return run
+
+
+def modules_without(tried):
+    return sorted({f"tests/{it.name}" for it in (ROOT / "tests").glob("test_*.py")}.difference(tried))
+
+
+def name_of(word):
+    """The name that pytest has for a module, a class or a case, which may also be spelled as Python does, or for a file of cases
+    or a line of one, as `cases/refusals.txt:12`."""
+    if word.startswith("-"):
+        return word
+    if word.startswith("cases/"):
+        word = cases.test_name(word)
+    if "/" in word or "::" in word:
+        return word
+    module, *rest = word.removesuffix(".py").removeprefix("tests.").split(".")
+    return "::".join([f"tests/{module}.py", *rest])
 
 
 def main(words):
-    screen, watch = Screen(), Stopwatch()
+    screen = Screen()
     for number in (signal.SIGTERM, signal.SIGHUP):
         signal.signal(number, lambda number, frame: sys.exit(128 + number))
+    total = Total(screen)
     with scratch() as folder:
         os.environ[RUN] = str(folder)
+        # where a build that a case needs shows its progress, though pytest keeps what cases print
+        os.environ[SCREEN] = f"/proc/{os.getpid()}/fd/{os.dup(2)}"
         if words in ([], ["proofs"]):
-            steps, failures = try_everything(screen, tries_modules=not words)
+            is_well = total.do("layout", look_at_layout) and total.do("rt ci", prove) and total.do("the library for C", build_c_library)
+            if is_well and not words:
+                # from here on, the tests use only what was proved and built
+                os.environ[BUILD_NOTHING] = "1"
+                total.do("pytest", try_cases([]))
+            elif not is_well:
+                screen.say("    nothing else is tried")
         else:
-            # a build that they need shows its own progress
-            steps, failures = try_modules([name_of(word) for word in words], screen, renews=False)
-    total = Counts()
-    for step in steps:
-        total.add(step.counts)
-    screen.say(table(steps, watch))
-    for name in failures:
-        screen.say(f"FAILED: {name}")
-    screen.say(f"{total.passed} passed, {total.failed} failed")
+            total.do("pytest", try_cases([name_of(word) for word in words]))
+    total.say()
     return 1 if total.failed else 0
-
-
-def table(steps, watch):
-    """The wall-clock and processor times of each step."""
-    rows = [("", "time", "processors", ""), *((it.name, clock(it.seconds), clock(it.spent), str(it.counts)) for it in steps)]
-    rows.append(("all", str(watch), clock(sum(it.spent for it in steps)), ""))
-    width = max(len(row[0]) for row in rows)
-    return "\n".join(f"{row[0]:{width}}  {row[1]:>9}  {row[2]:>10}  {row[3]}".rstrip() for row in rows)
 
 
 if __name__ == "__main__":
     try:
         sys.exit(main(sys.argv[1:]))
-    except WrongCase as wrong:
+    except cases.WrongCase as wrong:
         sys.exit(str(wrong))
     except KeyboardInterrupt:
         sys.exit(130)

@@ -1,6 +1,7 @@
-"""Random formulas: the same seed makes the same ones."""
-import random
+"""Random formulas, as strategies of hypothesis."""
 import re
+
+from hypothesis import strategies as st
 
 from tests.support import ROOT
 
@@ -20,55 +21,39 @@ def command_names():
     return sorted(names | {"\\"})
 
 
-class Formulas:
-    """Random formulas: most are built as one would write them, some are noise."""
+def joined(parts, most):
+    """Up to so many of these parts, side by side."""
+    return st.lists(parts, max_size=most).map("".join)
 
-    def __init__(self, seed):
-        self.random = random.Random(seed)
-        self.names = command_names()
 
-    def command(self):
-        name = self.random.choice(self.names)
-        return "\\" + name + (" " if name[-1].isalpha() else "")
+def around(before, inner, after="}"):
+    return inner.map(lambda text: f"{before}{text}{after}")
 
-    def noise(self):
-        parts = [self.random.choice([self.random.choice(CHARACTERS), self.command()]) for _ in range(self.random.randrange(12))]
-        return "".join(parts)
 
-    def group(self, depth):
-        return "{" + self.formula(depth - 1) + "}"
+def longer(inner):
+    """What is built of formulas: groups, scripts, operands, fences, environments."""
+    formula = joined(inner, 3)
+    group = around("{", formula)
+    begun = ["\\sqrt", "\\sqrt[3]", "\\lim_", "\\hat", "\\overbrace", "\\underbrace", "\\slashed", "\\mathbf", "\\mathbb"]
+    paired = ["\\frac{}{}", "\\binom{}{}", "\\sum_{}^{}", "\\int_{}^{}", "\\overset{}{}", "\\underset{}{}"]
+    kinds = ["matrix", "pmatrix", "bmatrix", "vmatrix", "align", "cases"]
+    lines = st.lists(st.lists(formula, min_size=1, max_size=3).map(" & ".join), min_size=1, max_size=3).map(r" \\ ".join)
+    return st.one_of(
+        group,
+        st.tuples(inner, st.sampled_from("_^"), group).map("".join),
+        around("", inner, "'"),
+        st.tuples(st.sampled_from(begun), group).map("".join),
+        st.builds(str.format, st.sampled_from(paired), group, group),
+        st.builds("\\left{}{}\\right{}".format, st.sampled_from("([|."), formula, st.sampled_from(")]|.")),
+        st.builds("\\begin{{{0}}}{1}\\end{{{0}}}".format, st.sampled_from(kinds), lines))
 
-    def matrix(self, depth):
-        kind = self.random.choice(["matrix", "pmatrix", "bmatrix", "vmatrix", "align", "cases"])
-        lines = [" & ".join(self.formula(depth - 1) for _ in range(self.random.randint(1, 3))) for _ in range(self.random.randint(1, 3))]
-        return "\\begin{" + kind + "}" + " \\\\ ".join(lines) + "\\end{" + kind + "}"
 
-    def atom(self, depth):
-        if depth <= 0:
-            return self.random.choice(["x", "7", "3.14", "+", "\\alpha ", "\\, ", "<", "&", "'", "\\sin ", self.command()])
-        return self.random.choice([
-            lambda: self.atom(0),
-            lambda: self.group(depth),
-            lambda: self.atom(depth - 1) + "_" + self.group(depth),
-            lambda: self.atom(depth - 1) + "^" + self.group(depth),
-            lambda: self.atom(depth - 1) + "'",
-            lambda: "\\frac" + self.group(depth) + self.group(depth),
-            lambda: "\\binom" + self.group(depth) + self.group(depth),
-            lambda: "\\sqrt" + self.random.choice(["", "[3]"]) + self.group(depth),
-            lambda: "\\sum_" + self.group(depth) + "^" + self.group(depth),
-            lambda: "\\int_" + self.group(depth) + "^" + self.group(depth),
-            lambda: "\\lim_" + self.group(depth),
-            lambda: self.random.choice(["\\hat", "\\overbrace", "\\underbrace", "\\slashed", "\\mathbf", "\\mathbb"]) + self.group(depth),
-            lambda: self.random.choice(["\\overset", "\\underset"]) + self.group(depth) + self.group(depth),
-            lambda: "\\left" + self.random.choice("([|.") + self.formula(depth - 1) + "\\right" + self.random.choice(")]|."),
-            lambda: "\\big" + self.random.choice("lr") + self.random.choice("()[]|"),
-            lambda: self.random.choice(["\\text{", "\\operatorname{"]) + self.random.choice(["abc", "a<b & c", "if "]) + "}",
-            lambda: self.matrix(depth),
-            self.noise,
-        ])()
-
-    def formula(self, depth):
-        return "".join(self.atom(depth) for _ in range(self.random.randrange(4)))
-
-    def next(self):
-        return self.noise() if self.random.random() < 0.2 else self.formula(self.random.randint(1, 3))
+def formulas():
+    """Formulas: most are built as one would write them, some are noise."""
+    command = st.sampled_from(command_names()).map(lambda name: "\\" + name + (" " if name[-1].isalpha() else ""))
+    sizes = st.builds("\\big{}{}".format, st.sampled_from("lr"), st.sampled_from("()[]|"))
+    words = around("", st.builds("{}{{{}".format, st.sampled_from(["\\text", "\\operatorname"]), st.sampled_from(["abc", "a<b & c", "if "])))
+    noise = joined(st.one_of(st.sampled_from(CHARACTERS), command), 11)
+    leaf = st.sampled_from(["x", "7", "3.14", "+", "\\alpha ", "\\, ", "<", "&", "'", "\\sin "]) | command | sizes | words
+    built = joined(st.recursive(leaf, longer, max_leaves=12), 3)
+    return st.one_of(built, built, built, noise)

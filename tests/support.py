@@ -20,8 +20,14 @@ RUN = "LATEX2MATHML_RUN"
 # If it is 1, `tools/built` builds nothing: after the proofs of `./test`, only what they built may be used.
 BUILD_NOTHING = "LATEX2MATHML_BUILD_NOTHING"
 
-# The number of the stream on which a build shows its progress.
+# The file on which a build shows its progress.
 SCREEN = "LATEX2MATHML_SCREEN"
+
+# Names a file for the counts of passed, failed and skipped cases.
+COUNTS = "LATEX2MATHML_COUNTS"
+
+# If it is 1, `./test` counts a case that is skipped as one that failed.
+SKIP_NOTHING = "LATEX2MATHML_SKIP_NOTHING"
 
 # Says how much of the processors a container may use: microseconds in a period, or `max`, and the period.
 QUOTA = pathlib.Path("/sys/fs/cgroup/cpu.max")
@@ -39,8 +45,7 @@ def program():
 @functools.cache
 def build(crate):
     """The path of the built program of a crate, or of its static library."""
-    with once(crate):
-        screen = int(os.environ.get(SCREEN, "2"))
+    with once(crate), open(os.environ.get(SCREEN, "/dev/stderr"), "ab", buffering=0) as screen:
         done = subprocess.run([ROOT / "tools/built", crate], stdin=subprocess.DEVNULL, stdout=subprocess.PIPE, stderr=screen)
     if done.returncode:
         raise RuntimeError(f"{crate} is not built, or is older than its sources: tools/built {crate} builds it")

@@ -6,12 +6,12 @@ Each kind of node and each place in it is tried, nested in itself; `productions.
 import resource
 import unittest
 
+import pytest
+
 from tests import faulty, support
 from tests.productions import MISSING, PRODUCTIONS, WIDE, count_tokens
 
-# Seconds that the cases of a class may take.
-LIMIT = 1800
-LONG = True
+pytestmark = [pytest.mark.long, pytest.mark.timeout(1800)]
 
 # The most bytes that such a formula takes for a token, besides the rooms of the text and of the answer, and what every run takes.
 # An accent or a root without braces takes most: a frame, a part and what is to be written, of 32 bytes each. Their lists have room

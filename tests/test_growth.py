@@ -5,10 +5,12 @@ on what else the machine does.
 """
 import unittest
 
+import pytest
+
 from tests import faulty, support
 from tests.instructions import instructions
 
-LONG = True
+pytestmark = pytest.mark.long
 
 # Four times the text takes at most this many times as much.
 MOST_TIMES = 4.1

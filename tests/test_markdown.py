@@ -2,10 +2,12 @@
 import re
 import unittest
 
+import pytest
+
 from tests.environments import ask, environment, requires_python, run_python
 from tests.support import ROOT, Case, limit_processor, scratch
 
-LONG = True
+pytestmark = pytest.mark.long
 
 # What a process may take that reads a slow text.
 SLOW = {"preexec_fn": limit_processor(20), "timeout": 300}

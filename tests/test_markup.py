@@ -1,11 +1,15 @@
 """The markup of random formulas, read with Python's XML parser: it is one well-formed `math` element that obeys the child table.
 
-LATEX2MATHML_RANDOM is the number of formulas, and LATEX2MATHML_SEED the seed.
+LATEX2MATHML_RANDOM is the number of formulas, and LATEX2MATHML_SEED the seed: the same seed tries the same formulas. Of one that fails,
+hypothesis finds the shortest.
 """
 import os
 import xml.etree.ElementTree as ElementTree
 
-from tests.random_formulas import Formulas
+from hypothesis import HealthCheck, given, seed, settings
+from hypothesis import strategies as st
+
+from tests.random_formulas import formulas
 from tests.support import Case, program, run
 
 COUNT = int(os.environ.get("LATEX2MATHML_RANDOM", "400"))
@@ -61,16 +65,20 @@ def check_answer(answer, display):
 
 class Markup(Case):
     def test_random_formulas(self):
-        formulas, answered = Formulas(SEED), 0
-        for number in range(COUNT):
-            formula, word = formulas.next(), ["inline", "block"][number % 2]
-            with self.subTest(f"{number} of seed {SEED}: {formula!r}"):
-                done = run([program(), word], stdin=formula.encode())
-                if done.returncode == 1:
-                    self.assertRegex(done.stderr, rb"\ALaTeX2MathML Error: [^\n]+\n\Z")
-                    self.assertEqual(done.stdout, b"")
-                else:
-                    self.expect(done)
-                    check_answer(done.stdout.decode(), word)
-                    answered += 1
-        self.assertGreater(answered, COUNT // 2)
+        answered = []
+
+        @seed(SEED)
+        @settings(max_examples=COUNT, deadline=None, database=None, suppress_health_check=list(HealthCheck))
+        @given(formulas(), st.sampled_from(["inline", "block"]))
+        def check(formula, word):
+            done = run([program(), word], stdin=formula.encode())
+            if done.returncode == 1:
+                self.assertRegex(done.stderr, rb"\ALaTeX2MathML Error: [^\n]+\n\Z")
+                self.assertEqual(done.stdout, b"")
+            else:
+                self.expect(done)
+                check_answer(done.stdout.decode(), word)
+                answered.append(formula)
+
+        check()
+        self.assertGreater(len(answered), COUNT // 2)

@@ -7,10 +7,12 @@ import re
 import shutil
 import unittest
 
+import pytest
+
 from tests.integration import UNCLOSED, answer_of
 from tests.support import ROOT, Case, c_library, limit_processor, requires, run, scratch
 
-LONG = True
+pytestmark = pytest.mark.long
 
 PACKAGES = pathlib.Path("/usr/share/nodejs")  # Debian's
 HEADERS = pathlib.Path("/usr/include/node" if pathlib.Path("/usr/include/node").exists() else "/usr/local/include/node")

@@ -2,10 +2,12 @@
 import re
 import unittest
 
+import pytest
+
 from tests.environments import environment, requires_python, run_python
 from tests.support import ROOT, Case, scratch
 
-LONG = True
+pytestmark = pytest.mark.long
 
 CONF = """
 extensions = ["latex2mathml_proved.sphinx"]
