@@ -1,15 +1,12 @@
-"""Checks the documents: links lead somewhere, commands print what is shown, quotes match the sources, and sentences are short.
-
-`python3 -m tests.test_documents` renews the lines of definitions and the signatures that documents quote.
-"""
+"""Checks the documents: links lead somewhere, commands print what is shown, what `tools/renew-documents` writes is as it would
+write it now, and sentences are short."""
 import re
 import shutil
-import sys
 import unittest
 
-from tests import quotes
 from tests.integration import answer_of
-from tests.support import ROOT, Case, program, run, scratch
+from tests.support import ROOT, Case, program, requires, run, scratch
+from tools import quotes, specs
 
 # the most words that a sentence may have
 LONGEST = 35
@@ -57,28 +54,52 @@ class Links(Case):
                     broken.append(f"{document.relative_to(ROOT)}: {target}: there is no such heading")
         self.assertFalse(broken, "\n".join(broken))
 
-    def test_definitions_stand_in_their_lines(self):
-        stale = [f"{link.document.relative_to(ROOT)}: {link.word} stands in line {link.line_now()}, not in {link.line}"
-                 for document in documents() for link in quotes.definitions(document) if link.line_now() != link.line]
-        self.assertFalse(stale, "\n".join([*stale, "renew them by: python3 -m tests.test_documents"]))
-
 
 class Quotes(Case):
     longMessage = False
 
-    def test_signatures_are_those_of_the_source(self):
-        wrong = []
-        for document in documents():
-            for quote in quotes.quotes_in(document):
-                if not quote.stands():
-                    wrong.append(f"{document.relative_to(ROOT)}: {quote.source.relative_to(ROOT)} does not have\n{quote.text}")
-        self.assertFalse(wrong, "\n".join(wrong))
+    def test_nothing_is_to_be_renewed(self):
+        self.expect(run([ROOT / "tools/renew-documents", "--check"]), stdout=b"")
+
+    def test_only_these_documents_quote(self):
+        renewed = re.findall(r'"(docs/\w+\.md)"', (ROOT / "tools/renew-documents").read_text())
+        quoting = [str(it.relative_to(ROOT)) for it in documents() if re.search(r"\.antt#L|<!-- (quoted from|made by)", it.read_text())]
+        self.assertEqual(sorted(renewed), sorted(quoting))
 
     def test_each_public_call_is_quoted(self):
         document = ROOT / "docs/CALLING.md"
         text = document.read_text()
         missing = [name for name in quotes.public_calls() if f"fn {name}" not in text]
         self.assertFalse(missing, f"docs/CALLING.md does not quote: {', '.join(missing)}")
+
+
+class Definitions(Case):
+    """What PROMISES says of the definitions that its contracts rest on."""
+    document = ROOT / "docs/PROMISES.md"
+    files = specs.in_order(specs.named_by_public_contracts())
+
+    def test_the_tables_link_each_file_after_those_that_it_uses(self):
+        linked = list(dict.fromkeys(link.source for link in quotes.definitions(self.document)))
+        self.assertEqual(sorted(linked), sorted(it.path for it in self.files))
+        for here in self.files:
+            for below in specs.files_below(here):
+                with self.subTest(f"{here.name} uses {below.name}"):
+                    self.assertLess(linked.index(below.path), linked.index(here.path))
+
+    def test_a_file_is_listed_after_those_that_it_uses(self):
+        for at, here in enumerate(self.files):
+            self.assertEqual([below.name for below in specs.files_below(here) if below not in self.files[:at]], [], here.name)
+
+    def test_the_imports_of_a_file_are_all_of_its_imports(self):
+        """No import of a file is read past: each line that begins with `use` is one."""
+        for here in self.files:
+            lines = [line for line in here.path.read_text().split("\n") if re.match(r"\s*(?:\w+ )*use\b", line)]
+            self.assertEqual(len(specs.USE.findall(here.path.read_text())), len(lines), here.name)
+
+    @requires("rt")
+    def test_the_toolchain_is_the_one_that_is_named(self):
+        version = run(["rt", "version"]).stdout.decode().strip()
+        self.assertIn(f"`{version}` as `rt version` prints it", self.document.read_text())
 
 
 class Modules(Case):
@@ -236,9 +257,3 @@ class Versions(Case):
                 found = re.search(pattern, (ROOT / name).read_text(), re.M)
                 self.assertIsNotNone(found, f"{name} has no version")
                 self.assertEqual(found[1], newest)
-
-
-if __name__ == "__main__":
-    for document in documents():
-        quotes.renew(document)
-    sys.exit(0)
