@@ -134,7 +134,8 @@ class Building(House):
         paths = [self.house / "crates/high/out/high", self.house / "crates/tool/out/libtool.a"]
         for said in (None, b""):
             self.expect(self.build("high tool"), stdout="".join(f"{path}\n" for path in paths).encode(), stderr=said)
-        self.assertEqual(sorted(line.split()[0] for line in self.calls.read_text().splitlines()), ["high", "low", "middle", "tool"])
+        built = [line.split()[0] for line in self.calls.read_text().splitlines()]
+        self.assertEqual(sorted(built), ["high", "low", "middle", "tool"])
         (self.house / "crates/tool/src/lib.rt").touch()
         self.expect(self.build("high tool"), stdout="".join(f"{path}\n" for path in paths).encode(), stderr=None)
         self.expect_calls(1)
@@ -313,10 +314,9 @@ class SideBySide(House):
         one = {min(os.sched_getaffinity(0))}
         environment = self.environment(MEETS="left right")
         words = [sys.executable, self.house / "tools/build", "both"]
-        with subprocess.Popen(words, env=environment, stderr=subprocess.PIPE, preexec_fn=lambda: os.sched_setaffinity(0, one)) as building:
-            said = building.communicate(timeout=60)[1].decode()
-        self.assertEqual(building.returncode, 1)
-        self.assertIn("the other did not begin", said)
+        done = run(words, env=environment, preexec_fn=lambda: os.sched_setaffinity(0, one))
+        self.expect(done, 1, b"", None)
+        self.assertIn("the other did not begin", done.stderr.decode())
 
     def test_no_more_than_there_is_memory_for(self):
         (self.folder / "met").write_text("")

@@ -63,8 +63,8 @@ class Quotes(Case):
 
     def test_only_these_documents_quote(self):
         renewed = re.findall(r'"(docs/\w+\.md)"', (ROOT / "tools/renew-documents").read_text())
-        quoting = [str(it.relative_to(ROOT)) for it in documents() if re.search(r"\.antt#L|<!-- (quoted from|made by)", it.read_text())]
-        self.assertEqual(sorted(renewed), sorted(quoting))
+        quoting = [it for it in documents() if re.search(r"\.antt#L|<!-- (quoted from|made by)", it.read_text())]
+        self.assertEqual(sorted(renewed), sorted(str(it.relative_to(ROOT)) for it in quoting))
 
     def test_each_public_call_is_quoted(self):
         document = ROOT / "docs/CALLING.md"
@@ -76,7 +76,7 @@ class Quotes(Case):
 class Definitions(Case):
     """What PROMISES says of the definitions that its contracts rest on."""
     document = ROOT / "docs/PROMISES.md"
-    files = specs.in_order(specs.named_by_public_contracts())
+    files = specs.in_order(specs.named(quotes.public_sources()))
 
     def test_the_tables_link_each_file_after_those_that_it_uses(self):
         linked = list(dict.fromkeys(link.source for link in quotes.definitions(self.document)))

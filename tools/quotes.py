@@ -82,3 +82,10 @@ def sources():
         for source in sorted((ROOT / "crates" / crate / "src").rglob("*.rt")):
             if f"{crate}/{source.name}" not in OWN_CALLS:
                 yield source
+
+
+def public_sources():
+    """The sources whose public functions are called from outside: those of the library, of the program, and of the library for C."""
+    yield from sources()
+    for path in ("latex2mathml_app/src/job.rt", "latex2mathml_app/src/serve.rt", "latex2mathml_c/src/lib.rt"):
+        yield ROOT / "crates" / path

@@ -2,11 +2,7 @@
 import functools
 import pathlib
 import re
-import sys
 from dataclasses import dataclass, field
-
-sys.path.insert(0, str(pathlib.Path(__file__).parent))
-import quotes  # noqa: E402
 
 ROOT = pathlib.Path(__file__).resolve().parent.parent
 CRATES = ROOT / "crates"
@@ -16,7 +12,8 @@ CRATES_IN_ORDER = ("latex2mathml_tokens", "latex2mathml_trees", "latex2mathml_no
                    "latex2mathml_app", "latex2mathml_c")
 
 # an import, of a module or of names in it
-USE = re.compile(r"^(?:unfoldable )?(?P<public>pub )?use (?P<path>[^\s{}]+?)(?:\.\{(?P<names>[^}]*)\})?(?: as (?P<other>[\w-]+))?$", re.M)
+USE = re.compile(r"^(?:unfoldable )?(?P<public>pub )?use (?P<path>[^\s{}]+?)(?:\.\{(?P<names>[^}]*)\})?"
+                 r"(?: as (?P<other>[\w-]+))?$", re.M)
 GHOST_USE = re.compile(r"^ *ghost use (?P<path>[^\s{};]+?)(?:\.\{(?P<names>[^}]*)\})?;", re.M)
 
 # what may be part of a name in a definition or a clause
@@ -117,7 +114,8 @@ def in_order(paths):
 
 
 def library_words(specs, paths):
-    """The words of the standard library, and of what that builds on, that these files import and that are among these paths, by module."""
+    """The words of the standard library, and of what that builds on, that these files import or that are among these paths, by
+    module."""
     found = {}
     used = [path for here in specs for path in {**here.used, **here.handed_on}.values()]
     for path in sorted({*used, *paths}):
@@ -128,8 +126,8 @@ def library_words(specs, paths):
 
 
 def clauses(text):
-    """The contracts of the functions that a source makes public, by themselves or in a trait, and what is known of its values: what
-    `Display` prints, and the state of a stream or a site."""
+    """The contracts of the functions that a source makes public, by themselves or in a trait, and what is known of its values:
+    what `Display` prints, and the state of a stream or a site."""
     lines, in_trait = code_of(text, "//").split("\n"), False
     for at, line in enumerate(lines):
         in_trait = line.startswith("pub trait ") or in_trait and not line.startswith("}")
@@ -145,23 +143,12 @@ def up_to(end, lines):
     return "\n".join(lines[:last + 1])
 
 
-def named(source):
-    """The paths of the words that the public contracts of a source name."""
-    text = source.read_text(encoding="utf-8")
-    scope = {}
-    for found in GHOST_USE.finditer(code_of(text, "//")):
-        scope.update(imports(found))
-    words = {word for clause in clauses(text) for word in WORD.findall(clause)}
-    return sorted(path for word, path in scope.items() if word in words)
-
-
-def public_sources():
-    """The sources whose public functions are called from outside: of the library, of the program, and of the library for C."""
-    yield from quotes.sources()
-    for path in ("latex2mathml_app/src/job.rt", "latex2mathml_app/src/serve.rt", "latex2mathml_c/src/lib.rt"):
-        yield CRATES / path
-
-
-def named_by_public_contracts():
-    """The paths of all words that the public contracts name."""
-    return sorted({path for source in public_sources() for path in named(source)})
+def named(sources):
+    """The paths of all words that the public contracts of these sources name."""
+    found = set()
+    for source in sources:
+        text = source.read_text(encoding="utf-8")
+        words = {word for clause in clauses(text) for word in WORD.findall(clause)}
+        for scope in map(imports, GHOST_USE.finditer(code_of(text, "//"))):
+            found.update(path for word, path in scope if word in words)
+    return sorted(found)
