@@ -4,6 +4,7 @@ import re
 import shutil
 import unittest
 
+from tests import cases
 from tests.integration import answer_of
 from tests.support import ROOT, Case, program, requires, run, scratch
 from tools import quotes, specs
@@ -227,8 +228,81 @@ class Language(Case):
         self.assertEqual({fault.strip("`"): text.strip("`") for fault, _, text in self.table("Fault | When | Text")}, texts)
 
 
+class Numbers(Case):
+    """The numbers and names that documents take from the sources."""
+
+    def says(self, document, text):
+        self.assertIn(text, " ".join((ROOT / document).read_text().split()), document)
+
+    def test_commands(self):
+        count = len(cases.commands())
+        for document, noun in (("README.md", "commands"), ("integrations/README.md", "commands"), ("docs/COMMANDS.md", "entries"),
+                               ("docs/DECISIONS.md", "texts"), ("docs/ARCHITECTURE.md", "entries")):
+            self.says(document, f" {count} {noun}")
+
+    def test_environments(self):
+        definition = (ROOT / "crates/latex2mathml_trees/specs/Productions.antt").read_text().partition("\nenvironment_tree name")[2]
+        names = set(re.findall(r'bytes_eq name \(codes "(\w+)"\)', definition))
+        said = re.search(r"the environments ((?:`\w+`(?:, | and )?)+)", (ROOT / "README.md").read_text())
+        self.assertEqual(set(re.findall(r"`(\w+)`", said[1])), names)
+
+    def test_comparisons(self):
+        definition = (ROOT / "crates/latex2mathml_formulas/specs/Counts.antt").read_text()
+        most = re.search(r"n ≤ (\d+) \* backslashes", definition)[1]
+        self.says("README.md", f"at most {most} compared names per command")
+        self.says("docs/PROMISES.md", f"1 to {most} names for each token")
+        self.says("cases/counts.txt", f"A command is compared with 1 to {most} names")
+
+    def test_levels(self):
+        levels = re.search(r"(?m)^levels_read = (\d+)$", (ROOT / "crates/latex2mathml/specs/Files.antt").read_text())[1]
+        self.says("docs/PROMISES.md", f"at most {levels} levels are read")
+        self.says("docs/DIFFERENCES.md", f"to {levels} levels")
+        self.says("docs/DECISIONS.md", f"at most {levels} levels")
+
+
+class Page(Case):
+    """What pages link, and what the packages do by default."""
+
+    LINKS = re.compile(r'^    (<link .*>)\n    (<script .*></script>)$', re.M)
+
+    def test_the_two_lines_that_a_page_links(self):
+        lines = self.LINKS.findall((ROOT / "page/README.md").read_text())
+        self.assertEqual(lines, self.LINKS.findall((ROOT / "README.md").read_text()))
+        linked = re.findall(r'(?:href|src)="([^"]*)"', " ".join(*lines))
+        self.assertEqual(sorted(linked), ["page/latex2mathml.css", "page/latex2mathml.js"])
+        for name in linked:
+            self.assertTrue((ROOT / name).is_file(), name)
+
+    def test_defaults(self):
+        """The column of defaults is what each integration takes for an option that is not given."""
+        table = (ROOT / "integrations/README.md").read_text().partition("| Option | Default |")[2].partition("\n\n")[0]
+        said = {name: default for name, default in re.findall(r"^\| `(\w+)` \| `(\w+)` \|", table, re.M)}
+        self.assertEqual(sorted(said), ["names", "page", "strict"])
+        python = "integrations/python/src/latex2mathml_proved"
+        for source, form, differing in (
+            (f"{python}/markdown.py", r'^ +"NAME": \[(.*?), "', {}),
+            (f"{python}/sphinx.py", r'^    app\.add_config_value\("latex2mathml_NAME", (.*?), "html"', {"page": "true"}),
+            ("integrations/pandoc/latex2mathml.lua", r"^  NAME = (.*?),$", {}),
+            ("integrations/node/markdown-it.js", r"^module\.exports = .*\bNAME = (.*?)(?:, warn|,)", {"names": None}),
+            ("integrations/node/names.js", r"^function NAMEOf\(option = (.*?)\)", {"strict": None, "page": None}),
+        ):
+            for name, default in {**said, **differing}.items():
+                with self.subTest(source, option=name):
+                    found = re.search(form.replace("NAME", name), (ROOT / source).read_text(), re.M)
+                    self.assertEqual(found and found[1].strip("'\"").lower(), default)
+
+
 class Figures(Case):
     """The figures of the READMEs match the files that the benchmarks write."""
+
+    def test_ratios(self):
+        """How many times as many instructions the crate executes, by the table below that."""
+        text = (ROOT / "README.md").read_text()
+        least, most = re.search(r"executes (\d\.\d) to (\d\.\d) times as many instructions", text).groups()
+        rows = [(int(ours), int(theirs)) for ours, theirs in re.findall(r"\| (\d+) million, (\d+) million, ", text)]
+        ratios = [theirs / ours for ours, theirs in rows]
+        self.assertTrue(ratios)
+        self.assertEqual((least, most), (f"{min(ratios):.1f}", f"{max(ratios):.1f}"))
 
     def test_instructions(self):
         counted = dict(reversed(line.split("  ", 1)) for line in (ROOT / "bench/instructions.txt").read_text().splitlines())
