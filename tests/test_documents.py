@@ -260,6 +260,25 @@ class Numbers(Case):
         self.says("docs/DECISIONS.md", f"at most {levels} levels")
 
 
+class Derives(Case):
+    """The table of DIFFERENCES.md names the traits that each new type derives."""
+
+    def test_the_table_is_that_of_the_sources(self):
+        table = (ROOT / "docs/DIFFERENCES.md").read_text().partition("| Type | Derives |")[2].partition("\n\n")[0]
+        said = {name: re.findall(r"`(\w+)`", traits) for names, traits in re.findall(r"^\| (`.*?`) \| (.*) \|$", table, re.M)
+                for name in re.findall(r"`(\w+)`", names)}
+        found = {}
+        for source in quotes.sources():
+            types = re.findall(r"^#\[derive\((.*)\)\]\n(?:#.*\n)*pub (?:struct|enum) (\w+)", source.read_text(), re.M)
+            found.update({name: traits.split(", ") for traits, name in types})
+        self.assertTrue(said)
+        self.assertEqual({name: found.get(name) for name in said}, said)
+        of_the_crate = {"Token", "Node", "LatexError", "DisplayStyle", "Variant", "Accent", "LineThickness", "ColumnAlign"}
+        library = (ROOT / "crates/latex2mathml/src/lib.rt").read_text()
+        handed_on = re.findall(r"\w+", " ".join(re.findall(r"^pub use [^;]*;", library, re.M)))
+        self.assertEqual([name for name in found if name in handed_on and name not in said and name not in of_the_crate], [])
+
+
 class Page(Case):
     """What pages link, and what the packages do by default."""
 
