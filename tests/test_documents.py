@@ -62,6 +62,24 @@ class Quotes(Case):
     def test_nothing_is_to_be_renewed(self):
         self.expect(run([ROOT / "tools/renew-documents", "--check"]), stdout=b"")
 
+    def test_a_line_that_moved_is_renewed(self):
+        folder = self.enterContext(scratch())
+        for part in ("docs", "tools", "crates"):
+            shutil.copytree(ROOT / part, folder / part, ignore=shutil.ignore_patterns("out", "must-fail", "proofs"))
+        source, document = folder / "crates/latex2mathml/specs/Documents.antt", folder / "docs/PROMISES.md"
+        old, link = document.read_text(), "specs/Documents.antt#L{})"
+        line = source.read_text().split("\n").index("pub data Piece : Type 0 where") + 1
+        self.assertIn(f"[`Piece`](../crates/latex2mathml/{link.format(line)}", old)
+        source.write_text(f"-- one more line\n{source.read_text()}")
+        renew = folder / "tools/renew-documents"
+        shown = run([renew, "--check"])
+        self.expect(shown, 1, None)
+        self.assertIn(f"+| [`Piece`](../crates/latex2mathml/{link.format(line + 1)}", shown.stdout.decode())
+        self.assertEqual(document.read_text(), old)
+        self.expect(run([renew]), stdout=b"")
+        self.assertIn(f"[`Piece`](../crates/latex2mathml/{link.format(line + 1)}", document.read_text())
+        self.expect(run([renew, "--check"]), stdout=b"")
+
     def test_only_these_documents_quote(self):
         renewed = re.findall(r'"(docs/\w+\.md)"', (ROOT / "tools/renew-documents").read_text())
         quoting = [it for it in documents() if re.search(r"\.antt#L|<!-- (quoted from|made by)", it.read_text())]
