@@ -4,11 +4,15 @@
 """
 import contextlib
 import os
+import pathlib
 import pty
 import shutil
+import signal
 import stat
+import subprocess
 import sys
 import time
+import unittest
 
 from tests.support import BUILD_NOTHING, Case, ROOT, run, scratch
 
@@ -18,23 +22,38 @@ middle: low
 high: low middle  # two
 tool staticlib: middle
 other: low
+left: low
+right: low
+both: left right
 """
 
+CRATES = ("low", "middle", "high", "tool", "other", "left", "right", "both")
+
+# A crate is built over what was built of those below it. In a crate that $MEETS names, `rt` waits for the other of the two.
 RT = r"""#!/bin/sh
-echo "$PWD $*" >>"$CALLS"
-for crate in low middle high; do
-    echo "rt: chose --jobs 2 for $crate"
-    echo 'so far: 0 of 7 functions checked; the verdict comes last'
-    echo "checked $crate::f, 3 of 7"
-    echo 'so far: 5 of 7 functions checked'
-    [ "$FAILS" != "$crate" ] || { echo 'fn f: not proved'; exit 1; }
-    echo 'logic=proved functions=6 sum=1'
+crate=${PWD##*/}
+echo "$crate $*" >>"$CALLS"
+echo 'so far: 0 of 7 functions checked; the verdict comes last'
+echo "checked $crate::f, 3 of 7"
+echo 'so far: 5 of 7 functions checked'
+for below in $(sed -n "s/^$crate[^:]*://p" ../../crates.txt); do
+    [ -f "../$below/out/rlib/made" ] || { echo "$below is not built"; exit 1; }
 done
+case " $MEETS " in *" $crate "*)
+    echo "$crate" >>"$MET"
+    for turn in $(seq 100); do [ "$(wc -l <"$MET")" -lt 2 ] || break; sleep 0.05; done
+    [ "$(wc -l <"$MET")" = 2 ] || { echo 'the other did not begin'; exit 1; }
+esac
+[ "$FAILS" != "$crate" ] || { echo 'fn f: not proved'; exit 1; }
+[ "$LASTS" != "$crate" ] || { echo $$ >"$PROCESS"; exec sleep 60; }
+echo 'logic=proved functions=6 sum=1'
 [ -z "$EDITS" ] || { sleep 0.02; touch "$EDITS"; sleep 0.02; }
-mkdir -p out
-case $1 in
-lib) echo made >out/libtool.a ;;
-run) printf '#!/bin/sh\necho "the program ran"\n' >out/high && chmod +x out/high && out/high ;;
+mkdir -p out/rlib
+echo made >out/rlib/made
+echo "$crate" >>out/kept
+case $crate in
+tool) echo made >out/libtool.a ;;
+high | both) printf '#!/bin/sh\necho "the program ran"\n' >out/$crate && chmod +x out/$crate && out/$crate ;;
 esac
 """
 
@@ -48,15 +67,22 @@ def read_terminal(terminal):
     return shown.decode()
 
 
-class Building(Case):
+class House(Case):
+    """A folder with crates, and with an `rt` that makes what the toolchain would make."""
+
     def setUp(self):
         self.folder = self.enterContext(scratch())
         self.house = self.folder / "a house"  # a path may have spaces
         (self.house / "tools").mkdir(parents=True)
         for name in ("built", "build", "progress.py"):
             shutil.copy(ROOT / "tools" / name, self.house / "tools")
+        self.memory = self.folder / "meminfo"
+        self.memory.write_text("MemTotal: 64000000 kB\nMemAvailable: 32000000 kB\n")
+        build = self.house / "tools/build"
+        self.assertIn('"/proc/meminfo"', build.read_text())
+        build.write_text(build.read_text().replace("/proc/meminfo", str(self.memory)))
         (self.house / "crates.txt").write_text(CRATES_TXT)
-        for crate in ("low", "middle", "high", "tool", "other"):
+        for crate in CRATES:
             for file in ("src/lib.rt", "src/inner/part.rt", "specs/Lib.antt", "proofs/f/Answers.antt", "proofs/g/Answers.antt"):
                 path = self.house / "crates" / crate / file
                 path.parent.mkdir(parents=True, exist_ok=True)
@@ -77,12 +103,24 @@ class Building(Case):
             os.utime(path, (then, then))
 
     def build(self, crate="high", **more):
-        environment = {**os.environ, BUILD_NOTHING: "", "PATH": f"{self.folder / 'bin'}:{os.environ['PATH']}", "CALLS": str(self.calls), **more}
-        return run([self.house / "tools/built", crate], env=environment)
+        return run([self.house / "tools/built", *crate.split()], env=self.environment(**more))
+
+    def environment(self, **more):
+        return {**os.environ, BUILD_NOTHING: "", "PATH": f"{self.folder / 'bin'}:{os.environ['PATH']}", "CALLS": str(self.calls),
+                "MET": str(self.folder / "met"), "PROCESS": str(self.folder / "process"), **more}
 
     def expect_calls(self, count):
-        self.assertEqual(len(self.calls.read_text().splitlines()), count, self.calls.read_text())
+        """Expects that the program `high` was built so many times."""
+        calls = self.calls.read_text()
+        self.assertEqual(sum(line.startswith("high ") for line in calls.splitlines()), count, calls)
 
+    def made(self, crate):
+        """The names in the crate's `out/`."""
+        folder = self.house / "crates" / crate / "out"
+        return sorted(path.name for path in folder.iterdir()) if folder.exists() else []
+
+
+class Building(House):
     def test_it_is_built_once(self):
         for crate, made, words in [("high", "high", "run -- inline"), ("tool", "libtool.a", "lib")]:
             with self.subTest(crate):
@@ -90,7 +128,26 @@ class Building(Case):
                 path = self.house / "crates" / crate / "out" / made
                 for said in (None, b""):
                     self.expect(self.build(crate), stdout=f"{path}\n".encode(), stderr=said)
-                self.assertEqual(self.calls.read_text(), f"{path.parent.parent} {words}\n")
+                self.assertEqual(self.calls.read_text(), f"low lib\nmiddle lib\n{crate} {words}\n")
+
+    def test_several_are_built_together(self):
+        paths = [self.house / "crates/high/out/high", self.house / "crates/tool/out/libtool.a"]
+        for said in (None, b""):
+            self.expect(self.build("high tool"), stdout="".join(f"{path}\n" for path in paths).encode(), stderr=said)
+        built = [line.split()[0] for line in self.calls.read_text().splitlines()]
+        self.assertEqual(sorted(built), ["high", "low", "middle", "tool"])
+        (self.house / "crates/tool/src/lib.rt").touch()
+        self.expect(self.build("high tool"), stdout="".join(f"{path}\n" for path in paths).encode(), stderr=None)
+        self.expect_calls(1)
+
+    def test_what_was_made_is_kept(self):
+        """The next building of a crate begins with what the last one left, also one that failed."""
+        for times, fails in enumerate(("", "both", ""), 1):
+            self.build("both", FAILS=fails)
+            (self.house / "crates/low/src/lib.rt").touch()
+            self.assertEqual((self.house / "crates/left/out/kept").read_text(), "left\n" * times)
+        self.assertEqual(self.made("left"), ["kept", "rlib"])
+        self.assertEqual(self.made("both"), ["both", "kept", "rlib"])
 
     def test_it_is_built_again_where_a_source_changed(self):
         for name, change in [
@@ -125,6 +182,9 @@ class Building(Case):
                 self.build(FAILS=fails, TMPDIR=str(folder))
                 self.assertEqual(list(folder.iterdir()), [])
                 (self.house / "crates/low/src/lib.rt").touch()
+        with self.subTest("it is interrupted"):
+            self.interrupt("high", "middle", TMPDIR=str(folder))
+            self.assertEqual(list(folder.iterdir()), [])
 
     def test_it_is_not_built_for_a_crate_that_it_does_not_stand_on(self):
         self.build()
@@ -178,25 +238,102 @@ class Building(Case):
     def test_lines(self):
         """One line per crate, if a line cannot be updated in place."""
         said = self.build().stderr.decode().splitlines()
-        log = self.house / "out/build-high.log"
-        self.assertIn(str(log), said[0])
+        logs = self.house / "out/build"
+        self.assertIn(str(logs), said[0])
         for number, crate in enumerate(("low", "middle", "high"), 1):
             self.assertRegex(said[number], rf"\A{number} of 3  {crate}  6 functions  \d+:\d\d\Z")
         self.assertEqual(len(said), 5, said)
-        self.assertIn("checked middle::f, 3 of 7\n", log.read_text())
-        self.assertIn("the program ran\n", log.read_text())
+        self.assertIn("checked middle::f, 3 of 7\n", (logs / "middle.log").read_text())
+        self.assertIn("the program ran\n", (logs / "high.log").read_text())
 
     def test_a_line_that_is_renewed(self):
         terminal, stream = pty.openpty()
-        environment = {**os.environ, BUILD_NOTHING: "", "PATH": f"{self.folder / 'bin'}:{os.environ['PATH']}", "CALLS": str(self.calls)}
         try:
-            done = run([self.house / "tools/built", "high"], env=environment, stderr=stream)
+            done = run([self.house / "tools/built", "high"], env=self.environment(), stderr=stream)
         finally:
             os.close(stream)
         shown = read_terminal(terminal)
         self.assertEqual(done.returncode, 0)
         for functions in ("3", "5"):
             self.assertRegex(shown, rf"\r\x1b\[K2 of 3  middle  {functions} of 7 functions  \d+:\d\d")
+
+    def interrupt(self, target, crate, number=signal.SIGINT, **more):
+        """Sends a signal to a building while `rt` works in this crate, and returns its status and what it said."""
+        process = self.folder / "process"
+        process.unlink(missing_ok=True)
+        words = [sys.executable, self.house / "tools/build", target]
+        with subprocess.Popen(words, env=self.environment(LASTS=crate, **more), stderr=subprocess.PIPE) as building:
+            self.wait_for(process.exists)
+            building.send_signal(number)
+            said = building.communicate(timeout=30)[1]
+        running = pathlib.Path("/proc", process.read_text().strip())
+        self.wait_for(lambda: not running.exists())
+        return building.returncode, said.decode()
+
+    def wait_for(self, is_so):
+        for _ in range(600):
+            if is_so():
+                return
+            time.sleep(0.05)
+        self.fail("it did not come to that within half a minute")
+
+    def test_an_interruption_ends_all(self):
+        for number in (signal.SIGINT, signal.SIGTERM, signal.SIGHUP):
+            with self.subTest(number.name):
+                status, said = self.interrupt("both", "left", number)
+                self.assertEqual(status, 128 + number)
+                self.assertNotIn("Traceback", said)
+                self.assertIn("rlib", self.made("low"))
+                self.assertEqual(self.made("both"), [])
+
+    def test_two_at_once(self):
+        """The second waits for the first, and begins with what that made."""
+        words, quiet = [self.house / "tools/built", "high"], {"stdout": subprocess.DEVNULL, "stderr": subprocess.PIPE}
+        both = [subprocess.Popen(words, env=self.environment(), **quiet) for _ in range(2)]
+        said = [process.communicate(timeout=60)[1].decode() for process in both]
+        self.assertEqual([process.returncode for process in both], [0, 0], said)
+        calls = self.calls.read_text()
+        self.assertEqual((self.house / "crates/low/out/kept").read_text(), "low\n" * calls.count("low lib\n"))
+
+
+@unittest.skipIf(len(os.sched_getaffinity(0)) < 2, "one processor")
+class SideBySide(House):
+    def test_what_does_not_need_each_other_is_built_at_once(self):
+        for target, pair in (("both", "left right"), ("high tool", "high tool")):
+            with self.subTest(target):
+                (self.folder / "met").write_text("")
+                self.expect(self.build(target, MEETS=pair), stdout=None, stderr=None)
+                calls = self.calls.read_text()
+                for crate in pair.split():
+                    # they share the processors, and a crate that is alone leaves the choice to `rt`
+                    self.assertRegex(calls, rf"(?m)^{crate} (lib|run) --jobs \d+( -- inline)?$")
+                self.assertRegex(calls, r"(?m)^low lib$")
+
+    def test_no_more_than_there_are_processors(self):
+        (self.folder / "met").write_text("")
+        one = {min(os.sched_getaffinity(0))}
+        environment = self.environment(MEETS="left right")
+        words = [sys.executable, self.house / "tools/build", "both"]
+        done = run(words, env=environment, preexec_fn=lambda: os.sched_setaffinity(0, one))
+        self.expect(done, 1, b"", None)
+        self.assertIn("the other did not begin", done.stderr.decode())
+
+    def test_no_more_than_there_is_memory_for(self):
+        (self.folder / "met").write_text("")
+        self.memory.write_text("MemAvailable: 8000000 kB\n")
+        done = self.build("both", MEETS="left right")
+        self.expect(done, 1, b"", None)
+        self.assertIn("the other did not begin", done.stderr.decode())
+
+    def test_a_failure_ends_the_rest(self):
+        (self.folder / "met").write_text("")
+        done = self.build("both", MEETS="left right", FAILS="left", LASTS="right")
+        self.expect(done, 1, b"", None)
+        said = done.stderr.decode()
+        self.assertIn("fn f: not proved", said)
+        self.assertIn("build: left could not be built", said)
+        self.assertNotIn("build: right", said)
+        self.assertEqual((self.made("low"), self.made("right"), self.made("both")), (["kept", "rlib"], [], []))
 
     def test_a_building_that_fails(self):
         done = self.build(FAILS="middle")

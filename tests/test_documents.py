@@ -1,15 +1,13 @@
-"""Checks the documents: links lead somewhere, commands print what is shown, quotes match the sources, and sentences are short.
-
-`python3 -m tests.test_documents` renews the lines of definitions and the signatures that documents quote.
-"""
+"""Checks the documents: links lead somewhere, commands print what is shown, what `tools/renew-documents` writes is as it would
+write it now, and sentences are short."""
 import re
 import shutil
-import sys
 import unittest
 
-from tests import quotes
+from tests import cases
 from tests.integration import answer_of
-from tests.support import ROOT, Case, program, run, scratch
+from tests.support import ROOT, Case, program, requires, run, scratch
+from tools import quotes, specs
 
 # the most words that a sentence may have
 LONGEST = 35
@@ -57,28 +55,70 @@ class Links(Case):
                     broken.append(f"{document.relative_to(ROOT)}: {target}: there is no such heading")
         self.assertFalse(broken, "\n".join(broken))
 
-    def test_definitions_stand_in_their_lines(self):
-        stale = [f"{link.document.relative_to(ROOT)}: {link.word} stands in line {link.line_now()}, not in {link.line}"
-                 for document in documents() for link in quotes.definitions(document) if link.line_now() != link.line]
-        self.assertFalse(stale, "\n".join([*stale, "renew them by: python3 -m tests.test_documents"]))
-
 
 class Quotes(Case):
     longMessage = False
 
-    def test_signatures_are_those_of_the_source(self):
-        wrong = []
-        for document in documents():
-            for quote in quotes.quotes_in(document):
-                if not quote.stands():
-                    wrong.append(f"{document.relative_to(ROOT)}: {quote.source.relative_to(ROOT)} does not have\n{quote.text}")
-        self.assertFalse(wrong, "\n".join(wrong))
+    def test_nothing_is_to_be_renewed(self):
+        self.expect(run([ROOT / "tools/renew-documents", "--check"]), stdout=b"")
+
+    def test_a_line_that_moved_is_renewed(self):
+        folder = self.enterContext(scratch())
+        for part in ("docs", "tools", "crates"):
+            shutil.copytree(ROOT / part, folder / part, ignore=shutil.ignore_patterns("out", "must-fail", "proofs"))
+        source, document = folder / "crates/latex2mathml/specs/Documents.antt", folder / "docs/PROMISES.md"
+        old, link = document.read_text(), "specs/Documents.antt#L{})"
+        line = source.read_text().split("\n").index("pub data Piece : Type 0 where") + 1
+        self.assertIn(f"[`Piece`](../crates/latex2mathml/{link.format(line)}", old)
+        source.write_text(f"-- one more line\n{source.read_text()}")
+        renew = folder / "tools/renew-documents"
+        shown = run([renew, "--check"])
+        self.expect(shown, 1, None)
+        self.assertIn(f"+| [`Piece`](../crates/latex2mathml/{link.format(line + 1)}", shown.stdout.decode())
+        self.assertEqual(document.read_text(), old)
+        self.expect(run([renew]), stdout=b"")
+        self.assertIn(f"[`Piece`](../crates/latex2mathml/{link.format(line + 1)}", document.read_text())
+        self.expect(run([renew, "--check"]), stdout=b"")
+
+    def test_only_these_documents_quote(self):
+        renewed = re.findall(r'"(docs/\w+\.md)"', (ROOT / "tools/renew-documents").read_text())
+        quoting = [it for it in documents() if re.search(r"\.antt#L|<!-- (quoted from|made by)", it.read_text())]
+        self.assertEqual(sorted(renewed), sorted(str(it.relative_to(ROOT)) for it in quoting))
 
     def test_each_public_call_is_quoted(self):
         document = ROOT / "docs/CALLING.md"
         text = document.read_text()
         missing = [name for name in quotes.public_calls() if f"fn {name}" not in text]
         self.assertFalse(missing, f"docs/CALLING.md does not quote: {', '.join(missing)}")
+
+
+class Definitions(Case):
+    """What PROMISES says of the definitions that its contracts rest on."""
+    document = ROOT / "docs/PROMISES.md"
+    files = specs.in_order(specs.named(quotes.public_sources()))
+
+    def test_the_tables_link_each_file_after_those_that_it_uses(self):
+        linked = list(dict.fromkeys(link.source for link in quotes.definitions(self.document)))
+        self.assertEqual(sorted(linked), sorted(it.path for it in self.files))
+        for here in self.files:
+            for below in specs.files_below(here):
+                with self.subTest(f"{here.name} uses {below.name}"):
+                    self.assertLess(linked.index(below.path), linked.index(here.path))
+
+    def test_a_file_is_listed_after_those_that_it_uses(self):
+        for at, here in enumerate(self.files):
+            self.assertEqual([below.name for below in specs.files_below(here) if below not in self.files[:at]], [], here.name)
+
+    def test_the_imports_of_a_file_are_all_of_its_imports(self):
+        """No import of a file is read past: each line that begins with `use` is one."""
+        for here in self.files:
+            lines = [line for line in here.path.read_text().split("\n") if re.match(r"\s*(?:\w+ )*use\b", line)]
+            self.assertEqual(len(specs.USE.findall(here.path.read_text())), len(lines), here.name)
+
+    @requires("rt")
+    def test_the_toolchain_is_the_one_that_is_named(self):
+        version = run(["rt", "version"]).stdout.decode().strip()
+        self.assertIn(f"`{version}` as `rt version` prints it", self.document.read_text())
 
 
 class Modules(Case):
@@ -206,8 +246,100 @@ class Language(Case):
         self.assertEqual({fault.strip("`"): text.strip("`") for fault, _, text in self.table("Fault | When | Text")}, texts)
 
 
+class Numbers(Case):
+    """The numbers and names that documents take from the sources."""
+
+    def says(self, document, text):
+        self.assertIn(text, " ".join((ROOT / document).read_text().split()), document)
+
+    def test_commands(self):
+        count = len(cases.commands())
+        for document, noun in (("README.md", "commands"), ("integrations/README.md", "commands"), ("docs/COMMANDS.md", "entries"),
+                               ("docs/DECISIONS.md", "texts"), ("docs/ARCHITECTURE.md", "entries")):
+            self.says(document, f" {count} {noun}")
+
+    def test_environments(self):
+        definition = (ROOT / "crates/latex2mathml_trees/specs/Productions.antt").read_text().partition("\nenvironment_tree name")[2]
+        names = set(re.findall(r'bytes_eq name \(codes "(\w+)"\)', definition))
+        said = re.search(r"the environments ((?:`\w+`(?:, | and )?)+)", (ROOT / "README.md").read_text())
+        self.assertEqual(set(re.findall(r"`(\w+)`", said[1])), names)
+
+    def test_comparisons(self):
+        definition = (ROOT / "crates/latex2mathml_formulas/specs/Counts.antt").read_text()
+        most = re.search(r"n ≤ (\d+) \* backslashes", definition)[1]
+        self.says("README.md", f"at most {most} compared names per command")
+        self.says("docs/PROMISES.md", f"1 to {most} names for each token")
+        self.says("cases/counts.txt", f"A command is compared with 1 to {most} names")
+
+    def test_levels(self):
+        levels = re.search(r"(?m)^levels_read = (\d+)$", (ROOT / "crates/latex2mathml/specs/Files.antt").read_text())[1]
+        self.says("docs/PROMISES.md", f"at most {levels} levels are read")
+        self.says("docs/DIFFERENCES.md", f"to {levels} levels")
+        self.says("docs/DECISIONS.md", f"at most {levels} levels")
+
+
+class Derives(Case):
+    """The table of DIFFERENCES.md names the traits that each new type derives."""
+
+    def test_the_table_is_that_of_the_sources(self):
+        table = (ROOT / "docs/DIFFERENCES.md").read_text().partition("| Type | Derives |")[2].partition("\n\n")[0]
+        said = {name: re.findall(r"`(\w+)`", traits) for names, traits in re.findall(r"^\| (`.*?`) \| (.*) \|$", table, re.M)
+                for name in re.findall(r"`(\w+)`", names)}
+        found = {}
+        for source in quotes.sources():
+            types = re.findall(r"^#\[derive\((.*)\)\]\n(?:#.*\n)*pub (?:struct|enum) (\w+)", source.read_text(), re.M)
+            found.update({name: traits.split(", ") for traits, name in types})
+        self.assertTrue(said)
+        self.assertEqual({name: found.get(name) for name in said}, said)
+        of_the_crate = {"Token", "Node", "LatexError", "DisplayStyle", "Variant", "Accent", "LineThickness", "ColumnAlign"}
+        library = (ROOT / "crates/latex2mathml/src/lib.rt").read_text()
+        handed_on = re.findall(r"\w+", " ".join(re.findall(r"^pub use [^;]*;", library, re.M)))
+        self.assertEqual([name for name in found if name in handed_on and name not in said and name not in of_the_crate], [])
+
+
+class Page(Case):
+    """What pages link, and what the packages do by default."""
+
+    LINKS = re.compile(r'^    (<link .*>)\n    (<script .*></script>)$', re.M)
+
+    def test_the_two_lines_that_a_page_links(self):
+        lines = self.LINKS.findall((ROOT / "page/README.md").read_text())
+        self.assertEqual(lines, self.LINKS.findall((ROOT / "README.md").read_text()))
+        linked = re.findall(r'(?:href|src)="([^"]*)"', " ".join(*lines))
+        self.assertEqual(sorted(linked), ["page/latex2mathml.css", "page/latex2mathml.js"])
+        for name in linked:
+            self.assertTrue((ROOT / name).is_file(), name)
+
+    def test_defaults(self):
+        """The column of defaults is what each integration takes for an option that is not given."""
+        table = (ROOT / "integrations/README.md").read_text().partition("| Option | Default |")[2].partition("\n\n")[0]
+        said = {name: default for name, default in re.findall(r"^\| `(\w+)` \| `(\w+)` \|", table, re.M)}
+        self.assertEqual(sorted(said), ["names", "page", "strict"])
+        python = "integrations/python/src/latex2mathml_proved"
+        for source, form, differing in (
+            (f"{python}/markdown.py", r'^ +"NAME": \[(.*?), "', {}),
+            (f"{python}/sphinx.py", r'^    app\.add_config_value\("latex2mathml_NAME", (.*?), "html"', {"page": "true"}),
+            ("integrations/pandoc/latex2mathml.lua", r"^  NAME = (.*?),$", {}),
+            ("integrations/node/markdown-it.js", r"^module\.exports = .*\bNAME = (.*?)(?:, warn|,)", {"names": None}),
+            ("integrations/node/names.js", r"^function NAMEOf\(option = (.*?)\)", {"strict": None, "page": None}),
+        ):
+            for name, default in {**said, **differing}.items():
+                with self.subTest(source, option=name):
+                    found = re.search(form.replace("NAME", name), (ROOT / source).read_text(), re.M)
+                    self.assertEqual(found and found[1].strip("'\"").lower(), default)
+
+
 class Figures(Case):
     """The figures of the READMEs match the files that the benchmarks write."""
+
+    def test_ratios(self):
+        """How many times as many instructions the crate executes, by the table below that."""
+        text = (ROOT / "README.md").read_text()
+        least, most = re.search(r"executes (\d\.\d) to (\d\.\d) times as many instructions", text).groups()
+        rows = [(int(ours), int(theirs)) for ours, theirs in re.findall(r"\| (\d+) million, (\d+) million, ", text)]
+        ratios = [theirs / ours for ours, theirs in rows]
+        self.assertTrue(ratios)
+        self.assertEqual((least, most), (f"{min(ratios):.1f}", f"{max(ratios):.1f}"))
 
     def test_instructions(self):
         counted = dict(reversed(line.split("  ", 1)) for line in (ROOT / "bench/instructions.txt").read_text().splitlines())
@@ -236,9 +368,3 @@ class Versions(Case):
                 found = re.search(pattern, (ROOT / name).read_text(), re.M)
                 self.assertIsNotNone(found, f"{name} has no version")
                 self.assertEqual(found[1], newest)
-
-
-if __name__ == "__main__":
-    for document in documents():
-        quotes.renew(document)
-    sys.exit(0)

@@ -322,6 +322,11 @@ class Full(Walks):
         (self.site / "limited.html").write_bytes(b"$x$" * self.COUNT)
         done = support.run([faulty.program(), "html", self.site], preexec_fn=limit, restore_signals=False)
         self.is_cut(done, "limited.html")
+        with self.subTest("a second run does not notice"):
+            file = self.site / "limited.html"
+            held = file.read_bytes()
+            self.expect(support.run([faulty.program(), "html", file]), stdout=b"")
+            self.assertEqual(file.read_bytes(), held)
 
 
 class Large(Walks):

@@ -5,7 +5,7 @@ import itertools
 import re
 import unittest
 
-from tests import quotes
+from tools import quotes
 from tests.support import ROOT
 
 TABLE = ROOT / "docs/WRONG_BODIES.md"
@@ -20,8 +20,15 @@ MOST = 110
 # the definitions of PROMISES.md that only laws use
 USED_BY_LAWS = {
     "MathSchema.IsOneElement", "Arguments.HasNoArgument", "DocumentLaws.HasOneOutcome", "DocumentLaws.IsOwnAnswer",
-    "DocumentLaws.JoinsAnswers", "DocumentLaws.HasElements",
+    "DocumentLaws.JoinsAnswers", "DocumentLaws.HasElements", "Laws.HasOneReading", "Laws.IsReadBySlices", "Laws.IsRefusedBySlices",
+    "Laws.IsSliced", "Pages.IsPage", "Pages.JoinsMarkup", "Places.IsBetweenTokens", "Places.IsDigitPlace", "Places.SpaceChangesNothing",
+    "RenderingLaws.HasOneRendering", "RenderingLaws.RenderingsHold", "SliceRefusals.FormulaRefuses", "SliceRefusals.PartRefuses",
+    "Slices.AreMembers", "Slices.AreParts", "Slices.IsPart", "Surroundings.HasBalancedProse", "Surroundings.HasPageProse",
+    "TextLaws.TextsHold", "TokenLists.HasOneTokenList", "TokenLists.TextHasOneReading",
 }
+
+# those whose wrong bodies are listed with the definitions that use them
+USED_BY_OTHERS = {"Among.is_among", "Attributes.display_text", "Attributes.thickness_text"}
 
 # The name of a clause without a name.
 UNNAMED = "ensures"
@@ -191,7 +198,7 @@ class WrongBodies(unittest.TestCase):
         linked = {f"{link.source.stem}.{link.word}" for link in quotes.definitions(ROOT / "docs/PROMISES.md")}
         listed = {names_in(row.cells[0])[0] for row in rows("Definitions")}
         self.assertTrue(linked)
-        self.assertEqual(sorted(linked - listed - USED_BY_LAWS), [], "these definitions have no row")
+        self.assertEqual(sorted(linked - listed - USED_BY_LAWS - USED_BY_OTHERS), [], "these definitions have no row")
         self.assertEqual(sorted(USED_BY_LAWS - linked), [], "PROMISES.md does not link these")
 
     def test_callers_are_there(self):

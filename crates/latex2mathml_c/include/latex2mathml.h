@@ -54,7 +54,8 @@ enum latex2mathml_code {
  * same call with `*needed` bytes is not too small. It converts once more, so guess well (LATEX2MATHML_ROOM) if speed
  * matters.
  *
- * All this is proved, if the caller ensures these conditions, which nothing checks:
+ * This is proved of the function in Rattle, which has slices and references for these pointers and lengths. How the compiler maps
+ * the ones to the others is only tested. The caller must ensure these conditions, which nothing checks:
  *   - No pointer is null, not even if its length is 0. Then point at any byte.
  *   - `out` and `needed` overlap neither each other nor `latex`, and nothing else accesses the three during the call.
  *   - No length is larger than PTRDIFF_MAX.

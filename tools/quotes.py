@@ -7,7 +7,7 @@ import re
 from dataclasses import dataclass
 from pathlib import Path
 
-from tests.support import ROOT
+ROOT = Path(__file__).resolve().parent.parent
 
 DEFINITION = re.compile(r"\[`(?P<word>[^`]+)`\]\((?P<path>[^)#\s]+\.antt)#L(?P<line>\d+)\)")
 QUOTE = re.compile(r"<!-- quoted from (?P<path>\S+) -->\n```rust\n(?P<text>.*?)```", re.S)
@@ -44,8 +44,9 @@ def definitions(document):
         yield Definition(document, found["word"], source, int(found["line"]))
 
 
-def renew(document):
-    """Updates the line in each link to a definition, and the signature in each block that quotes one."""
+def renewed(document):
+    """The text of a document, with the line in each link to a definition, and the signatures in each block that quotes one, as
+    they are now. A link to a definition that is gone leads to no line."""
     def renewed_line(found):
         link = Definition(document, found["word"], (document.parent / found["path"]).resolve(), int(found["line"]))
         return f"[`{found['word']}`]({found['path']}#L{link.line_now()})"
@@ -55,10 +56,7 @@ def renew(document):
         signatures = [signature(ROOT / found["path"], name) for name in names]
         return f"<!-- quoted from {found['path']} -->\n```rust\n{chr(10).join(signatures)}```"
 
-    text = document.read_text()
-    new = QUOTE.sub(renewed_quote, DEFINITION.sub(renewed_line, text))
-    if new != text:
-        document.write_text(new)
+    return QUOTE.sub(renewed_quote, DEFINITION.sub(renewed_line, document.read_text(encoding="utf-8")))
 
 
 def signature(source, name):
@@ -69,24 +67,6 @@ def signature(source, name):
     end = next(at for at in range(begin, len(lines)) if lines[at] in (" " * indent + "{", " " * indent + "{}") or lines[at].endswith(";"))
     kept = lines[begin:end] if not lines[end].endswith(";") else lines[begin:end + 1]
     return "".join(f"{line[indent:]}\n" for line in kept if not line.strip().startswith("//"))
-
-
-@dataclass(frozen=True)
-class Quote:
-    """A block of Rust that a document quotes."""
-    source: Path
-    text: str
-
-    def stands(self):
-        """Whether the source has these signatures, whatever their indentation."""
-        names = re.findall(r"\bfn (\w+)", self.text)
-        return bool(names) and self.text == "\n".join(signature(self.source, name) for name in names)
-
-
-def quotes_in(document):
-    """The blocks that a document quotes."""
-    for found in QUOTE.finditer(document.read_text()):
-        yield Quote(ROOT / found["path"], found["text"])
 
 
 def public_calls():
@@ -102,3 +82,10 @@ def sources():
         for source in sorted((ROOT / "crates" / crate / "src").rglob("*.rt")):
             if f"{crate}/{source.name}" not in OWN_CALLS:
                 yield source
+
+
+def public_sources():
+    """The sources whose public functions are called from outside: those of the library, of the program, and of the library for C."""
+    yield from sources()
+    for path in ("latex2mathml_app/src/job.rt", "latex2mathml_app/src/serve.rt", "latex2mathml_c/src/lib.rt"):
+        yield ROOT / "crates" / path

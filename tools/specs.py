@@ -1,0 +1,154 @@
+"""The definitions that the public contracts rest on: those that their clauses name, and all that these import."""
+import functools
+import pathlib
+import re
+from dataclasses import dataclass, field
+
+ROOT = pathlib.Path(__file__).resolve().parent.parent
+CRATES = ROOT / "crates"
+
+# each after those that it depends on
+CRATES_IN_ORDER = ("latex2mathml_tokens", "latex2mathml_trees", "latex2mathml_nodes", "latex2mathml_formulas", "latex2mathml",
+                   "latex2mathml_app", "latex2mathml_c")
+
+# an import, of a module or of names in it
+USE = re.compile(r"^(?:unfoldable )?(?P<public>pub )?use (?P<path>[^\s{}]+?)(?:\.\{(?P<names>[^}]*)\})?"
+                 r"(?: as (?P<other>[\w-]+))?$", re.M)
+GHOST_USE = re.compile(r"^ *ghost use (?P<path>[^\s{};]+?)(?:\.\{(?P<names>[^}]*)\})?;", re.M)
+
+# what may be part of a name in a definition or a clause
+WORD = re.compile(r"[^\s(){}.,;:\[\]]+")
+
+
+def code_of(text, mark):
+    """The text without its comments, which begin with the mark."""
+    return "\n".join(line for line in text.split("\n") if not line.lstrip().startswith(mark))
+
+
+def imports(found):
+    """What an import brings into scope: the word used here, and the path that it leads to."""
+    if found["names"] is None:
+        yield found.groupdict().get("other") or found["path"].rpartition(".")[2], found["path"]
+        return
+    for name in filter(None, (it.strip() for it in found["names"].split(","))):
+        name, _, other = name.partition(" as ")
+        yield other or name.rpartition(".")[2], f"{found['path']}.{name}"
+
+
+@dataclass(frozen=True)
+class Spec:
+    """A file of definitions."""
+    path: pathlib.Path
+    body: str = field(compare=False)
+    used: dict = field(compare=False, hash=False)
+    handed_on: dict = field(compare=False, hash=False)
+
+    @property
+    def name(self):
+        return self.path.stem
+
+    @property
+    def crate(self):
+        return self.path.parent.parent.name
+
+    @property
+    def lines(self):
+        """The number of its lines without comments, imports and empty lines."""
+        return sum(bool(line.strip()) for line in self.body.split("\n"))
+
+
+@functools.cache
+def spec(crate, name):
+    """The file of definitions with this name in a crate, or None."""
+    path = CRATES / crate / "specs" / f"{name}.antt"
+    if not path.exists():
+        return None
+    code = code_of(path.read_text(encoding="utf-8"), "--")
+    used, handed_on = {}, {}
+    for found in USE.finditer(code):
+        (handed_on if found["public"] else used).update(imports(found))
+    body = re.sub(r"^pub mod .*$", "", USE.sub("", code), flags=re.M)
+    return Spec(path, body, used, handed_on)
+
+
+def resolve(path):
+    """The file in which the word of a path is defined, or None if it is a word of the standard library, or a type of the code."""
+    found = re.fullmatch(r"Rattle\.(latex2mathml\w*)\.specs\.(\w+)(?:\.(.+))?", path)
+    if not found or found[2] == "declared":
+        return None
+    crate, name, word = found.groups()
+    here = spec(crate, name)
+    if not here:
+        return resolve(f"{spec(crate, 'Lib').handed_on[name]}.{word or ''}".rstrip("."))
+    if word and word in here.handed_on:
+        return resolve(here.handed_on[word])
+    return here
+
+
+def files_below(here):
+    """The files in which the words are defined that a file of definitions uses of others."""
+    words = set(WORD.findall(here.body))
+    for word, path in {**here.used, **here.handed_on}.items():
+        # a module under another name
+        members = re.findall(rf"(?<![\w.-]){re.escape(word)}\.([\w-]+)", here.body)
+        for it in [f"{path}.{member}" for member in members] or [path] * (word in words):
+            below = resolve(it)
+            if below not in (None, here):
+                yield below
+
+
+def in_order(paths):
+    """The files in which these words are defined and all that they use, crate by crate, each after those that it uses."""
+    found = []
+
+    def walk(here):
+        if here not in found:
+            for below in files_below(here):
+                walk(below)
+            found.append(here)
+
+    for path in paths:
+        if (top := resolve(path)) is not None:
+            walk(top)
+    return sorted((it for it in found if it.lines), key=lambda it: CRATES_IN_ORDER.index(it.crate))
+
+
+def library_words(specs, paths):
+    """The words of the standard library, and of what that builds on, that these files import or that are among these paths, by
+    module."""
+    found = {}
+    used = [path for here in specs for path in {**here.used, **here.handed_on}.values()]
+    for path in sorted({*used, *paths}):
+        if not path.startswith("Rattle.latex2mathml"):
+            module, _, word = path.removeprefix("Rattle.std.").rpartition(".")
+            found.setdefault(module, []).append(word)
+    return found
+
+
+def clauses(text):
+    """The contracts of the functions that a source makes public, by themselves or in a trait, and what is known of its values:
+    what `Display` prints, and the state of a stream or a site."""
+    lines, in_trait = code_of(text, "//").split("\n"), False
+    for at, line in enumerate(lines):
+        in_trait = line.startswith("pub trait ") or in_trait and not line.startswith("}")
+        if re.match(r"\s*pub (?:const |extern \"C\" )*fn\b", line) or in_trait and re.match(r"\s*fn\b", line):
+            yield up_to(r"(?:\{|\{\}|;)$", lines[at:])
+        elif re.match(r"\s*ghost (?:output|state|answers)\b", line):
+            yield up_to(r"\};$", lines[at:])
+
+
+def up_to(end, lines):
+    """The lines up to the first in which this is found, with that."""
+    last = next(at for at, line in enumerate(lines) if re.search(end, line))
+    return "\n".join(lines[:last + 1])
+
+
+def named(sources):
+    """The paths of all words that the public contracts of these sources name."""
+    found = set()
+    for source in sources:
+        text = source.read_text(encoding="utf-8")
+        words = {word for clause in clauses(text) for word in WORD.findall(clause)}
+        for scope in map(imports, GHOST_USE.finditer(code_of(text, "//"))):
+            found.update(path for word, path in scope if word in words)
+    return sorted(found)
