@@ -216,7 +216,7 @@ def math(display, contents):
 
 
 def test_name(word):
-    """The name that unittest has for a file of cases, or for the case that has a line of one: its input or its answer.
+    """The name that Python has for a file of cases, or for the case that has a line of one: its input or its answer.
 
     Raises `WrongCase` where there is no such file, or no case has the line.
 
