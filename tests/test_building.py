@@ -58,6 +58,12 @@ esac
 """
 
 
+def listen():
+    """Ignores no signal that would end a building, as a command in the background may."""
+    for number in (signal.SIGINT, signal.SIGTERM, signal.SIGHUP):
+        signal.signal(number, signal.SIG_DFL)
+
+
 def read_terminal(terminal):
     """All that was shown on a terminal, which is closed. The system hands it on in pieces, and tells the end by an error."""
     shown = b""
@@ -262,7 +268,8 @@ class Building(House):
         process = self.folder / "process"
         process.unlink(missing_ok=True)
         words = [sys.executable, self.house / "tools/build", target]
-        with subprocess.Popen(words, env=self.environment(LASTS=crate, **more), stderr=subprocess.PIPE) as building:
+        environment = self.environment(LASTS=crate, **more)
+        with subprocess.Popen(words, env=environment, stderr=subprocess.PIPE, preexec_fn=listen) as building:
             self.wait_for(process.exists)
             building.send_signal(number)
             said = building.communicate(timeout=30)[1]
