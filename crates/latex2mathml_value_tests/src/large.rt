@@ -52,8 +52,8 @@ impl Place {
     }
 }
 
-/// Each place of each kind.
-static PLACES: [Place; 34] = [
+/// The place of each kind that holds one node.
+static ONE: [Place; 7] = [
     Place::Argument,
     Place::Framed(Frame::Over('^', Accent::True)),
     Place::Framed(Frame::Under('_', Accent::False)),
@@ -61,6 +61,10 @@ static PLACES: [Place; 34] = [
     Place::Framed(Frame::Fence("(", ")")),
     Place::Framed(Frame::Slash),
     Place::Framed(Frame::Style(None)),
+];
+
+/// Both places of each kind that holds two nodes.
+static TWO: [Place; 14] = [
     Place::First(Pair::Subscript),
     Place::Second(Pair::Subscript),
     Place::First(Pair::Superscript),
@@ -75,6 +79,10 @@ static PLACES: [Place; 34] = [
     Place::Second(Pair::Root),
     Place::First(Pair::Fraction(LineThickness::Medium)),
     Place::Second(Pair::Fraction(LineThickness::Medium)),
+];
+
+/// The places of each kind that holds three nodes, or any number of them.
+static MORE: [Place; 13] = [
     Place::Target(Triple::SubSup),
     Place::Below(Triple::SubSup),
     Place::Above(Triple::SubSup),
@@ -150,31 +158,53 @@ fn is_whole(alloc: Global, place: Place) -> Result<bool, AllocError> {
 
 #[test]
 fn each_kind_in_itself(rt: HostRuntime) -> Result<(), Fail> {
-    for (number, place) in PLACES.iter().enumerate() {
-        assert!(rt; is_whole(rt.alloc(), *place)?, "{number}");
+    for places in [&ONE[..], &TWO[..], &MORE[..]] {
+        for (number, place) in places.iter().enumerate() {
+            assert!(rt; is_whole(rt.alloc(), *place)?, "{number}");
+        }
     }
     Ok(())
 }
 
-/// How deep a node is inside others of its kind, where each kind is dropped: no recursion has room for it on a stack of 8 MiB.
-const LEVELS: usize = 1_000_000;
+/// How deep a node is inside others of its kind, where each kind is dropped. A call for each level would have 33 bytes of a stack
+/// of 8 MiB, and no call that has a node in its hands needs so few.
+const LEVELS: usize = 250_000;
 
-/// How often a node is inside all kinds, one inside another.
-const ROUNDS: usize = 20_000;
+/// How often a node is inside each of these places in turn.
+const ROUNDS: usize = 10_000;
 
-#[test]
-fn deep_nodes_are_dropped(rt: HostRuntime) -> Result<(), Fail> {
-    for (number, place) in PLACES.iter().enumerate() {
-        let node = nested(rt.alloc(), *place, LEVELS, 'x')?;
-        assert!(rt; !matches!(&node, Node::Letter(..)), "{number}");
+/// Drops nodes nested in each of these places, and then nodes in all of them in turn. Returns whether there were such nodes.
+fn are_dropped(alloc: Global, places: &[Place]) -> Result<bool, AllocError> {
+    for place in places {
+        let node = nested(alloc, *place, LEVELS, 'x')?;
+        if matches!(&node, Node::Letter(..)) {
+            return Ok(false);
+        }
     }
     let mut x = leaf('x');
     for _ in 0..ROUNDS {
-        for place in &PLACES {
-            x = place.around(rt.alloc(), x)?;
+        for place in places {
+            x = place.around(alloc, x)?;
         }
     }
-    assert!(rt; matches!(&x, Node::Matrix(..)));
+    Ok(!matches!(&x, Node::Letter(..)))
+}
+
+#[test]
+fn deep_frames_are_dropped(rt: HostRuntime) -> Result<(), Fail> {
+    assert!(rt; are_dropped(rt.alloc(), &ONE)?);
+    Ok(())
+}
+
+#[test]
+fn deep_pairs_are_dropped(rt: HostRuntime) -> Result<(), Fail> {
+    assert!(rt; are_dropped(rt.alloc(), &TWO)?);
+    Ok(())
+}
+
+#[test]
+fn deep_scripts_and_lists_are_dropped(rt: HostRuntime) -> Result<(), Fail> {
+    assert!(rt; are_dropped(rt.alloc(), &MORE)?);
     Ok(())
 }
 
