@@ -1,7 +1,7 @@
 /* Cases of the library for C, by the word that names them: answers, memory, deep, random, threads, or rules, which reads
  * formulas from standard input, a line each. Each case has a line, 'passed: NAME' or 'FAILED: NAME', and behind the last
- * stands 'all were judged'. Any other word is refused with the status 2. To be linked with --wrap for malloc, realloc and
- * free, so that requests can be refused. */
+ * stands 'all were judged'. Any other word is refused with the status 2. To be compiled with STACK as the bytes of the stack that
+ * are enough for a call, and linked with --wrap for malloc, realloc and free, so that requests can be refused. */
 #include "latex2mathml.h"
 
 #include <pthread.h>
@@ -10,7 +10,7 @@
 #include <string.h>
 #include <sys/mman.h>
 
-enum { LEVELS = 1000000, MANY = 100000, STACK = 128 << 10, RANDOM_INPUTS = 10000, THREADS = 4, CALLS = 50000 };
+enum { LEVELS = 1000000, MANY = 100000, RANDOM_INPUTS = 10000, THREADS = 4, CALLS = 50000 };
 
 static bool has_failed;
 

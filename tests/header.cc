@@ -1,4 +1,5 @@
-// The header in C++: its names are C's, and its macro is one value wherever it stands.
+// The header in C++, included twice: its names are C's, and its macro is one value wherever it stands.
+#include "latex2mathml.h"
 #include "latex2mathml.h"
 
 #include <cstdio>

@@ -63,4 +63,4 @@ class Beginnings(Case):
                 with self.subTest(beginning):
                     done = run([program(), "inline"], stdin=beginning.encode())
                     is_well = is_answered(done) or end < len(formula) and ends_too_soon(done, beginning)
-                    self.assertTrue(is_well, done)
+                    self.assertTrue(is_well, msg=done)

@@ -23,6 +23,12 @@ INLINE, BLOCK = math("inline"), math("block")
 REASON = b'The token "RBrace" is expected, but the token "EOF" is found."'
 CALLS = {"latex2mathml_formula", "latex2mathml_document"}
 
+# Lines of `readelf`, and of a shared library whose name is another, that binds late, or leaves writable what was bound or the stack
+# executable.
+LINKED = [r"\(SONAME\) +Library soname: \[liblatex2mathml\.so\]$", r"\(FLAGS\) +.*\bBIND_NOW\b", r"\(FLAGS_1\) +Flags:.* NOW\b",
+          r"^ +GNU_RELRO +0x", r"^ +GNU_STACK +0x.* RW +0x"]
+LINKED_BADLY = [r"\(TEXTREL\)", r"\((?:RPATH|RUNPATH)\)", r"^ +LOAD .* RWE "]
+
 
 @requires(CC[0], "nm", "ldd")
 class Folder(Case):
@@ -45,8 +51,18 @@ class Folder(Case):
         others = [name for name in needed if not re.search(r"linux-vdso|linux-gate|ld-linux|libc\.so", name)]
         self.assertEqual(others, [])
 
+    @requires("readelf")
+    def test_how_the_shared_library_is_linked(self):
+        done = run(["readelf", "--dynamic", "--program-headers", "--wide", c_library() / "liblatex2mathml.so"])
+        self.expect(done, stdout=None)
+        for pattern in (*LINKED, *LINKED_BADLY):
+            with self.subTest(pattern):
+                self.assertEqual(bool(re.search(pattern, done.stdout.decode(), re.MULTILINE)), pattern in LINKED, done.stdout.decode())
+
     def test_the_header_is_c99(self):
-        self.expect(run([*CC, "-std=c99", "-pedantic", "-Wall", "-Wextra", "-Werror", "-fsyntax-only", "-x", "c", c_library() / "latex2mathml.h"]))
+        """It may be included twice."""
+        self.expect(run([*CC, "-std=c99", "-pedantic", "-Wall", "-Wextra", "-Werror", "-fsyntax-only", "-I", c_library(), "-x", "c", "-"],
+                        stdin=b'#include "latex2mathml.h"\n' * 2))
 
     @requires(CXX[0])
     def test_cpp(self):
@@ -76,7 +92,8 @@ class Built(Case):
     @classmethod
     def setUpClass(cls):
         cls.program = cls.enterClassContext(scratch()) / "cases"
-        words = [*CC, "-std=gnu11", "-Wall", "-Wextra", *cls.options, "-I", c_library(), ROOT / "tests/c_cases.c",
+        [promised] = re.findall(r"\* +- (\d+) KiB of the stack are free\.", (c_library() / "latex2mathml.h").read_text())
+        words = [*CC, "-std=gnu11", "-Wall", "-Wextra", f"-DSTACK=({promised} << 10)", *cls.options, "-I", c_library(), ROOT / "tests/c_cases.c",
                  c_library() / "liblatex2mathml.a", *WRAP, "-o", cls.program]
         done = run(words)
         if done.returncode:
@@ -125,7 +142,7 @@ class Deep(Built):
     options = ["-O2"]
 
     def test_deep(self):
-        """On a stack of 128 KiB: formulas, and documents with one or with many."""
+        """On the stack that the header says is enough: formulas, and documents with one or with many."""
         self.judge("deep")
 
 

@@ -37,8 +37,10 @@ INLINE, BLOCK = math("inline"), math("block")
 class Dist(Case):
     @classmethod
     def setUpClass(cls):
-        cls.dist = cls.enterClassContext(scratch()) / "the dist"  # a path may have spaces
-        cls.made = run([ROOT / "tools/make-dist", cls.dist], timeout=300)
+        folder = cls.enterClassContext(scratch())
+        cls.dist, cls.temporary = folder / "the dist", folder / "temporary"  # a path may have spaces
+        cls.temporary.mkdir()
+        cls.made = run([ROOT / "tools/make-dist", cls.dist], env={**os.environ, "TMPDIR": str(cls.temporary)}, timeout=300)
 
     def house(self):
         """What make-dist needs of a checkout, in a folder whose path has a space, with a copy of the tools."""
@@ -59,6 +61,13 @@ class Dist(Case):
 
     def test_it_is_made(self):
         self.expect(self.made, stderr=None)
+        self.assertEqual(list(self.temporary.iterdir()), [], "left in the folder of temporary files")
+
+    def test_the_version(self):
+        """That of the README is the one of the library for C that is there, and the newest of the changes."""
+        [version] = re.findall(r'^#define LATEX2MATHML_VERSION "(.+)"$', (self.dist / "c/latex2mathml.h").read_text(), re.MULTILINE)
+        self.assertEqual((self.dist / "README.md").read_text(encoding="utf-8").splitlines()[0], f"# latex2mathml {version}")
+        self.assertEqual(re.findall(r"^## ([0-9][^ \n]*)", (ROOT / "CHANGELOG.md").read_text(encoding="utf-8"), re.MULTILINE)[0], version)
 
     def test_a_folder_that_exists_is_left_alone(self):
         self.expect(run([ROOT / "tools/make-dist", self.dist]), 1, b"", None)

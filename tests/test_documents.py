@@ -219,7 +219,7 @@ class Language(Case):
     def table(self, head):
         """The cells of the rows of the table with this head."""
         rows = self.text.partition(f"\n| {head} |\n")[2].partition("\n\n")[0].split("\n")[1:]
-        self.assertTrue(rows, head)
+        self.assertTrue(rows, msg=head)
         return [[cell.strip() for cell in row.strip("|").split("|")] for row in rows]
 
     def test_documents(self):

@@ -86,6 +86,26 @@ print(json.dumps([calls_of("".join(piece * count for piece in pieces)) for count
 """
 
 
+# The processor's seconds for finding the lines of formulas, between lines of prose.
+LINES = """
+import json, sys, time
+from latex2mathml_proved.markdown import Page
+
+def seconds(sources):
+    page = Page()
+    page.begin([line for source in sources for line in (source, *["prose"] * 100)])
+    for source in sources:
+        page.place(source, source, False, "span")
+    begun = time.process_time()
+    lines = [page.line_of(number) for number in range(len(sources))]
+    taken = time.process_time() - begun
+    assert lines == list(range(1, 101 * len(sources), 101))
+    return taken
+
+print(json.dumps([min(seconds(sources) for _ in range(3)) for sources in json.load(sys.stdin)]))
+"""
+
+
 def convert(*texts, options=None, others=(), **more):
     """The pages of texts, without links, and the log of each."""
     return ask(environment("markdown"), CONVERT, [[text, {"page": False, **(options or {})}, others] for text in texts], **more)
@@ -289,6 +309,14 @@ class Options(unittest.TestCase):
     def test_lines_of_formulas_that_are_written_alike(self):
         [[_, said]] = convert("${x$ and ${x$\n\n" * 50)
         self.assertEqual(said, [f"latex2mathml: line {line}: {{x: {OPEN}" for line in range(1, 100, 2) for _ in range(2)])
+
+    def test_lines_of_many_formulas(self):
+        """Four times the text takes four times as long, whether its formulas are written alike or not."""
+        for source in ("${{x$", "${{x{}$"):
+            with self.subTest(source):
+                texts = [[source.format(number) for number in range(count)] for count in (500, 2000)]
+                few, many = ask(environment("markdown"), LINES, texts)
+                self.assertLess(many, 8 * few, f"{few} s for 500 formulas")
 
     def test_marked(self):
         [[page, said]] = convert("a\n$\\foo$")

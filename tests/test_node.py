@@ -97,6 +97,16 @@ render({ page: true })
 render({ page: 3 })
 render({ warn: null })
 render({ warn: 'a warning' })
+render({ warn: message => message.toFixed() })
+render({ warn: (message, line) => line.toFixed() })
+render({ names: 'all' })
+"""
+# Calls that only TypeScript refuses, since JavaScript passes over an argument too many, and takes any value for a condition.
+REFUSED_AS_TYPES = r"""
+formula('x', true, 1)
+document('$x$', true)
+latex2mathml(md, {}, 1)
+render({ names: { '\\foo': 'x' }, strict: 'yes' })
 """
 
 # Reads these calls, makes them, and prints the names that the package exports and what each call came to.
@@ -462,14 +472,15 @@ class MarkdownIt(Package):
 
     @requires("tsc")
     def test_declarations(self):
-        """TypeScript refuses the calls that are a TypeError, and no others. The declarations have the same names."""
-        taken, refused = (calls.strip().splitlines() for calls in (TAKEN, REFUSED))
-        names, results = self.node(EVALUATOR, cases=taken + refused, cwd=self.project)
+        """TypeScript refuses the calls that are a TypeError, and those above. The declarations have the same names."""
+        taken, refused, by_types = (calls.strip().splitlines() for calls in (TAKEN, REFUSED, REFUSED_AS_TYPES))
+        calls = taken + refused + by_types
+        names, results = self.node(EVALUATOR, cases=calls, cwd=self.project)
         options = re.findall(r"^\| `(\w+)` \|", (self.package / "README.md").read_text(), re.MULTILINE)
         head = DECLARED
         for word, found in (("NAMES", names), ("OPTIONS", options)):
             head = head.replace(word, json.dumps(dict.fromkeys(found, 0)))
-        (self.project / "calls.ts").write_text("\n".join([head, *taken, *refused, ""]))
+        (self.project / "calls.ts").write_text("\n".join([head, *calls, ""]))
         # the types of packages that the system may have stand in no such folder
         flags = ["--noEmit", "--strict", "--lib", "es5", "--typeRoots", "none", "--module", "node16", "--moduleResolution", "node16"]
         done = run(["tsc", *flags, "calls.ts"], cwd=self.project, timeout=300)
@@ -478,10 +489,10 @@ class MarkdownIt(Package):
         for file, line, fault in re.findall(r"^(\S.*)\((\d+),\d+\): (error .*)$", done.stdout.decode(), re.MULTILINE):
             is_of_call = file == "calls.ts" and int(line) >= first
             faults.setdefault(int(line) - first if is_of_call else "elsewhere", []).append(f"{file}:{line}: {fault}")
-        for i, (call, result) in enumerate(zip(taken + refused, results, strict=True)):
+        for i, (call, result) in enumerate(zip(calls, results, strict=True)):
             with self.subTest(call):
-                self.assertEqual(result, "taken" if call in taken else "TypeError")
-                self.assertEqual(i in faults, call in refused, faults.get(i))
+                self.assertEqual(result, "TypeError" if call in refused else "taken")
+                self.assertEqual(i in faults, call not in taken, faults.get(i))
         self.assertNotIn("elsewhere", faults)
 
     def test_the_example(self):

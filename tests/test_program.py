@@ -67,6 +67,20 @@ class Launcher(Case):
                 self.expect(done, stdout=INLINE + b"\n")
 
 
+    def test_the_program_takes_its_place(self):
+        """The launcher does not wait beside the program, leaves nothing in the folder of temporary files, and passes the words on."""
+        house = self.enterContext(scratch())
+        for folder in ("tools", "temporary"):
+            (house / folder).mkdir()
+        for name, text in (("tools/built", 'echo "${0%/*}/program"'), ("tools/program", 'echo "$$"; printf "<%s>" "$@"')):
+            (house / name).write_text(f"#!/bin/sh\n{text}\n")
+            (house / name).chmod(0o755)
+        launcher = shutil.copy2(LAUNCHER, house)
+        with subprocess.Popen([launcher, "html", "", "a b\n*"], stdout=subprocess.PIPE, env={**os.environ, "TMPDIR": str(house / "temporary")}) as process:
+            self.assertEqual(process.communicate(timeout=60)[0].decode(), f"{process.pid}\n<html><><a b\n*>")
+        self.assertEqual(list((house / "temporary").iterdir()), [])
+
+
 class Formulas(Case):
     def test_answered(self):
         for name, given, word, markup in [

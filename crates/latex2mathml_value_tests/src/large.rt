@@ -18,57 +18,91 @@ fn repeat(alloc: Global, c: char, count: usize) -> Result<String, AllocError> {
     Ok(text)
 }
 
-/// A node inside a node of this kind, and that one inside another one, in the second place.
-fn in_pairs(alloc: Global, pair: Pair, x: Node) -> Result<Node, AllocError> {
-    let x = pair.of(alloc, x, leaf('a'))?;
-    pair.of(alloc, leaf('a'), x)
+/// A place of a node in another one. In lists, others may be before and after it.
+#[derive(Clone, Copy)]
+enum Place {
+    Argument,
+    Framed(Frame),
+    First(Pair),
+    Second(Pair),
+    Target(Triple),
+    Below(Triple),
+    Above(Triple),
+    Row(Option<bool>, Option<bool>),
+    Matrix(Option<bool>, Option<bool>),
 }
 
-/// A node inside three nodes of this kind, each time in another place.
-fn in_triples(alloc: Global, triple: Triple, x: Node) -> Result<Node, AllocError> {
-    let x = triple.of(alloc, x, leaf('a'), leaf('b'))?;
-    let x = triple.of(alloc, leaf('a'), x, leaf('b'))?;
-    triple.of(alloc, leaf('a'), leaf('b'), x)
-}
-
-/// A node inside each kind that carries scripts or limits, in each of its places.
-fn script(alloc: Global, x: Node) -> Result<Node, AllocError> {
-    let mut x = x;
-    for pair in [Pair::Subscript, Pair::Superscript, Pair::Under] {
-        x = in_pairs(alloc, pair, x)?;
+impl Place {
+    /// A node that has the given one in this place.
+    fn around(self, alloc: Global, x: Node) -> Result<Node, AllocError> {
+        match self {
+            Place::Argument => apply(alloc, "sin", x),
+            Place::Framed(frame) => frame.around(alloc, x),
+            Place::First(pair) => pair.of(alloc, x, leaf('a')),
+            Place::Second(pair) => pair.of(alloc, leaf('a'), x),
+            Place::Target(triple) => triple.of(alloc, x, leaf('a'), leaf('b')),
+            Place::Below(triple) => triple.of(alloc, leaf('a'), x, leaf('b')),
+            Place::Above(triple) => triple.of(alloc, leaf('a'), leaf('b'), x),
+            Place::Row(before, after) => Ok(Node::Row(between(alloc, before, x, after)?)),
+            Place::Matrix(before, after) => {
+                let cells = between(alloc, before, x, after)?;
+                Ok(Node::Matrix(cells, ColumnAlign::Center))
+            }
+        }
     }
-    for triple in [Triple::SubSup, Triple::UnderOver] {
-        x = in_triples(alloc, triple, x)?;
-    }
-    Ok(x)
 }
 
-/// A node inside each other kind that holds one node.
-fn frame(alloc: Global, x: Node) -> Result<Node, AllocError> {
-    let mut x = apply(alloc, "sin", x)?;
-    for frame in [
-        Frame::Over('^', Accent::True),
-        Frame::Under('_', Accent::False),
-        Frame::Root,
-        Frame::Fence("(", ")"),
-        Frame::Slash,
-        Frame::Style(None),
-    ] {
-        x = frame.around(alloc, x)?;
-    }
-    Ok(x)
-}
+/// The place of each kind that holds one node.
+static ONE: [Place; 7] = [
+    Place::Argument,
+    Place::Framed(Frame::Over('^', Accent::True)),
+    Place::Framed(Frame::Under('_', Accent::False)),
+    Place::Framed(Frame::Root),
+    Place::Framed(Frame::Fence("(", ")")),
+    Place::Framed(Frame::Slash),
+    Place::Framed(Frame::Style(None)),
+];
 
-/// A node inside each other kind that holds two nodes, in each of its places.
-fn pair(alloc: Global, x: Node) -> Result<Node, AllocError> {
-    let mut x = x;
-    for pair in [
-        Pair::Overset,
-        Pair::Underset,
-        Pair::Root,
-        Pair::Fraction(LineThickness::Medium),
-    ] {
-        x = in_pairs(alloc, pair, x)?;
+/// Both places of each kind that holds two nodes.
+static TWO: [Place; 14] = [
+    Place::First(Pair::Subscript),
+    Place::Second(Pair::Subscript),
+    Place::First(Pair::Superscript),
+    Place::Second(Pair::Superscript),
+    Place::First(Pair::Overset),
+    Place::Second(Pair::Overset),
+    Place::First(Pair::Underset),
+    Place::Second(Pair::Underset),
+    Place::First(Pair::Under),
+    Place::Second(Pair::Under),
+    Place::First(Pair::Root),
+    Place::Second(Pair::Root),
+    Place::First(Pair::Fraction(LineThickness::Medium)),
+    Place::Second(Pair::Fraction(LineThickness::Medium)),
+];
+
+/// The places of each kind that holds three nodes, or any number of them.
+static MORE: [Place; 13] = [
+    Place::Target(Triple::SubSup),
+    Place::Below(Triple::SubSup),
+    Place::Above(Triple::SubSup),
+    Place::Target(Triple::UnderOver),
+    Place::Below(Triple::UnderOver),
+    Place::Above(Triple::UnderOver),
+    Place::Row(None, None),
+    Place::Row(None, Some(false)),
+    Place::Row(Some(false), None),
+    Place::Row(None, Some(true)),
+    Place::Row(Some(true), None),
+    Place::Matrix(None, Some(false)),
+    Place::Matrix(Some(true), Some(true)),
+];
+
+/// A letter inside so many nodes, each of which has the one before in this place.
+fn nested(alloc: Global, place: Place, levels: usize, letter: char) -> Result<Node, AllocError> {
+    let mut x = leaf(letter);
+    for _ in 0..levels {
+        x = place.around(alloc, x)?;
     }
     Ok(x)
 }
@@ -108,53 +142,69 @@ fn between(
     Ok(nodes)
 }
 
-/// A node inside rows and matrices: alone, first, last and between nodes, which may hold nodes themselves.
-fn list(alloc: Global, x: Node) -> Result<Node, AllocError> {
-    let mut x = x;
-    for (before, after) in [
-        (None, None),
-        (None, Some(false)),
-        (Some(false), None),
-        (None, Some(true)),
-        (Some(true), None),
-    ] {
-        x = Node::Row(between(alloc, before, x, after)?);
-    }
-    x = Node::Matrix(between(alloc, None, x, Some(false))?, ColumnAlign::Left);
-    let cells = between(alloc, Some(true), x, Some(true))?;
-    Ok(Node::Matrix(cells, ColumnAlign::Center))
+/// How deep a node is inside others of its kind, where each kind is copied and compared.
+const NESTED: usize = 60;
+
+/// Whether nodes nested in this place equal their copy, differ from those around another letter, and print as their copy does. Each
+/// looks at an inner node once: twice would double the time with each level, and not end.
+fn is_whole(alloc: Global, place: Place) -> Result<bool, AllocError> {
+    let node = nested(alloc, place, NESTED, 'x')?;
+    let other = nested(alloc, place, NESTED, 'y')?;
+    let copy = node.clone(alloc)?;
+    let markup = node.to_string(alloc)?;
+    let markup_of_copy = copy.to_string(alloc)?;
+    Ok(copy == node && node != other && markup == markup_of_copy)
 }
 
-const LEVELS: usize = 100_000;
-
-/// Trees that could not be dropped by recursion with a stack of 8 MiB, even if only one kind in one place recursed.
 #[test]
-fn deep_scripts_are_dropped(rt: HostRuntime) -> Result<(), Fail> {
-    let mut x = leaf('x');
-    for _ in 0..LEVELS {
-        x = script(rt.alloc(), x)?;
+fn each_kind_in_itself(rt: HostRuntime) -> Result<(), Fail> {
+    for places in [&ONE[..], &TWO[..], &MORE[..]] {
+        for (number, place) in places.iter().enumerate() {
+            assert!(rt; is_whole(rt.alloc(), *place)?, "{number}");
+        }
     }
-    assert!(rt; matches!(&x, Node::UnderOver { .. }));
     Ok(())
+}
+
+/// How deep a node is inside others of its kind, where each kind is dropped. A call for each level would have 33 bytes of a stack
+/// of 8 MiB, and no call that has a node in its hands needs so few.
+const LEVELS: usize = 250_000;
+
+/// How often a node is inside each of these places in turn.
+const ROUNDS: usize = 10_000;
+
+/// Drops nodes nested in each of these places, and then nodes in all of them in turn. Returns whether there were such nodes.
+fn are_dropped(alloc: Global, places: &[Place]) -> Result<bool, AllocError> {
+    for place in places {
+        let node = nested(alloc, *place, LEVELS, 'x')?;
+        if matches!(&node, Node::Letter(..)) {
+            return Ok(false);
+        }
+    }
+    let mut x = leaf('x');
+    for _ in 0..ROUNDS {
+        for place in places {
+            x = place.around(alloc, x)?;
+        }
+    }
+    Ok(!matches!(&x, Node::Letter(..)))
 }
 
 #[test]
 fn deep_frames_are_dropped(rt: HostRuntime) -> Result<(), Fail> {
-    let mut x = leaf('x');
-    for _ in 0..LEVELS {
-        x = pair(rt.alloc(), frame(rt.alloc(), x)?)?;
-    }
-    assert!(rt; matches!(&x, Node::Frac(..)));
+    assert!(rt; are_dropped(rt.alloc(), &ONE)?);
     Ok(())
 }
 
 #[test]
-fn deep_lists_are_dropped(rt: HostRuntime) -> Result<(), Fail> {
-    let mut x = leaf('x');
-    for _ in 0..LEVELS {
-        x = list(rt.alloc(), x)?;
-    }
-    assert!(rt; matches!(&x, Node::Matrix(..)));
+fn deep_pairs_are_dropped(rt: HostRuntime) -> Result<(), Fail> {
+    assert!(rt; are_dropped(rt.alloc(), &TWO)?);
+    Ok(())
+}
+
+#[test]
+fn deep_scripts_and_lists_are_dropped(rt: HostRuntime) -> Result<(), Fail> {
+    assert!(rt; are_dropped(rt.alloc(), &MORE)?);
     Ok(())
 }
 
@@ -241,21 +291,12 @@ fn wide_rows(rt: HostRuntime) -> Result<(), Fail> {
     Ok(())
 }
 
-/// A letter inside so many rows, each of which holds the next alone.
-fn nested_row(alloc: Global, levels: usize) -> Result<Node, AllocError> {
-    let mut x = leaf('x');
-    for _ in 0..levels {
-        x = Node::Row(between(alloc, None, x, None)?);
-    }
-    Ok(x)
-}
-
 const ROWS: usize = 64;
 
 /// Whether a nested row equals its copy, and prints with its letter in bold once it has that style. Each looks at a member
 /// once: twice would double the time with each level, and not end.
 fn nested_row_is_whole(alloc: Global) -> Result<bool, AllocError> {
-    let row = nested_row(alloc, ROWS)?;
+    let row = nested(alloc, Place::Row(None, None), ROWS, 'x')?;
     let mut copy = row.clone(alloc)?;
     let is_copied = copy == row;
     copy.set_variant(Variant::Bold);

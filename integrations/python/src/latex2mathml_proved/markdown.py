@@ -34,6 +34,9 @@ _INLINE = (
 )
 _BLOCK = re.compile(rf"^[ ]{{0,3}}\$\$(?P<block>{_CHARACTER}+?)\$\$[ ]*$", re.MULTILINE)
 
+# Each dollar sign at which a formula may begin, with the rest of the formulas that would. Two backslashes are one character.
+_FORMULAS = re.compile(rf"\\[\\$]|\$(?=({_CHARACTER}+?\$)?)(?=(\${_CHARACTER}+?\$\$)?)")
+
 # The lines of a list are parsed again, item by item.
 _LIST = re.compile(r"[ ]{0,3}(?:[*+-]|[0-9]+\.)[ ]")
 
@@ -58,6 +61,7 @@ class Formula(NamedTuple):
     latex: str
     block: bool
     tag: str
+    rank: int  # among those that are written alike
 
 
 class Page:
@@ -66,8 +70,8 @@ class Page:
     def __init__(self) -> None:
         self.formulas: List[Formula] = []
         self._text = ""
-        self._numbers: Dict[str, List[int]] = {}  # of the formulas that are written alike
-        self._lines: Dict[int, Optional[int]] = {}
+        self._counts: Dict[str, int] = {}  # of the formulas that are written alike
+        self._lines: Dict[str, List[int]] = {}
 
     def begin(self, lines: List[str]) -> None:
         """Keeps the lines of the page, to tell those of formulas."""
@@ -76,15 +80,16 @@ class Page:
 
     def clear(self) -> None:
         self.formulas.clear()
-        self._numbers.clear()
+        self._counts.clear()
         self._lines.clear()
 
     def place(self, source: str, latex: str, block: bool, tag: str) -> etree.Element:
         """The element that stands for a formula. `source` is the formula with its dollar signs, and `tag` that of its element."""
         element = etree.Element(NAME)
         element.text = AtomicString(f"{STX}{NAME}:{len(self.formulas)}{ETX}")
-        self._numbers.setdefault(source, []).append(len(self.formulas))
-        self.formulas.append(Formula(source, latex, block, tag))
+        rank = self._counts.get(source, 0)
+        self._counts[source] = rank + 1
+        self.formulas.append(Formula(source, latex, block, tag, rank))
         return element
 
     def restore(self, text: str) -> str:
@@ -93,20 +98,20 @@ class Page:
 
     def line_of(self, number: int) -> Optional[int]:
         """The line of a formula, or None where the same text also stands elsewhere, as in code."""
-        if number not in self._lines:
-            self._find_lines(self.formulas[number].source)
-        return self._lines[number]
+        formula = self.formulas[number]
+        if not self._lines:
+            self._find_lines()
+        lines = self._lines.get(bare(formula.source.split("\n")), [])
+        return lines[formula.rank] if len(lines) == self._counts[formula.source] else None
 
-    def _find_lines(self, source: str) -> None:
-        """Finds the lines of all formulas that are written alike at once, since there may be many."""
-        numbers = self._numbers[source]
-        starts = [found.start() for found in re.finditer(re.escape(bare(source.split("\n"))), self._text)]
-        self._lines.update(dict.fromkeys(numbers))
-        if len(starts) == len(numbers):
-            line = 1
-            for number, before, start in zip(numbers, [0, *starts], starts):
-                line += self._text.count("\n", before, start)
-                self._lines[number] = line
+    def _find_lines(self) -> None:
+        """Finds the lines of all that may be a formula at once, since each may be written otherwise."""
+        line, before = 1, 0
+        for found in _FORMULAS.finditer(self._text):
+            line += self._text.count("\n", before, found.start())
+            before = found.start()
+            for rest in filter(None, found.groups()):
+                self._lines.setdefault(f"${rest}", []).append(line)
 
 
 def bare(lines: List[str]) -> str:

@@ -1,0 +1,157 @@
+"""The net itself: what compares an answer sees each difference, and no case of the tests says nothing."""
+import ast
+import ctypes
+import itertools
+import subprocess
+import unittest
+import unittest.mock
+
+from tests import answers
+from tests.answers import AnswerCase, Code
+from tests.support import ROOT, Case
+
+# what a function asserts by, besides `assert`
+ASSERTING = {"fail", "AssertionError"}
+
+
+class Differences(unittest.TestCase):
+    def test_of_a_command(self):
+        """Its status and both of its streams are compared, unless a stream is None."""
+        done = subprocess.CompletedProcess(["a"], 1, b"b", b"c")
+        for status, stdout, stderr in itertools.product((0, 1), (None, b"", b"b", b"b\n"), (None, b"", b"c", b"c\n")):
+            met = status == 1 and stdout in (None, b"b") and stderr in (None, b"c")
+            with self.subTest(status=status, stdout=stdout, stderr=stderr):
+                self.assertEqual(fails(lambda: Case().expect(done, status, stdout, stderr)), not met)
+        self.assertTrue(fails(lambda: Case().expect(subprocess.CompletedProcess(["a"], 0, b"", b"c"))))
+
+    def test_of_a_case(self):
+        """The answers of the program and of the library for C are compared, each with its status or code, and with standard error."""
+        told = answers.ERROR + b"r\n"
+        programs = {"right": (0, b"x\n", b""), "another answer": (0, b"y\n", b""), "another status": (1, b"x\n", b""),
+                    "something told": (0, b"x\n", b"e"), "refused": (1, b"", told), "refused and written": (1, b"x", told)}
+        libraries = {"right": (Code.DONE, b"x"), "another answer": (Code.DONE, b"y"), "another code": (Code.REFUSED, b"x"),
+                     "refused": (Code.REFUSED, b"r")}
+        for (program, (status, *streams)), (library, by_library) in itertools.product(programs.items(), libraries.items()):
+            done = subprocess.CompletedProcess(["a"], status, *streams)
+            with self.subTest(program=program, library=library), \
+                    unittest.mock.patch.multiple(answers, run=lambda *_, **__: done, program=str, library=lambda: Library(*by_library)):
+                for name, code, answer in (("right", Code.DONE, b"x"), ("refused", Code.REFUSED, b"r")):
+                    differs = fails(lambda: AnswerCase().comes_to("here", "inline", b"x", code, answer))
+                    self.assertEqual(differs, (program, library) != (name, name))
+
+
+class Library:
+    """A library for C that has one answer."""
+
+    def __init__(self, code, text):
+        self.code, self.text = code, text
+
+    def latex2mathml_formula(self, given, length, block, room, size, needed):
+        needed._obj.value = len(self.text)
+        if size < len(self.text):
+            return Code.TOO_SMALL
+        ctypes.memmove(room, self.text, len(self.text))
+        return self.code
+
+
+def fails(assertion):
+    try:
+        assertion()
+    except AssertionError:
+        return True
+    return False
+
+
+class Assertions(unittest.TestCase):
+    def test_kinds(self):
+        """Assertions that cannot fail, and others."""
+        for line, is_empty in {
+            "self.assertTrue(a, b)": True, "self.assertFalse(a, b.c)": True, "self.assertTrue(a, 'why')": False, "self.assertTrue(a, msg=b)": False,
+            "self.assertTrue(a in b, b)": False, "self.assertTrue(a, '\\n'.join(b))": False, "self.assertTrue(a, a)": True,
+            "self.assertTrue(True)": True, "self.assertTrue((a, b))": True, "self.assertTrue(a)": False, "self.assertTrue([a])": True,
+            "self.assertEqual(a, a)": True, "self.assertEqual(f(a), f(a))": True, "self.assertEqual(a, b)": False, "self.assertIn('', a)": True,
+            "self.assertIn(a, (a, b))": False, "assert a, b": False, "assert (a, b)": True, "assert 'a'": True, "assert a == a": True,
+            "assert a is not None": False, "self.assertTrue(a == a)": True, "self.assertLessEqual(a, a)": True,
+            "self.assertGreaterEqual(len(a), 0)": True, "self.assertGreater(len(a), 0)": False, "assert f'{a}'": True, "assert len(a) >= 0": True,
+        }.items():
+            with self.subTest(line):
+                self.assertEqual(bool(empty_assertions(ast.parse(line))), is_empty)
+
+    def test_cases_without_an_assertion(self):
+        text = "def f(): g()\ndef g(x): assert x\nclass A:\n    def test_a(self): self.f()\n    def test_b(self): h()\n    def test_c(self): pass\n"
+        self.assertEqual(cases_without_an_assertion([("test_m", ast.parse(text))]), ["test_m.py:5: test_b", "test_m.py:6: test_c"])
+
+    def test_the_tests(self):
+        modules = [(file.stem, ast.parse(file.read_text(encoding="utf-8"))) for file in sorted((ROOT / "tests").glob("*.py"))]
+        self.assertEqual([f"{name}.py:{line}" for name, module in modules for line in empty_assertions(module)], [])
+        self.assertEqual(cases_without_an_assertion(modules), [])
+
+
+def empty_assertions(module):
+    """The lines of the assertions that cannot fail, whatever their operands are."""
+    return [node.lineno for node in ast.walk(module) if is_empty(node)]
+
+
+def is_empty(node):
+    if isinstance(node, ast.Assert):
+        return is_always_true(node.test)
+    if isinstance(node, ast.Compare):
+        return is_always_true(node)
+    if not isinstance(node, ast.Call) or not isinstance(node.func, ast.Attribute) or not node.func.attr.startswith("assert"):
+        return False
+    name, operands = node.func.attr, node.args
+    if name in ("assertTrue", "assertFalse"):
+        # what is meant as an operand would be the message
+        return is_always_true(operands[0]) or any(not is_message(it, operands[0]) for it in operands[1:])
+    return len(operands) > 1 and (is_same(*operands[:2]) or is_of_any(name, *operands[:2]))
+
+
+def is_message(node, operand):
+    """Whether it is a text or a method of one, as `join`, or shows a part of the operand."""
+    text = node.func.value if isinstance(node, ast.Call) and isinstance(node.func, ast.Attribute) else node
+    is_text = isinstance(text, ast.JoinedStr) or isinstance(text, ast.Constant) and isinstance(text.value, str)
+    return is_text or any(is_same(node, it) for it in ast.walk(operand) if it is not operand)
+
+
+def is_same(left, right):
+    return ast.dump(left) == ast.dump(right)
+
+
+def is_of_any(name, left, right):
+    """Whether a comparison is of any text, or of any length."""
+    if name == "assertIn":
+        return isinstance(left, ast.Constant) and not left.value and isinstance(left.value, (str, bytes))
+    is_length = isinstance(left, ast.Call) and isinstance(left.func, ast.Name) and left.func.id == "len"
+    return name == "assertGreaterEqual" and is_length and isinstance(right, ast.Constant) and right.value == 0
+
+
+def is_always_true(node):
+    if isinstance(node, ast.Compare) and len(node.ops) == 1:
+        left, right = node.left, node.comparators[0]
+        names = {ast.In: "assertIn", ast.GtE: "assertGreaterEqual"}
+        return is_same(left, right) or is_of_any(names.get(type(node.ops[0])), left, right)
+    return isinstance(node, (ast.Tuple, ast.List, ast.Dict, ast.JoinedStr, ast.Lambda, ast.Constant))
+
+
+def cases_without_an_assertion(modules):
+    """The cases in which nothing asserts: neither they nor a function of such a name, in any of the modules, that they call."""
+    functions = [(name, it) for name, module in modules for it in ast.walk(module) if isinstance(it, ast.FunctionDef)]
+    asserting = set(ASSERTING)
+    while found := {it.name for _, it in functions if it.name not in asserting and asserts(it, asserting)}:
+        asserting |= found
+    cases = [(name, it) for name, it in functions if name.startswith("test_") and it.name.startswith("test_")]
+    return [f"{name}.py:{it.lineno}: {it.name}" for name, it in cases if not asserts(it, asserting)]
+
+
+def asserts(function, asserting):
+    for node in ast.walk(function):
+        if isinstance(node, ast.Assert) or isinstance(node, ast.keyword) and node.arg == "check":
+            return True
+        name = getattr(node, "attr", None) or getattr(node, "id", None)
+        if name and (name.startswith("assert") or name in asserting):
+            return True
+    return False
+
+
+if __name__ == "__main__":
+    unittest.main()
