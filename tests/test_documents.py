@@ -380,3 +380,7 @@ class Versions(Case):
                 found = re.search(pattern, (ROOT / name).read_text(), re.M)
                 self.assertIsNotNone(found, f"{name} has no version")
                 self.assertEqual(found[1], newest)
+
+
+if __name__ == "__main__":
+    unittest.main()
