@@ -306,14 +306,16 @@ class Building(House):
 @unittest.skipIf(len(os.sched_getaffinity(0)) < 2, "one processor")
 class SideBySide(House):
     def test_what_does_not_need_each_other_is_built_at_once(self):
-        for target, pair in (("both", "left right"), ("high tool", "high tool")):
+        """They share the memory. For a crate that is alone, `rt` chooses the number of processes."""
+        for target, pair, memory, jobs in (("both", "left right", 17, 4), ("high tool", "high tool", 10, 2)):
             with self.subTest(target):
                 (self.folder / "met").write_text("")
+                self.memory.write_text(f"MemAvailable: {memory << 20} kB\n")
                 self.expect(self.build(target, MEETS=pair), stdout=None, stderr=None)
                 calls = self.calls.read_text()
                 for crate in pair.split():
-                    # they share the processors, and a crate that is alone leaves the choice to `rt`
-                    self.assertRegex(calls, rf"(?m)^{crate} (lib|run) --jobs \d+( -- inline)?$")
+                    jobs = min(jobs, len(os.sched_getaffinity(0)))
+                    self.assertRegex(calls, rf"(?m)^{crate} (lib|run) --jobs {jobs}( -- inline)?$")
                 self.assertRegex(calls, r"(?m)^low lib$")
 
     def test_no_more_than_there_are_processors(self):

@@ -1,5 +1,6 @@
 """Checks the documents: links lead somewhere, commands print what is shown, what `tools/renew-documents` writes is as it would
 write it now, and sentences are short."""
+import json
 import re
 import shutil
 import unittest
@@ -258,6 +259,17 @@ class Numbers(Case):
                                ("docs/DECISIONS.md", "texts"), ("docs/ARCHITECTURE.md", "entries")):
             self.says(document, f" {count} {noun}")
 
+    def test_names(self):
+        """The names that the READMEs show as replaced are so by names.json, and no command of the library."""
+        names = json.loads((ROOT / "integrations/names.json").read_text())
+        commands = {f"\\{entry.name}" for entry in cases.commands()}
+        missing = re.search(r"missing names, such as `(.*?)`", (ROOT / "README.md").read_text())[1]
+        section = (ROOT / "integrations/README.md").read_text().partition("## Names\n")[2].partition("\n- ")[0]
+        shown = re.findall(r"`(\\\w+)` is `(.+?)`", section)
+        self.assertEqual({name: names.get(name) for name, _ in shown}, dict(shown))
+        self.assertEqual([name for name in [missing, *dict(shown)] if name not in names or name in commands], [])
+        self.assertGreater(len(shown), 1)
+
     def test_environments(self):
         definition = (ROOT / "crates/latex2mathml_trees/specs/Productions.antt").read_text().partition("\nenvironment_tree name")[2]
         names = set(re.findall(r'bytes_eq name \(codes "(\w+)"\)', definition))
@@ -368,3 +380,7 @@ class Versions(Case):
                 found = re.search(pattern, (ROOT / name).read_text(), re.M)
                 self.assertIsNotNone(found, f"{name} has no version")
                 self.assertEqual(found[1], newest)
+
+
+if __name__ == "__main__":
+    unittest.main()
