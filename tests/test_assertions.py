@@ -12,6 +12,8 @@ from tests.support import ROOT, Case
 
 # what a function asserts by, besides `assert`
 ASSERTING = {"fail", "AssertionError"}
+# functions whose answer is a condition
+CONDITIONS = {"all", "any", "endswith", "exists", "isinstance", "startswith"}
 
 
 class Differences(unittest.TestCase):
@@ -66,8 +68,9 @@ class Assertions(unittest.TestCase):
     def test_kinds(self):
         """Assertions that cannot fail, and others."""
         for line, is_empty in {
-            "self.assertTrue(a, b)": True, "self.assertFalse(a, b.c)": True, "self.assertTrue(a, 'why')": False, "self.assertTrue(a, msg=b)": False,
-            "self.assertTrue(a in b, b)": False, "self.assertTrue(a, '\\n'.join(b))": False, "self.assertTrue(a, a)": True,
+            "self.assertTrue(a, b)": True, "self.assertFalse(a, b.c)": True, "self.assertTrue(a, 'b')": True, "self.assertTrue(a, msg='b')": False,
+            "self.assertTrue(a in b, b)": False, "self.assertFalse(a, ' '.join(a))": False, "self.assertTrue(a, a)": True,
+            "self.assertTrue(a.b(), 'c')": True, "self.assertTrue(a.exists(), 'b')": False, "self.assertTrue(any(a), b)": False,
             "self.assertTrue(True)": True, "self.assertTrue((a, b))": True, "self.assertTrue(a)": False, "self.assertTrue([a])": True,
             "self.assertEqual(a, a)": True, "self.assertEqual(f(a), f(a))": True, "self.assertEqual(a, b)": False, "self.assertIn('', a)": True,
             "self.assertIn(a, (a, b))": False, "assert a, b": False, "assert (a, b)": True, "assert 'a'": True, "assert a == a": True,
@@ -107,10 +110,16 @@ def is_empty(node):
 
 
 def is_message(node, operand):
-    """Whether it is a text or a method of one, as `join`, or shows a part of the operand."""
-    text = node.func.value if isinstance(node, ast.Call) and isinstance(node.func, ast.Attribute) else node
-    is_text = isinstance(text, ast.JoinedStr) or isinstance(text, ast.Constant) and isinstance(text.value, str)
-    return is_text or any(is_same(node, it) for it in ast.walk(operand) if it is not operand)
+    """Whether it is one, as behind a condition, or where it shows what is to be true. Otherwise it may be meant as another operand."""
+    if isinstance(operand, (ast.Compare, ast.BoolOp)):
+        return True
+    if isinstance(operand, ast.Call) and name_of(operand.func) in CONDITIONS:
+        return True
+    return any(is_same(operand, it) for it in ast.walk(node) if it is not node)
+
+
+def name_of(node):
+    return getattr(node, "attr", None) or getattr(node, "id", None)
 
 
 def is_same(left, right):
@@ -147,7 +156,7 @@ def asserts(function, asserting):
     for node in ast.walk(function):
         if isinstance(node, ast.Assert) or isinstance(node, ast.keyword) and node.arg == "check":
             return True
-        name = getattr(node, "attr", None) or getattr(node, "id", None)
+        name = name_of(node)
         if name and (name.startswith("assert") or name in asserting):
             return True
     return False

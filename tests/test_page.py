@@ -212,10 +212,10 @@ class Browser(support.Case):
         site = self.enterContext(support.scratch())
         pages = build_site(site)
         for page, judgements in judge(words_of, site, pages).items():
-            self.assertTrue(judgements, f"{page} made no judgement")
+            self.assertTrue(judgements, msg=f"{page} made no judgement")
             for each in judgements:
                 with self.subTest(f"{page}: {each['name']}"):
-                    self.assertTrue(each["passed"], f"found:  {each['found']}\nwanted: {each['due']}")
+                    self.assertTrue(each["passed"], msg=f"found:  {each['found']}\nwanted: {each['due']}")
 
 
 @support.requires("chromium")

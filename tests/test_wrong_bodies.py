@@ -150,7 +150,7 @@ class WrongBodies(unittest.TestCase):
     def test_each_row_names_edits(self):
         for row in self.all_rows():
             with self.subTest(line=row.line):
-                self.assertTrue(self.bodies(row), "the row names no wrong body")
+                self.assertTrue(self.bodies(row), msg="the row names no wrong body")
                 self.assertEqual([name for name in self.bodies(row) if name not in edits()], [], "there are no such edits")
 
     def test_each_can_be_applied(self):

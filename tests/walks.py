@@ -74,7 +74,7 @@ class Folder:
             return
         told = list(self.faults_in(lines))
         if not is_refused:
-            case.assertTrue(self.differs_at(told, None), told)
+            case.assertTrue(self.differs_at(told, None), msg=told)
             return
         self.judge_faults(case, told)
         if is_one:

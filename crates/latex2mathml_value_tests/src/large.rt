@@ -81,14 +81,18 @@ static TWO: [Place; 14] = [
     Place::Second(Pair::Fraction(LineThickness::Medium)),
 ];
 
-/// The places of each kind that holds three nodes, or any number of them.
-static MORE: [Place; 13] = [
+/// The places of each kind that holds three nodes.
+static THREE: [Place; 6] = [
     Place::Target(Triple::SubSup),
     Place::Below(Triple::SubSup),
     Place::Above(Triple::SubSup),
     Place::Target(Triple::UnderOver),
     Place::Below(Triple::UnderOver),
     Place::Above(Triple::UnderOver),
+];
+
+/// The places of each kind that holds a list.
+static LISTS: [Place; 7] = [
     Place::Row(None, None),
     Place::Row(None, Some(false)),
     Place::Row(Some(false), None),
@@ -158,7 +162,7 @@ fn is_whole(alloc: Global, place: Place) -> Result<bool, AllocError> {
 
 #[test]
 fn each_kind_in_itself(rt: HostRuntime) -> Result<(), Fail> {
-    for places in [&ONE[..], &TWO[..], &MORE[..]] {
+    for places in [&ONE[..], &TWO[..], &THREE[..], &LISTS[..]] {
         for (number, place) in places.iter().enumerate() {
             assert!(rt; is_whole(rt.alloc(), *place)?, "{number}");
         }
@@ -166,9 +170,9 @@ fn each_kind_in_itself(rt: HostRuntime) -> Result<(), Fail> {
     Ok(())
 }
 
-/// How deep a node is inside others of its kind, where each kind is dropped. A call for each level would have 33 bytes of a stack
-/// of 8 MiB, and no call that has a node in its hands needs so few.
-const LEVELS: usize = 250_000;
+/// How deep a node is inside others of its kind, where each kind is dropped. A call for each level would have 83 bytes of a stack
+/// of 8 MiB, and one that holds a node and its parts needs more.
+const LEVELS: usize = 100_000;
 
 /// How often a node is inside each of these places in turn.
 const ROUNDS: usize = 10_000;
@@ -203,8 +207,14 @@ fn deep_pairs_are_dropped(rt: HostRuntime) -> Result<(), Fail> {
 }
 
 #[test]
-fn deep_scripts_and_lists_are_dropped(rt: HostRuntime) -> Result<(), Fail> {
-    assert!(rt; are_dropped(rt.alloc(), &MORE)?);
+fn deep_scripts_are_dropped(rt: HostRuntime) -> Result<(), Fail> {
+    assert!(rt; are_dropped(rt.alloc(), &THREE)?);
+    Ok(())
+}
+
+#[test]
+fn deep_lists_are_dropped(rt: HostRuntime) -> Result<(), Fail> {
+    assert!(rt; are_dropped(rt.alloc(), &LISTS)?);
     Ok(())
 }
 
