@@ -57,10 +57,14 @@ var latex2mathml = latex2mathml ?? (() => {
 
     const ROWS = ':is(math, mrow, mstyle, msqrt, mtd)';
     const BASED = ':is(msub, msup, msubsup, munder, mover, munderover):not(:has(> mo[accent])), mrow:has(> mo:only-child)';
-    const FENCE = 'mo[form][stretchy="true"]';
+    // Firefox sets the depth of a limit only when it lays the formula out, so its place counts too.
+    const SCRIPT = ':is(msub, msup, msubsup, munder, mover, munderover, mroot) > :not(:first-child)';
+    // The second kind of fence is that of KaTeX, which says no form.
+    const FENCE = ':is(mo[form][stretchy="true"], mo[fence="true"])';
     const FENCED = `mrow:has(> ${FENCE}:first-child):not(:has(> mfrac[linethickness="0"]))`;
-    // Before what stands in such a cell TeX puts an empty group.
-    const ALIGNED = 'mtable[columnalign="left"] > mtr > mtd:nth-child(even)';
+    // The markup of align. Before what is behind its & TeX puts an empty group.
+    const ALIGN = 'mtable[columnalign$="left"]:not([frame], [columnspacing])';
+    const BEHIND = ALIGN + ' > mtr > mtd:nth-child(even)';
 
     // The mathematical character of a letter, or the letter itself where Unicode has none.
     function character(letter, variant) {
@@ -77,8 +81,9 @@ var latex2mathml = latex2mathml ?? (() => {
         token.removeAttribute('mathvariant');
     }
 
+    // A bracket that has attributes is one whose program said how it is drawn.
     function mendSign(sign) {
-        if (UPRIGHT.includes(sign.textContent)) sign.setAttribute('stretchy', 'false');
+        if (UPRIGHT.includes(sign.textContent) && !sign.hasAttributes()) sign.setAttribute('stretchy', 'false');
         if (sign.textContent in CENTRED) sign.textContent = CENTRED[sign.textContent];
     }
 
@@ -97,10 +102,15 @@ var latex2mathml = latex2mathml ?? (() => {
 
     const textOf = base => base.matches('mi, mo') ? base.textContent.trim() : '';
 
+    function classOfFence(fence) {
+        if (fence.matches('[form="prefix"], :first-child:not([form])')) return OPENING;
+        return fence.matches('[form="postfix"], :last-child') ? CLOSING : MIDDLE;
+    }
+
     // The class of a base wherever it stands; none where this script does not know it.
     function classOf(base) {
         const text = textOf(base);
-        if (base.matches(FENCE)) return base.matches('[form="prefix"]') ? OPENING : CLOSING;
+        if (base.matches(FENCE)) return classOfFence(base);
         if (base.matches('mo[stretchy="true"]') && UPRIGHT.includes(text)) return MIDDLE;
         if (base.matches(FENCED)) return INNER;
         const classes = {mi: NAMES, mo: SIGNS}[base.localName] ?? [];
@@ -150,7 +160,7 @@ var latex2mathml = latex2mathml ?? (() => {
         const members = [...row.children].filter(child => !child.matches('mspace') && !INVISIBLE.test(textOf(child)));
         const bases = members.map(baseOf);
         const isSign = base => base?.localName === 'mo' && classOf(base) !== undefined;
-        const before = row.matches(ALIGNED) ? ORDINARY : undefined;
+        const before = row.matches(BEHIND) ? ORDINARY : undefined;
         const classes = classesOf(bases, before);
         for (const [i, base] of bases.entries()) {
             const space = spaceBetween(i ? classes[i - 1] : before, classes[i], isScript);
@@ -162,9 +172,18 @@ var latex2mathml = latex2mathml ?? (() => {
         }
     }
 
-    function mendRows(rows) {
+    // Those of some elements that are a script or in one. An element comes before what it contains.
+    function scriptsAmong(elements) {
+        const scripts = new Set();
+        for (const element of elements) {
+            if (scripts.has(element.parentElement) || element.matches(SCRIPT)) scripts.add(element);
+        }
+        return scripts;
+    }
+
+    function mendRows(rows, scripts) {
         // All styles are read before anything is changed, so that they are computed once.
-        const isScript = rows.map(row => getComputedStyle(row).mathDepth > 0);
+        const isScript = rows.map(row => getComputedStyle(row).mathDepth > 0 || scripts.has(row));
         rows.forEach((row, i) => mendRow(row, isScript[i]));
     }
 
@@ -174,8 +193,11 @@ var latex2mathml = latex2mathml ?? (() => {
         all(':is(mi, mn, mo)[mathvariant]').forEach(mendLetters);
         all('mo:not([stretchy], [minsize])').forEach(mendSign);
         all(':is(mover, munder) > mo[accent="true"]:last-child').forEach(mendAccent);
-        mendRows([...new Set(all(ROWS + ' > *').map(member => member.parentElement))]);
+        mendRows([...new Set(all(ROWS + ' > *').map(member => member.parentElement))], scriptsAmong(all('math *')));
         all('mo').filter(sign => classOf(sign) !== undefined).forEach(sign => setSpaces(sign, WIDTHS[0], WIDTHS[0]));
+        // The style sheet aligns these too; Firefox obeys the markup, and looks at it again where that of the table changes.
+        all(ALIGN + ' > mtr > mtd:nth-child(odd)').forEach(cell => cell.setAttribute('columnalign', 'right'));
+        all(ALIGN).forEach(table => table.setAttribute('columnalign', 'right left'));
         all('mspace[width^="-"]').forEach(space => { space.style.marginInlineStart = space.getAttribute('width'); });
         all('mtext').filter(text => text.textContent.startsWith('[PARSE ERROR: '))
             .forEach(text => text.classList.add('latex2mathml-error'));
