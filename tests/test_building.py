@@ -290,6 +290,7 @@ class Building(House):
                 status, said = self.interrupt("both", "left", number)
                 self.assertEqual(status, 128 + number)
                 self.assertNotIn("Traceback", said)
+                self.assertIn("build: interrupted", said)
                 self.assertIn("rlib", self.made("low"))
                 self.assertEqual(self.made("both"), [])
 

@@ -80,11 +80,19 @@ class Quotes(Case):
         self.expect(run([renew]), stdout=b"")
         self.assertIn(f"[`Piece`](../crates/latex2mathml/{link.format(line + 1)}", document.read_text())
         self.expect(run([renew, "--check"]), stdout=b"")
+        with self.subTest("it is gone"):
+            text = document.read_text()
+            source.write_text(source.read_text().replace("pub data Piece :", "pub data Part :"))
+            self.expect(run([renew]), 1, b"", b"renew-documents: PROMISES.md: Documents.antt has no definition Piece\n")
+            self.assertEqual(document.read_text(), text)
 
     def test_only_these_documents_quote(self):
         renewed = re.findall(r'"(docs/\w+\.md)"', (ROOT / "tools/renew-documents").read_text())
         quoting = [it for it in documents() if re.search(r"\.antt#L|<!-- (quoted from|made by)", it.read_text())]
         self.assertEqual(sorted(renewed), sorted(str(it.relative_to(ROOT)) for it in quoting))
+        for document in quoting:
+            links = document.read_text().count(".antt#L")
+            self.assertEqual(len(list(quotes.definitions(document))), links, f"{document.name} links a line without a definition's name")
 
     def test_each_public_call_is_quoted(self):
         document = ROOT / "docs/CALLING.md"

@@ -29,12 +29,12 @@ class Definition:
     line: int
 
     def line_now(self):
-        """The line in which the definition begins, or None if there is none."""
+        """The line in which the definition begins."""
         begins = re.compile(rf"\s*(?:(?:abbrev|unfoldable|opaque) )?(?:pub )?(?:(?:data|record) )?{re.escape(self.word)}(?=[\s:({{]|$)")
         for number, line in enumerate(self.source.read_text().split("\n"), 1):
             if begins.match(line) and not line.lstrip().startswith("--") and re.search(r"[:({]", line):
                 return number
-        return None
+        raise LookupError(f"{self.document.name}: {self.source.name} has no definition {self.word}")
 
 
 def definitions(document):
@@ -46,7 +46,7 @@ def definitions(document):
 
 def renewed(document):
     """The text of a document, with the line in each link to a definition, and the signatures in each block that quotes one, as
-    they are now. A link to a definition that is gone leads to no line."""
+    they are now. If one is gone, this is a `LookupError`."""
     def renewed_line(found):
         link = Definition(document, found["word"], (document.parent / found["path"]).resolve(), int(found["line"]))
         return f"[`{found['word']}`]({found['path']}#L{link.line_now()})"
@@ -62,7 +62,9 @@ def renewed(document):
 def signature(source, name):
     """The signature of a function in its source, with its clauses and without its body."""
     lines = source.read_text().split("\n")
-    begin = next(at for at, line in enumerate(lines) if re.match(rf"\s*(?:pub )?fn {name}\b", line))
+    begin = next((at for at, line in enumerate(lines) if re.match(rf"\s*(?:pub )?fn {name}\b", line)), None)
+    if begin is None:
+        raise LookupError(f"{source.name} has no function {name}")
     indent = len(lines[begin]) - len(lines[begin].lstrip())
     end = next(at for at in range(begin, len(lines)) if lines[at] in (" " * indent + "{", " " * indent + "{}") or lines[at].endswith(";"))
     kept = lines[begin:end] if not lines[end].endswith(";") else lines[begin:end + 1]
