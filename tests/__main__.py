@@ -120,8 +120,9 @@ def try_cases(words):
         with scratch() as folder:
             counts = folder / "counts"
             os.environ[COUNTS] = str(counts)
-            at_once = [] if any("::" in word for word in words) else ["-n", str(processors())]
-            status = run_to_its_end([sys.executable, "-B", "-m", "pytest", *at_once, *words])
+            # also a single case has a process of its own, which may end before it
+            at_once = 1 if any("::" in word for word in words) else processors()
+            status = run_to_its_end([sys.executable, "-B", "-m", "pytest", "-n", str(at_once), *words])
             found = json.loads(counts.read_text()) if counts.exists() else {}
         without = [] if words else modules_without(found.get("modules", []))
         for module in without:

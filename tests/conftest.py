@@ -1,4 +1,5 @@
-"""What the tests need of pytest beyond its own words: each `subTest` counts as a case, and long modules begin first."""
+"""What the tests need of pytest beyond its own words: each `subTest` counts as a case, long modules begin first, and a process that
+ends before its cases fails one of them alone."""
 import json
 import os
 import pathlib
@@ -7,11 +8,14 @@ import pytest
 import pytest_subtests
 from _pytest._code import ExceptionInfo
 from _pytest.unittest import TestCaseFunction
+from xdist.scheduler import LoadScopeScheduling
 
 from tests.support import COUNTS
 
 # The kinds of reports of pytest and its plugins, and what each counts as.
 KINDS = {"passed": "passed", "subtests passed": "passed", "failed": "failed", "error": "failed", "skipped": "skipped"}
+
+ENDED_TOO_SOON = pytest.StashKey()
 
 
 @pytest.hookimpl(trylast=True)
@@ -28,17 +32,46 @@ def report_part(item, case, part, error):
     item.ihook.pytest_runtest_logreport(report=report)
 
 
+class Classes(LoadScopeScheduling):
+    """Each class stays in one process. If that ends too soon, another one tries what is left of the class: xdist would try the case
+    that ended it again and again."""
+
+    def remove_node(self, node):
+        """Returns the case that was under way in a process that has ended, or None."""
+        classes = self.assigned_work.pop(node)
+        under_way = next((case for cases in classes.values() for case, is_done in cases.items() if not is_done), None)
+        if under_way:
+            classes[self._split_scope(under_way)][under_way] = True
+            self.workqueue.update((name, cases) for name, cases in classes.items() if not all(cases.values()))
+            for other in self.nodes:
+                self._reschedule(other)
+        return under_way
+
+
+def pytest_xdist_make_scheduler(config, log):
+    return Classes(config, log)
+
+
+def pytest_testnodedown(node, error):
+    """A process that ends too soon fails the run, also where no case was under way."""
+    if error:
+        node.config.stash[ENDED_TOO_SOON] = True
+
+
 def pytest_collection_modifyitems(items):
     items.sort(key=lambda item: item.get_closest_marker("long") is None)
 
 
 def pytest_sessionfinish(session):
     """Writes what passed, failed and was skipped, and the modules that this was in, to the file that `./test` names."""
+    if ENDED_TOO_SOON in session.config.stash:
+        session.exitstatus = pytest.ExitCode.TESTS_FAILED
     terminal = session.config.pluginmanager.get_plugin("terminalreporter")
     if COUNTS in os.environ and terminal and not hasattr(session.config, "workerinput"):
         counts, modules = dict.fromkeys(KINDS.values(), 0), set()
         for kind, counted in KINDS.items():
-            for report in terminal.stats.get(kind, []):
-                counts[counted] += 1
-                modules.add(report.nodeid.partition("::")[0])
+            reports = terminal.stats.get(kind, [])
+            # each process says of a module that it cannot be read
+            counts[counted] += len({it.nodeid if isinstance(it, pytest.CollectReport) else id(it) for it in reports})
+            modules.update(it.nodeid.partition("::")[0] for it in reports)
         pathlib.Path(os.environ[COUNTS]).write_text(json.dumps({**counts, "modules": sorted(modules)}))

@@ -14,6 +14,7 @@ import unittest.mock
 from tests import cases
 from tests.__main__ import name_of
 from tests.support import ROOT, SKIP_NOTHING, Case, processors, run, scratch
+from tools.progress import clock
 
 SAMPLES = {
     "test_sample.py": '''
@@ -55,22 +56,41 @@ class Ends(unittest.TestCase):
         pass
 
     def test_then(self):
+        with self.subTest("before"):
+            pass
         os._exit(0)
+
+    def test_thereafter(self):
+        pass
+
+class Others(unittest.TestCase):
+    def test_it(self):
+        pass
+''',
+    "test_last.py": '''
+import os
+
+class Ends:
+    def pytest_sessionfinish(self):
+        os._exit(0)
+
+def test_it(request):
+    request.config.pluginmanager.register(Ends())
 ''',
     "test_hangs.py": '''
 import os, pathlib, subprocess, unittest, pytest
 
 class Hangs(unittest.TestCase):
-    @pytest.mark.timeout(1)
     def test_it(self):
-        self.wait()
-
-    def test_long(self):
-        self.wait()
-
-    def wait(self):
-        with subprocess.Popen(["sleep", "600"]) as process:
+        with subprocess.Popen(["sleep", "600"], stdout=subprocess.PIPE) as process:
             pathlib.Path(os.environ["PROCESS"]).write_text(str(process.pid))
+            process.stdout.read()
+
+class HangsShortly(Hangs):
+    pytestmark = pytest.mark.timeout(2)
+
+    def test_then(self):
+        pass
 ''',
     "test_order.py": '''
 import os, unittest
@@ -157,14 +177,31 @@ class Counts(Harness):
     def test_a_process_that_ends_before_its_cases(self):
         self.add("test_ends.py")
         last, shown = self.run_it("test_ends")
+        self.assertEqual(last, "4 passed, 1 failed", shown)
+        self.assertIn("FAILED tests/test_ends.py::Ends::test_then\n", shown)
+
+    def test_a_process_that_ends_after_its_cases(self):
+        """What else it had to say is then lost."""
+        self.add("test_last.py")
+        last, shown = self.run_it("test_last")
         self.assertEqual(last, "1 passed, 1 failed", shown)
-        self.assertIn("test_then", shown)
 
     def test_a_case_that_does_not_end(self):
+        """It is named, and those after it are tried, though it waits for a process that never ends."""
         self.add("test_hangs.py")
-        last, shown = self.run_it("test_hangs.Hangs.test_it")
-        self.assertEqual(last, "0 passed, 1 failed", shown)
+        last, shown = self.run_it("test_hangs.HangsShortly")
+        self.assertEqual(last, "1 passed, 1 failed", shown)
         self.assertIn("Timeout", shown)
+        self.assertIn("FAILED tests/test_hangs.py::HangsShortly::test_it\n", shown)
+        self.wait_for(lambda: not os.path.exists(f"/proc/{(self.folder / 'process').read_text()}"))
+
+    def test_a_mark_that_is_misspelled(self):
+        self.add("test_slow.py")
+        path = self.house / "tests/test_slow.py"
+        path.write_text(path.read_text().replace("mark.long", "mark.lnog"))
+        last, shown = self.run_it("test_slow")
+        self.assertEqual(last, "0 passed, 1 failed", shown)
+        self.assertIn("'lnog' not found", shown)
 
     def test_a_name_that_nothing_has(self):
         self.add("test_sample.py")
@@ -175,7 +212,7 @@ class Counts(Harness):
     def test_an_interruption_ends_all(self):
         self.add("test_hangs.py")
         process = self.folder / "process"
-        words = [sys.executable, "-B", "-m", "tests", "test_hangs.Hangs.test_long"]
+        words = [sys.executable, "-B", "-m", "tests", "test_hangs.Hangs.test_it"]
         for number in (signal.SIGINT, signal.SIGTERM):
             with self.subTest(number), subprocess.Popen(words, cwd=self.house, env=self.environment(), stdout=subprocess.DEVNULL) as running:
                 self.wait_for(process.exists)
@@ -267,3 +304,6 @@ class Names(unittest.TestCase):
                 if text is not None:
                     quota.write_text(text)
                 self.assertEqual(processors(), count)
+
+    def test_clock(self):
+        self.assertEqual([clock(0), clock(59.9), clock(100), clock(3723)], ["0:00", "0:59", "1:40", "1:02:03"])
