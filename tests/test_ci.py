@@ -94,3 +94,41 @@ class Run(Case):
 
     def test_the_status(self):
         self.expect(self.run_ci(STATUS="1")[0], 1, None, None)
+
+
+class Pytest(Case):
+    """`./test` looks for a Python that has pytest, and has it installed where that may be done."""
+
+    def run_test(self, install, is_there=False):
+        """What `./test` does where `.ci/install` is this command, and which packages that was to install."""
+        house = self.enterContext(scratch())
+        (house / ".ci").mkdir()
+        shutil.copy(ROOT / "test", house)
+        python = 'case $1 in -c) test -e has-pytest ;; *) echo "ran: $*" ;; esac'
+        for name, text in (("python", python), (".ci/install", f'echo "$*" >installed; {install}')):
+            (house / name).write_text(f"#!/bin/sh\n{text}\n")
+            (house / name).chmod(0o755)
+        if is_there:
+            (house / "has-pytest").touch()
+        done = run([house / "test", "test_c", "-x"], env={"PATH": "/usr/bin:/bin", "PYTHON": str(house / "python")})
+        asked = house / "installed"
+        return done, asked.read_text().split() if asked.exists() else []
+
+    def test_it_is_there(self):
+        done, packages = self.run_test("exit 1", is_there=True)
+        self.expect(done, stdout=b"ran: -B -m tests test_c -x\n")
+        self.assertEqual(packages, [])
+
+    def test_it_is_installed(self):
+        done, packages = self.run_test("touch has-pytest")
+        self.expect(done, stdout=b"ran: -B -m tests test_c -x\n")
+        listed = (ROOT / ".ci/packages").read_text().split()
+        self.assertIn("python3-pytest", packages)
+        self.assertEqual([it for it in packages if it not in listed], [])
+
+    def test_it_cannot_be_installed(self):
+        for install in ("exit 1", "exit 0"):
+            with self.subTest(install):
+                done, packages = self.run_test(install)
+                self.expect(done, 1, b"", None)
+                self.assertIn(f"apt-get install {' '.join(packages)}\n".encode(), done.stderr)
