@@ -1,0 +1,15 @@
+//! Laws of the definitions.
+ghost use Rattle.std.specs.Str.{chars};
+ghost use Rattle.latex2mathml_tex_grammar.specs.{Examples.AreUnitsOfExamples, Laws.HasOneListOfUnits};
+
+/// A text has exactly one list of units, which ends with the text or with the refusal of what is no unit.
+pub fn one_list_of_units(text: &str)
+    ensures { HasOneListOfUnits (chars text.now) }
+{
+    let _ = text;
+}
+
+/// What the definitions say of some texts.
+pub fn units_of_examples()
+    ensures { AreUnitsOfExamples }
+{}
