@@ -1,2 +1,3 @@
 pub mod OneList
 pub mod Runs
+pub mod Tables

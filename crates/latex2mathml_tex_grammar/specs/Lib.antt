@@ -1,5 +1,12 @@
+pub mod Commands
+pub mod CommandsFromM
+pub mod CommandsUpToL
 pub mod Cutting
 pub mod Examples
 pub mod Laws
+pub mod Meaning
 pub mod Refusal
+pub mod Signs
+pub mod Sorted
+pub mod Symbols
 pub mod Units

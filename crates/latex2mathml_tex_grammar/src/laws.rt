@@ -1,6 +1,6 @@
 //! Laws of the definitions.
 ghost use Rattle.std.specs.Str.{chars};
-ghost use Rattle.latex2mathml_tex_grammar.specs.{Examples.AreUnitsOfExamples, Laws.HasOneListOfUnits};
+ghost use Rattle.latex2mathml_tex_grammar.specs.{Examples.AreUnitsOfExamples, Laws.AreTablesSorted, Laws.HasOneListOfUnits};
 
 /// A text has exactly one list of units, which ends with the text or with the refusal of what is no unit.
 pub fn one_list_of_units(text: &str)
@@ -12,4 +12,9 @@ pub fn one_list_of_units(text: &str)
 /// What the definitions say of some texts.
 pub fn units_of_examples()
     ensures { AreUnitsOfExamples }
+{}
+
+/// The tables of commands and of signs are sorted, so no name and no character has two entries.
+pub fn sorted_tables()
+    ensures { AreTablesSorted }
 {}
