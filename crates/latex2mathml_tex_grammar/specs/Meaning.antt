@@ -24,10 +24,13 @@ pub data Size : Type 0 where
   VeryBig : Size
   Biggest : Size
 
--- where the limits of a function's name stand: beside it, or in display style above and below
+-- where the limits of an operator stand: beside it; in display style above and below it; above and below it, where the
+-- browser moves them beside it in text; always above and below it
 pub data LimitPlace : Type 0 where
   Beside : LimitPlace
   ByStyle : LimitPlace
+  Movable : LimitPlace
+  Stacked : LimitPlace
 
 pub data Meaning : Type 0 where
   -- a character
