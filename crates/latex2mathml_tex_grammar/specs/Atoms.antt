@@ -1,7 +1,7 @@
 -- Atoms, and the elements of atoms side by side: the space between them, prefix signs, words of upright letters.
 use Rattle.std.specs.Prelude.{ℕ, pos, Bool, true, false, List, [], ◌∷◌, ◌++◌, if◌then◌else◌}
 use Rattle.latex2mathml_tex_grammar.specs.Element.{Element, leaf, node, Mi, Mspace, Attribute, FormPrefix, NoSpaceBefore, NoSpaceAfter, WidthOf, row}
-use Rattle.latex2mathml_tex_grammar.specs.Symbols.{Class, Ordinary, Operator, Binary, Relation, Opening, Closing, Punctuation, Inner, Style, InDisplay, InText, InScript}
+use Rattle.latex2mathml_tex_grammar.specs.Symbols.{Class, Ordinary, Operator, Binary, Relation, Opening, Closing, Punctuation, Inner, Style, InScript}
 
 -- what an atom is to its neighbours
 pub data Kind : Type 0 where

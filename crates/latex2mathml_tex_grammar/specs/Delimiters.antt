@@ -2,7 +2,7 @@
 -- backslash; a character is its code point, and stands after its line as well.
 use Rattle.std.specs.Prelude.{ℕ, ◌==◌, List, [], ◌∷◌, Option, Some, None, codes, if◌then◌else◌}
 use Rattle.std.specs.Str.{byte, bytes_eq, encode_utf8_all}
-use Rattle.latex2mathml_tex_grammar.specs.Units.{Piece, Space, Open, Close, Command, Character}
+use Rattle.latex2mathml_tex_grammar.specs.Units.{Piece, Command, Character}
 
 -- the commands that are delimiters
 unfoldable pub delimiter_commands : List (List ℕ × ℕ)

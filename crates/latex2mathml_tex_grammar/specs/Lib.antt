@@ -7,6 +7,7 @@ pub mod Cutting
 pub mod Delimiters
 pub mod Element
 pub mod Examples
+pub mod Formulas
 pub mod Laws
 pub mod Makes
 pub mod Meaning

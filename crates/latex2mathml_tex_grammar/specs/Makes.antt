@@ -1,10 +1,10 @@
 -- The atoms of each construct.
 use Rattle.std.specs.Prelude.{ℕ, zero, suc, ◌==◌, ◌||◌, ℤ, Bool, true, false, List, [], ◌∷◌, ◌++◌, map, Option, Some, None, codes, if◌then◌else◌}
-use Rattle.std.specs.{Str.byte, Str.encode_utf8_all, List.list_all}
-use Rattle.latex2mathml_tex_grammar.specs.{Alphabets.in_alphabet, Atoms.Atom, Atoms.Kind, Atoms.SignOf, Atoms.PlusOrMinus, Atoms.Plain, Atoms.Letters, Atoms.FunctionWord, Atoms.Blank, Atoms.Divider, Atoms.atom, Atoms.elements_of, Atoms.row_of, Atoms.any_high, Atoms.with_attributes}
-use Rattle.latex2mathml_tex_grammar.specs.Element.{Tag, Mi, Mn, Mo, Mspace, Mrow, Msub, Msup, Msubsup, Munder, Mover, Munderover, Mfrac, Msqrt, Mroot, Mstyle, Attribute, VariantNormal, StretchyFalse, StretchyTrue, FormPrefix, FormPostfix, NoSpaceBefore, NoSpaceAfter, SomeSpaceBefore, SomeSpaceAfter, Separator, Fence, Symmetric, SizeAtLeast, SizeAtMost, AccentAbove, AccentBelow, DisplayStyleTrue, DisplayStyleFalse, ScriptLevelZero, NoThickness, LimitsStay, WidthOf, Element, leaf, node, children, row}
+use Rattle.std.specs.{Str.encode_utf8_all}
+use Rattle.latex2mathml_tex_grammar.specs.{Alphabets.in_alphabet, Atoms.Atom, Atoms.Kind, Atoms.SignOf, Atoms.PlusOrMinus, Atoms.Plain, Atoms.Letters, Atoms.FunctionWord, Atoms.Blank, Atoms.Divider, Atoms.atom, Atoms.elements_of, Atoms.row_of, Atoms.any_high}
+use Rattle.latex2mathml_tex_grammar.specs.Element.{Mi, Mn, Mo, Mspace, Mrow, Msub, Msup, Msubsup, Munder, Mover, Munderover, Mfrac, Msqrt, Mroot, Mstyle, Attribute, VariantNormal, StretchyFalse, StretchyTrue, FormPrefix, FormPostfix, NoSpaceBefore, NoSpaceAfter, SomeSpaceBefore, SomeSpaceAfter, Separator, Fence, Symmetric, SizeAtLeast, SizeAtMost, AccentAbove, AccentBelow, DisplayStyleTrue, DisplayStyleFalse, ScriptLevelZero, NoThickness, LimitsStay, WidthOf, Element, leaf, node, children, row}
 use Rattle.latex2mathml_tex_grammar.specs.Meaning.{Side, Above, Below, Width, Stretching, Rigid, FractionRule, Bar, NoBar, Size, LimitPlace, Beside, ByStyle, Movable, Stacked}
-use Rattle.latex2mathml_tex_grammar.specs.Symbols.{Class, Ordinary, Operator, Binary, Relation, Opening, Closing, Punctuation, Inner, Style, InDisplay, InText, InScript, Alphabet, Upright, Italic, Symbol, Letter, UprightLetter, Sign, BigOperator, Integral}
+use Rattle.latex2mathml_tex_grammar.specs.Symbols.{Class, Ordinary, Operator, Binary, Relation, Opening, Closing, Punctuation, Inner, Style, InDisplay, InScript, Alphabet, Upright, Symbol, Letter, UprightLetter, Sign, BigOperator, Integral}
 
 -- an atom, and where its limits stand
 pub record Core : Type 0 where

@@ -1,7 +1,7 @@
 -- What stands next among units, where white space is nothing.
 use Rattle.std.specs.Prelude.{ℕ, Bool, true, false, List, [], ◌∷◌, ◌++◌, Option, Some, None, if◌then◌else◌}
 use Rattle.latex2mathml_tex_grammar.specs.{Refusal.Kind, Refusal.Refusal, Refusal.refusal_at, Rules.a_digit}
-use Rattle.latex2mathml_tex_grammar.specs.Units.{Piece, Space, Unit, Units, Next, End, Stop}
+use Rattle.latex2mathml_tex_grammar.specs.Units.{Piece, Space, Units, Next, End, Stop}
 
 abbrev pub is_space_piece : Piece → Bool
 is_space_piece Space = true

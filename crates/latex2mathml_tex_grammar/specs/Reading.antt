@@ -6,10 +6,10 @@ use Rattle.latex2mathml_tex_grammar.specs.Makes.{Core, core, number, divider, Sc
 use Rattle.latex2mathml_tex_grammar.specs.{Meaning.Beside, Next.past_space, Next.next_are, Next.digits_next, Next.refusal_here}
 use Rattle.latex2mathml_tex_grammar.specs.Refusal.{Kind, MissingArgument, UnclosedBrace, MissingDelimiter, Refusal, refusal_at}
 use Rattle.latex2mathml_tex_grammar.specs.Rules.{Context, in_context, styled, Ending, InBraces, InDollars, Rule, gives, refuses, reads_operand, reads_core, reads_atoms, reads_words, takes_if, takes_digits, takes_delimiter, rule}
-use Rattle.latex2mathml_tex_grammar.specs.Starts.{AtomStart, DividerStart, ScriptStart, RuleStart, OperandStart, NoStart, GroupStart, DigitStart, OtherStart, atom_start, operand_start, mark_of, Step, GoesOn, TakesOperand, Twice, step_of_mark, step_next, empty_base, ends, unended, is_close}
+use Rattle.latex2mathml_tex_grammar.specs.Starts.{DividerStart, ScriptStart, RuleStart, NoStart, GroupStart, DigitStart, OtherStart, atom_start, operand_start, mark_of, GoesOn, TakesOperand, Twice, step_of_mark, step_next, empty_base, ends, unended, is_close}
 use Rattle.latex2mathml_tex_grammar.specs.Symbols.{InText, InScript, Alphabet}
 use Rattle.latex2mathml_tex_grammar.specs.Units.{Piece, Unit, Units, Next, End, Stop}
-use Rattle.latex2mathml_tex_grammar.specs.Words.{Word, Formula, WordRule, IsWord, BeginsGroup, EndsGroup, BeginsFormula, TakesWords, NoWord, word_rule}
+use Rattle.latex2mathml_tex_grammar.specs.Words.{Word, Formula, IsWord, BeginsGroup, EndsGroup, BeginsFormula, TakesWords, NoWord, word_rule}
 
 -- what was read, with the units that are left, or the refusal
 pub data Outcome (A : Type 0) : Type 0 where

@@ -3,10 +3,10 @@
 use Rattle.std.specs.Prelude.{ℕ, pos, ◌==◌, ◌||◌, Bool, true, false, List, [], ◌∷◌, ◌++◌, codes, Option, Some, None, if◌then◌else◌}
 use Rattle.std.specs.{Char.is_ascii_alphabetic, Char.is_ascii_digit, Str.byte, Str.bytes_eq}
 use Rattle.latex2mathml_tex_grammar.specs.{Atoms.Atom, Atoms.Plain, Atoms.atom, Atoms.row_of, Commands.meaning_of, Commands.symbol_of, Delimiters.negated_of}
-use Rattle.latex2mathml_tex_grammar.specs.Makes.{Core, core, letter, upright_letter, number, sign, relation, symbol, function_name, spacing, group, classed, operator_name, class_of_base, accent, brace, stack, fraction, square_root, root, between_delimiters, sized, struck, text}
+use Rattle.latex2mathml_tex_grammar.specs.Makes.{Core, core, letter, upright_letter, number, relation, symbol, function_name, spacing, group, classed, operator_name, class_of_base, accent, brace, stack, fraction, square_root, root, between_delimiters, sized, struck}
 use Rattle.latex2mathml_tex_grammar.specs.Element.{Element}
 use Rattle.latex2mathml_tex_grammar.specs.Meaning.{Meaning, Shows, FunctionName, Spacing, Styled, Words, Fraction, Root, Accent, Brace, Stack, StackedRelation, OperatorName, Negation, Slash, Sized, Left, Middle, Right, Limits, NoLimits, Classed, Above, Beside, ByStyle, FractionRule}
-use Rattle.latex2mathml_tex_grammar.specs.Refusal.{Kind, UnknownCommand, MissingArgument, UnopenedBrace, RightWithoutLeft, MiddleWithoutLeft, LimitsWithoutOperator, NothingToNegate, OutsideTable, MisplacedCharacter, Refusal, refusal_at}
+use Rattle.latex2mathml_tex_grammar.specs.Refusal.{UnknownCommand, MissingArgument, UnopenedBrace, RightWithoutLeft, MiddleWithoutLeft, LimitsWithoutOperator, NothingToNegate, OutsideTable, MisplacedCharacter, Refusal, refusal_at}
 use Rattle.latex2mathml_tex_grammar.specs.Symbols.{Style, InScript, smaller, Alphabet, Upright, Ordinary, Relation, Symbol}
 use Rattle.latex2mathml_tex_grammar.specs.Units.{Piece, Space, Open, Close, Command, Character}
 use Rattle.latex2mathml_tex_grammar.specs.Words.{Word, words_atom}

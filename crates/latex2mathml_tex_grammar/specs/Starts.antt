@@ -1,12 +1,12 @@
 -- How atoms, operands and scripts begin and end: what each unit is to them.
-use Rattle.std.specs.Prelude.{ℕ, suc, ◌==◌, ◌||◌, Bool, true, false, List, [], ◌∷◌, codes, Option, Some, None, if◌then◌else◌}
+use Rattle.std.specs.Prelude.{ℕ, suc, ◌==◌, ◌||◌, Bool, true, false, List, [], codes, Option, Some, None, if◌then◌else◌}
 use Rattle.std.specs.{Str.byte, Str.bytes_eq}
 use Rattle.latex2mathml_tex_grammar.specs.{Atoms.Atom, Atoms.Plain, Atoms.atom, Atoms.row_of, Makes.Scripts, Rules.a_digit}
 use Rattle.latex2mathml_tex_grammar.specs.Meaning.{LimitPlace, Beside, Stacked}
 use Rattle.latex2mathml_tex_grammar.specs.Refusal.{Kind, UnclosedBrace, UnclosedBracket, UnclosedDollar, LeftWithoutRight, SecondSubscript, SecondSuperscript, Refusal, refusal_at}
 use Rattle.latex2mathml_tex_grammar.specs.Rules.{Ending, WholeText, InBraces, InBrackets, InDollars, InDelimiters}
 use Rattle.latex2mathml_tex_grammar.specs.Symbols.{InText, Ordinary}
-use Rattle.latex2mathml_tex_grammar.specs.Units.{Piece, Space, Open, Close, Command, Character, Unit, Units, Next, End, Stop}
+use Rattle.latex2mathml_tex_grammar.specs.Units.{Piece, Open, Close, Command, Character, Units, Next, End, Stop}
 
 -- What ends atoms side by side
 
