@@ -1,0 +1,7 @@
+//! LaTeX as authors write it, read to elements of MathML.
+//!
+//! The crate `latex2mathml_tex_grammar` defines what each formula means. What is here so far takes the units of a text.
+#![tactic(auto)]
+
+mod reader;
+pub mod unit;
