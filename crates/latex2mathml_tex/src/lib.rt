@@ -3,5 +3,7 @@
 //! The crate `latex2mathml_tex_grammar` defines what each formula means. What is here so far takes the units of a text.
 #![tactic(auto)]
 
+pub mod commands;
+pub mod meaning;
 mod reader;
 pub mod unit;
