@@ -1,3 +1,4 @@
+pub mod Errors
 pub mod Left
 pub mod Meanings
 pub mod Runs
