@@ -1,0 +1,33 @@
+-- The refusals that errors report.
+use Rattle.std.specs.Prelude.{Option, Some, None, option_map, string_bytes}
+use Rattle.latex2mathml_tex_grammar.specs.Refusal as refusal
+use Rattle.latex2mathml_tex.specs.declared.error.{TexError.TexError, TexErrorKind.TexErrorKind}
+use Rattle.latex2mathml_tex.specs.declared.error.TexErrorKind.TheVariants as kind
+
+-- the kind of refusal; running out of memory is none
+abbrev pub kind_of_error : TexErrorKind → Option refusal.Kind
+kind_of_error kind.LoneBackslash = Some refusal.LoneBackslash
+kind_of_error (kind.ForbiddenCharacter c) = Some (refusal.ForbiddenCharacter c)
+kind_of_error (kind.UnknownCommand name) = Some (refusal.UnknownCommand (string_bytes name))
+kind_of_error kind.MissingArgument = Some refusal.MissingArgument
+kind_of_error kind.UnclosedBrace = Some refusal.UnclosedBrace
+kind_of_error kind.UnclosedBracket = Some refusal.UnclosedBracket
+kind_of_error kind.UnclosedDollar = Some refusal.UnclosedDollar
+kind_of_error kind.LeftWithoutRight = Some refusal.LeftWithoutRight
+kind_of_error kind.UnopenedBrace = Some refusal.UnopenedBrace
+kind_of_error kind.RightWithoutLeft = Some refusal.RightWithoutLeft
+kind_of_error kind.MiddleWithoutLeft = Some refusal.MiddleWithoutLeft
+kind_of_error kind.LimitsWithoutOperator = Some refusal.LimitsWithoutOperator
+kind_of_error kind.SecondSubscript = Some refusal.SecondSubscript
+kind_of_error kind.SecondSuperscript = Some refusal.SecondSuperscript
+kind_of_error kind.MissingDelimiter = Some refusal.MissingDelimiter
+kind_of_error kind.NothingToNegate = Some refusal.NothingToNegate
+kind_of_error kind.OutsideTable = Some refusal.OutsideTable
+kind_of_error (kind.MisplacedCharacter c) = Some (refusal.MisplacedCharacter c)
+kind_of_error (kind.CommandInWords name) = Some (refusal.CommandInWords (string_bytes name))
+kind_of_error (kind.CharacterInWords c) = Some (refusal.CharacterInWords c)
+kind_of_error kind.OutOfMemory = None
+
+-- the refusal that an error reports
+abbrev pub refusal_of : TexError → Option refusal.Refusal
+refusal_of error = option_map (λ k. refusal.refusal_at k error.place) (kind_of_error error.kind)

@@ -1,0 +1,5 @@
+pub mod Errors
+pub mod Left
+pub mod Meanings
+pub mod Runs
+pub mod Taking

@@ -1,0 +1,106 @@
+-- The meanings of the code's table, as the definitions have them.
+use Rattle.std.specs.Prelude.{ℕ, List, Option, Some, None, option_map}
+use Rattle.latex2mathml_tex_grammar.specs.Meaning as meant
+use Rattle.latex2mathml_tex_grammar.specs.Symbols as symbol
+use Rattle.latex2mathml_tex.specs.declared.meaning.Class.{Class}
+use Rattle.latex2mathml_tex.specs.declared.meaning.Class.TheVariants as code_class
+use Rattle.latex2mathml_tex.specs.declared.meaning.Style.{Style}
+use Rattle.latex2mathml_tex.specs.declared.meaning.Style.TheVariants as code_style
+use Rattle.latex2mathml_tex.specs.declared.meaning.Alphabet.{Alphabet}
+use Rattle.latex2mathml_tex.specs.declared.meaning.Alphabet.TheVariants as code_alphabet
+use Rattle.latex2mathml_tex.specs.declared.meaning.Symbol.{Symbol}
+use Rattle.latex2mathml_tex.specs.declared.meaning.Symbol.TheVariants as code_symbol
+use Rattle.latex2mathml_tex.specs.declared.meaning.Side.{Side}
+use Rattle.latex2mathml_tex.specs.declared.meaning.Side.TheVariants as code_side
+use Rattle.latex2mathml_tex.specs.declared.meaning.Width.{Width}
+use Rattle.latex2mathml_tex.specs.declared.meaning.Width.TheVariants as code_width
+use Rattle.latex2mathml_tex.specs.declared.meaning.FractionRule.{FractionRule}
+use Rattle.latex2mathml_tex.specs.declared.meaning.FractionRule.TheVariants as code_fractionrule
+use Rattle.latex2mathml_tex.specs.declared.meaning.Size.{Size}
+use Rattle.latex2mathml_tex.specs.declared.meaning.Size.TheVariants as code_size
+use Rattle.latex2mathml_tex.specs.declared.meaning.LimitPlace.{LimitPlace}
+use Rattle.latex2mathml_tex.specs.declared.meaning.LimitPlace.TheVariants as code_limitplace
+use Rattle.latex2mathml_tex.specs.declared.meaning.Meaning.{Meaning}
+use Rattle.latex2mathml_tex.specs.declared.meaning.Meaning.TheVariants as code_meaning
+use Rattle.latex2mathml_tex.specs.declared.meaning.Entry.{Entry}
+
+abbrev pub class_of : Class → symbol.Class
+class_of code_class.Ordinary = symbol.Ordinary
+class_of code_class.Operator = symbol.Operator
+class_of code_class.Binary = symbol.Binary
+class_of code_class.Relation = symbol.Relation
+class_of code_class.Opening = symbol.Opening
+class_of code_class.Closing = symbol.Closing
+class_of code_class.Punctuation = symbol.Punctuation
+class_of code_class.Inner = symbol.Inner
+
+abbrev pub style_of : Style → symbol.Style
+style_of code_style.InDisplay = symbol.InDisplay
+style_of code_style.InText = symbol.InText
+style_of code_style.InScript = symbol.InScript
+
+abbrev pub alphabet_of : Alphabet → symbol.Alphabet
+alphabet_of code_alphabet.Upright = symbol.Upright
+alphabet_of code_alphabet.Italic = symbol.Italic
+alphabet_of code_alphabet.Bold = symbol.Bold
+alphabet_of code_alphabet.BoldItalic = symbol.BoldItalic
+alphabet_of code_alphabet.DoubleStruck = symbol.DoubleStruck
+alphabet_of code_alphabet.Fraktur = symbol.Fraktur
+alphabet_of code_alphabet.Calligraphic = symbol.Calligraphic
+alphabet_of code_alphabet.SansSerif = symbol.SansSerif
+alphabet_of code_alphabet.Monospace = symbol.Monospace
+
+abbrev pub symbol_of : Symbol → symbol.Symbol
+symbol_of (code_symbol.Letter x) = symbol.Letter x
+symbol_of (code_symbol.UprightLetter x) = symbol.UprightLetter x
+symbol_of (code_symbol.Sign x y) = symbol.Sign (class_of x) y
+symbol_of (code_symbol.BigOperator x) = symbol.BigOperator x
+symbol_of (code_symbol.Integral x) = symbol.Integral x
+
+abbrev pub side_of : Side → meant.Side
+side_of code_side.Above = meant.Above
+side_of code_side.Below = meant.Below
+
+abbrev pub width_of : Width → meant.Width
+width_of code_width.Stretching = meant.Stretching
+width_of code_width.Rigid = meant.Rigid
+
+abbrev pub fraction_rule_of : FractionRule → meant.FractionRule
+fraction_rule_of code_fractionrule.Bar = meant.Bar
+fraction_rule_of code_fractionrule.NoBar = meant.NoBar
+
+abbrev pub size_of : Size → meant.Size
+size_of code_size.Big = meant.Big
+size_of code_size.Bigger = meant.Bigger
+size_of code_size.VeryBig = meant.VeryBig
+size_of code_size.Biggest = meant.Biggest
+
+abbrev pub limit_place_of : LimitPlace → meant.LimitPlace
+limit_place_of code_limitplace.Beside = meant.Beside
+limit_place_of code_limitplace.ByStyle = meant.ByStyle
+
+abbrev pub meaning_of : Meaning → meant.Meaning
+meaning_of (code_meaning.Shows x) = meant.Shows (symbol_of x)
+meaning_of (code_meaning.FunctionName x y) = meant.FunctionName (limit_place_of x) y.now
+meaning_of (code_meaning.Spacing x) = meant.Spacing x
+meaning_of (code_meaning.Styled x) = meant.Styled (alphabet_of x)
+meaning_of (code_meaning.Words x) = meant.Words (option_map alphabet_of x)
+meaning_of (code_meaning.Fraction x y) = meant.Fraction (fraction_rule_of x) (option_map style_of y)
+meaning_of code_meaning.Root = meant.Root
+meaning_of (code_meaning.Accent x y z) = meant.Accent (side_of x) y (width_of z)
+meaning_of (code_meaning.Brace x y) = meant.Brace (side_of x) y
+meaning_of (code_meaning.Stack x) = meant.Stack (side_of x)
+meaning_of code_meaning.StackedRelation = meant.StackedRelation
+meaning_of code_meaning.OperatorName = meant.OperatorName
+meaning_of code_meaning.Negation = meant.Negation
+meaning_of code_meaning.Slash = meant.Slash
+meaning_of (code_meaning.Sized x y) = meant.Sized (size_of x) (class_of y)
+meaning_of code_meaning.Left = meant.Left
+meaning_of code_meaning.Middle = meant.Middle
+meaning_of code_meaning.Right = meant.Right
+meaning_of code_meaning.Limits = meant.Limits
+meaning_of code_meaning.NoLimits = meant.NoLimits
+meaning_of (code_meaning.Classed x) = meant.Classed (class_of x)
+
+abbrev pub entry_of : Entry → List ℕ × meant.Meaning
+entry_of entry = (entry.name.now, meaning_of entry.meaning)

@@ -1,0 +1,135 @@
+//! What the names of commands mean.
+
+/// The class of an atom.
+#[derive(Debug, Clone, Copy)]
+pub enum Class {
+    Ordinary,
+    Operator,
+    Binary,
+    Relation,
+    Opening,
+    Closing,
+    Punctuation,
+    Inner,
+}
+
+/// The style of a formula.
+#[derive(Debug, Clone, Copy)]
+pub enum Style {
+    InDisplay,
+    InText,
+    InScript,
+}
+
+/// An alphabet for letters and digits.
+#[derive(Debug, Clone, Copy)]
+pub enum Alphabet {
+    Upright,
+    Italic,
+    Bold,
+    BoldItalic,
+    DoubleStruck,
+    Fraktur,
+    Calligraphic,
+    SansSerif,
+    Monospace,
+}
+
+/// What a character is.
+#[derive(Debug, Clone, Copy)]
+pub enum Symbol {
+    /// A letter that is italic by itself.
+    Letter(char),
+    /// A letter that is upright by itself.
+    UprightLetter(char),
+    /// A sign of this class.
+    Sign(Class, char),
+    /// An operator whose limits the browser moves.
+    BigOperator(char),
+    /// An operator whose limits stand beside it.
+    Integral(char),
+}
+
+/// On which side of its base a mark stands.
+#[derive(Debug, Clone, Copy)]
+pub enum Side {
+    Above,
+    Below,
+}
+
+/// Whether an accent is as wide as its base.
+#[derive(Debug, Clone, Copy)]
+pub enum Width {
+    Stretching,
+    Rigid,
+}
+
+/// Whether a fraction has its bar, or parentheses around it.
+#[derive(Debug, Clone, Copy)]
+pub enum FractionRule {
+    Bar,
+    NoBar,
+}
+
+/// The size of a delimiter.
+#[derive(Debug, Clone, Copy)]
+pub enum Size {
+    Big,
+    Bigger,
+    VeryBig,
+    Biggest,
+}
+
+/// Where the limits of a function's name stand.
+#[derive(Debug, Clone, Copy)]
+pub enum LimitPlace {
+    Beside,
+    ByStyle,
+}
+
+/// What a command means.
+#[derive(Debug, Clone, Copy)]
+pub enum Meaning {
+    /// A character.
+    Shows(Symbol),
+    /// The name of a function.
+    FunctionName(LimitPlace, &'static str),
+    /// A space, in eighteenths of an em.
+    Spacing(i8),
+    /// Its operand in an alphabet.
+    Styled(Alphabet),
+    /// Words, which may have an alphabet.
+    Words(Option<Alphabet>),
+    /// A fraction, which may have a style of its own.
+    Fraction(FractionRule, Option<Style>),
+    Root,
+    /// A mark on one operand.
+    Accent(Side, char, Width),
+    /// A brace, which takes scripts as labels.
+    Brace(Side, char),
+    /// A first operand above or below the second.
+    Stack(Side),
+    /// A first operand above the second, which both are a relation.
+    StackedRelation,
+    OperatorName,
+    /// A stroke through the relation that follows.
+    Negation,
+    /// A stroke through an operand.
+    Slash,
+    /// A delimiter of this size and class.
+    Sized(Size, Class),
+    Left,
+    Middle,
+    Right,
+    Limits,
+    NoLimits,
+    /// Its operand as an atom of this class.
+    Classed(Class),
+}
+
+/// The name of a command, without its backslash, and what it means.
+#[derive(Debug, Clone, Copy)]
+pub struct Entry {
+    pub name: &'static str,
+    pub meaning: Meaning,
+}

@@ -1,0 +1,292 @@
+-- Units have an outcome, whatever they are.
+use Rattle.std.proofs.Common.{ℕ, zero, suc, ◌-◌, ◌<◌, ◌≤◌, ◌≡◌, Bool, true, false, inl, inr, List, [], ◌∷◌, ◌++◌, Option, Some, None, refl, ap, ◌∙◌, arith, codes}
+use Rattle.std.proofs.lemmas.Bool.{cases_Bool}
+use Rattle.latex2mathml_tex_grammar.specs.{Atoms.Atom, Delimiters.delimiter_of, Laws.HasOneOutcome, Makes.Core, Makes.core, Makes.divider, Makes.Scripts, Makes.no_scripts, Meaning.Beside}
+use Rattle.latex2mathml_tex_grammar.specs.Next.{is_space_piece, past_space, next_are, digits_next, digits_here}
+use Rattle.latex2mathml_tex_grammar.specs.Reading.{Outcome, Read, Refused, ReadsRule, rule_gives, rule_refuses, operand_read, operand_refused, core_read, core_refused, core_missing, core_stopped, atoms_read, atoms_refused, words_read, words_refused, units_taken, units_missing, digits_taken, delimiter_taken, delimiter_missing, ReadsOperand, group_operand, digit_operand, other_operand, other_refused, no_operand, operand_at_end, operand_stopped, ReadsScripts, scripts_end, mark_taken, script_read, script_refused, second_script, ReadsAtom, divider_read, divider_refused, on_empty_row, base_read, base_refused, ReadsAtoms, text_ends, never_ended, atoms_stopped, atoms_end, atom_read, later_refused, atom_refused, ReadsWord, word_stands, group_of_words, formula_read, formula_refused, words_in_alphabet, no_word, word_missing, word_at_end, word_stopped, ReadsWords, words_end, words_never_ended, words_stopped, word_read, later_word_refused, word_refused}
+use Rattle.latex2mathml_tex_grammar.specs.Refusal.{Refusal}
+use Rattle.latex2mathml_tex_grammar.specs.Rules.{Context, in_context, styled, Ending, WholeText, InBraces, InBrackets, InDollars, InDelimiters, Rule, gives, refuses, reads_operand, reads_core, reads_atoms, reads_words, takes_if, takes_digits, takes_delimiter, rule, a_digit}
+use Rattle.latex2mathml_tex_grammar.specs.Starts.{Mark, start_of_mark, is_command, step_of, AtomStart, DividerStart, ScriptStart, RuleStart, OperandStart, NoStart, GroupStart, DigitStart, OtherStart, atom_start, operand_start, mark_of, Step, GoesOn, TakesOperand, Twice, step_of_mark, step_next, empty_base, ends, unended, is_close}
+use Rattle.latex2mathml_tex_grammar.specs.Symbols.{InText, InScript, Alphabet}
+use Rattle.latex2mathml_tex_grammar.specs.Units.{Piece, Space, Open, Close, Command, Character, Unit, Units, Next, End, Stop}
+use Rattle.latex2mathml_tex_grammar.specs.Words.{Word, Formula, WordRule, IsWord, BeginsGroup, EndsGroup, BeginsFormula, TakesWords, NoWord, word_rule}
+use Rattle.latex2mathml_tex_grammar.proofs.Unique.{one_atoms}
+
+-- how many units there are
+abbrev size : Units → ℕ
+size (Next u us) = suc (size us)
+size (End place) = 0
+size (Stop refusal) = 0
+
+-- there is an outcome, which leaves at most k units
+data Comes (A : Type 0) (reads : Outcome A → Type 0) (k : ℕ) : Type 0 where
+  comes_to : (x : A) (m : Units) → size m ≤ k → reads (Read x m) → Comes A reads k
+  is_refused : (r : Refusal) → reads (Refused r) → Comes A reads k
+
+-- the same outcome, of something else
+with_outcome : {A : Type 0} {P Q : Outcome A → Type 0} {j k : ℕ} → Comes A P j → j ≤ k → ((o : Outcome A) → P o → Q o) → Comes A Q k
+with_outcome (comes_to x m fits d) h f = comes_to x m (omega arith) (f (Read x m) d)
+with_outcome (is_refused r d) h f = is_refused r (f (Refused r) d)
+
+-- a part that has an outcome, and then what follows it
+after : {A B : Type 0} {P : Outcome A → Type 0} {Q : Outcome B → Type 0} {j k : ℕ} (R : A → Units → Outcome B → Type 0) → Comes A P j → j ≤ k → ((x : A) (m : Units) → size m ≤ j → Comes B (R x m) (size m)) → ((x : A) (m : Units) (o : Outcome B) → P (Read x m) → R x m o → Q o) → ((r : Refusal) → P (Refused r) → Q (Refused r)) → Comes B Q k
+after R (comes_to x m fits d) h follow read refused = with_outcome (follow x m fits) (omega arith) (λ o. read x m o d)
+after R (is_refused r d) h follow read refused = is_refused r (refused r d)
+
+-- What stands next
+
+data Sees (l : Units) : Type 0 where
+  sees_unit : (u : Unit) (m : Units) → past_space l ≡ Next u m → size m < size l → Sees l
+  sees_end : (at : ℕ) → past_space l ≡ End at → Sees l
+  sees_stop : (r : Refusal) → past_space l ≡ Stop r → Sees l
+
+seen_later : (u : Unit) (us : Units) → past_space (Next u us) ≡ past_space us → Sees us → Sees (Next u us)
+seen_later u us same (sees_unit v m e h) = sees_unit v m (same ∙ e) (omega arith)
+seen_later u us same (sees_end at e) = sees_end at (same ∙ e)
+seen_later u us same (sees_stop r e) = sees_stop r (same ∙ e)
+
+sees : (l : Units) → Sees l
+sees (Next u us) = elim (cases_Bool (is_space_piece u.piece)) [
+  | inl h ↦ seen_later u us (rw h refl) (sees us)
+  | inr h ↦ sees_unit u us (rw h refl) (omega arith)
+]
+sees (End place) = sees_end place refl
+sees (Stop r) = sees_stop r refl
+
+size-past_space : (l : Units) → size (past_space l) ≤ size l
+size-past_space (Next u us) = elim (cases_Bool (is_space_piece u.piece)) [
+  | inl h ↦ (let less = size-past_space us in rw h (omega arith))
+  | inr h ↦ rw h (omega arith)
+]
+size-past_space (End place) = omega arith
+size-past_space (Stop r) = omega arith
+
+size-digits_next : (l : Units) → size (digits_next l).1 ≤ size l
+size-digits_next (Next u us) = digits_shorten (is_space_piece u.piece) (a_digit u.piece) u us (digits_next us) (size-digits_next us)
+  where
+    digits_shorten : (space : Bool) (digit : Option (List ℕ)) (u : Unit) (us : Units) (behind : List ℕ × Units) → size behind.1 ≤ size us → size (digits_here space digit (Next u us) behind).1 ≤ size (Next u us)
+    digits_shorten true digit u us behind h = omega arith
+    digits_shorten false (Some digit) u us behind h = omega arith
+    digits_shorten false None u us behind h = omega arith
+size-digits_next (End place) = omega arith
+size-digits_next (Stop r) = omega arith
+
+-- whether units stand next that pass these tests
+data Finds (tests : List (Piece → Option (List ℕ))) (l : Units) : Type 0 where
+  finds : (texts : List ℕ) (m : Units) → next_are tests l ≡ Some (texts, m) → size m ≤ size l → Finds tests l
+  finds_none : next_are tests l ≡ None → Finds tests l
+
+with_first : {test : Piece → Option (List ℕ)} {tests : List (Piece → Option (List ℕ))} {l m : Units} {u : Unit} → past_space l ≡ Next u m → size m < size l → (found : Option (List ℕ)) → test u.piece ≡ found → Finds tests m → Finds (test ∷ tests) l
+with_first p h (Some first) e (finds texts n f less) = finds (first ++ texts) n (rw (p, e, f) refl) (omega arith)
+with_first p h (Some first) e (finds_none f) = finds_none (rw (p, e, f) refl)
+with_first p h None e more = finds_none (rw (p, e) refl)
+
+find_next : (tests : List (Piece → Option (List ℕ))) (l : Units) → Finds tests l
+find_next [] l = finds [] l refl (omega arith)
+find_next (test ∷ tests) l = elim (sees l) [
+  | sees_unit u m p h ↦ with_first p h (test u.piece) refl (find_next tests m)
+  | sees_end at p ↦ finds_none (rw p refl)
+  | sees_stop r p ↦ finds_none (rw p refl)
+]
+
+-- there is an outcome for fewer than k units
+record HasOutcomes (k : ℕ) : Type 0 where
+  of_rule : (r : Rule) (l : Units) → size l < k → Comes Core (ReadsRule r l) (size l)
+  of_operand : (place : ℕ) (c : Context) (l : Units) → size l < k → Comes (List Atom) (ReadsOperand place c l) (size l)
+  of_scripts : (c : Context) (base : Atom) (scripts : Scripts) (l : Units) → size l < k → Comes Atom (ReadsScripts c base scripts l) (size l)
+  of_atoms : (ending : Ending) (c : Context) (l : Units) → size l < k → Comes (List Atom) (ReadsAtoms ending c l) (size l)
+  -- what is a part of words is taken
+  of_word : (place : ℕ) (a : Option Alphabet) (l : Units) → size l < k → Comes (List Word) (ReadsWord place a l) (size l - 1)
+  of_words : (place : ℕ) (a : Option Alphabet) (l : Units) → size l < k → Comes (List Word) (ReadsWords place a l) (size l)
+
+-- With one unit more
+
+begun_operand : (k : ℕ) → HasOutcomes k → (place : ℕ) (c : Context) (l m : Units) (u : Unit) → past_space l ≡ Next u m → size m < size l → size l < suc k → (start : OperandStart) → operand_start u.piece ≡ start → Comes (List Atom) (ReadsOperand place c l) (size l)
+begun_operand k has place c l m u p less h NoStart s = is_refused _ (no_operand p s)
+begun_operand k has place c l m u p less h GroupStart s = with_outcome (has.of_atoms (InBraces u.place) c m (omega arith)) (omega arith) (λ o. group_operand p s)
+begun_operand k has place c l m u p less h (DigitStart digit) s = comes_to _ m (omega arith) (digit_operand p s)
+begun_operand k has place c l m u p less h OtherStart s = elim (has.of_rule (rule u.place c u.piece) m (omega arith)) [
+  | comes_to x n fits d ↦ comes_to (x.atom ∷ []) n (omega arith) (other_operand p s d)
+  | is_refused r d ↦ is_refused r (other_refused p s d)
+]
+
+operand_total : (k : ℕ) → HasOutcomes k → (place : ℕ) (c : Context) (l : Units) → size l < suc k → Comes (List Atom) (ReadsOperand place c l) (size l)
+operand_total k has place c l h = elim (sees l) [
+  | sees_unit u m p less ↦ begun_operand k has place c l m u p less h (operand_start u.piece) refl
+  | sees_end at p ↦ is_refused _ (operand_at_end p)
+  | sees_stop r p ↦ is_refused r (operand_stopped p)
+]
+
+-- a mark is taken
+stepped : (k : ℕ) → HasOutcomes k → (c : Context) (base : Atom) (scripts : Scripts) (l m : Units) (u : Unit) → past_space l ≡ Next u m → size m < k → (step : Step) → step_of_mark scripts (mark_of u.piece) ≡ Some step → Comes Atom (ReadsScripts c base scripts l) (size m)
+stepped k has c base scripts l m u p h (GoesOn more) s = with_outcome (has.of_scripts c base more m h) (omega arith) (λ o. mark_taken p s)
+stepped k has c base scripts l m u p h (TakesOperand f) s =
+    after (λ xs n. ReadsScripts c base (f xs) n) (has.of_operand u.place (styled c InScript) m h) (omega arith) (λ xs n fits. has.of_scripts c base (f xs) n (omega arith)) (λ xs n o. script_read p s) (λ r. script_refused p s)
+stepped k has c base scripts l m u p h (Twice kind) s = is_refused _ (second_script p s)
+
+marked : (k : ℕ) → HasOutcomes k → (c : Context) (base : Atom) (scripts : Scripts) (l m : Units) (u : Unit) → past_space l ≡ Next u m → size m < size l → size l < suc k → (step : Option Step) → step_of_mark scripts (mark_of u.piece) ≡ step → Comes Atom (ReadsScripts c base scripts l) (size l)
+marked k has c base scripts l m u p less h None s = comes_to _ l (omega arith) (scripts_end (ap (step_next scripts) p ∙ s))
+marked k has c base scripts l m u p less h (Some step) s = with_outcome (stepped k has c base scripts l m u p (omega arith) step s) (omega arith) (λ o d. d)
+
+scripts_total : (k : ℕ) → HasOutcomes k → (c : Context) (base : Atom) (scripts : Scripts) (l : Units) → size l < suc k → Comes Atom (ReadsScripts c base scripts l) (size l)
+scripts_total k has c base scripts l h = elim (sees l) [
+  | sees_unit u m p less ↦ marked k has c base scripts l m u p less h (step_of_mark scripts (mark_of u.piece)) refl
+  | sees_end at p ↦ comes_to _ l (omega arith) (scripts_end (ap (step_next scripts) p))
+  | sees_stop r p ↦ comes_to _ l (omega arith) (scripts_end (ap (step_next scripts) p))
+]
+
+-- what begins with a script begins with a mark, which is no white space
+
+has_mark : (mark : Option Mark) → start_of_mark mark ≡ ScriptStart → (found : Mark) × (mark ≡ Some found)
+has_mark None e = cc
+has_mark (Some mark) e = (mark, refl)
+
+script_mark : (ending : Ending) (piece : Piece) → atom_start ending piece ≡ ScriptStart → (found : Mark) × (mark_of piece ≡ Some found)
+script_mark (InDelimiters place) piece e = elim (cases_Bool (is_command (codes "middle") piece)) [
+  | inl h ↦ absurd (cc (rw h at e))
+  | inr h ↦ has_mark (mark_of piece) (rw h at e)
+]
+script_mark WholeText piece e = has_mark (mark_of piece) e
+script_mark (InBraces place) piece e = has_mark (mark_of piece) e
+script_mark (InBrackets place) piece e = has_mark (mark_of piece) e
+script_mark (InDollars place) piece e = has_mark (mark_of piece) e
+
+mark_no_space : (piece : Piece) (mark : Mark) → mark_of piece ≡ Some mark → is_space_piece piece ≡ false
+mark_no_space Space mark e = cc
+mark_no_space Open mark e = refl
+mark_no_space Close mark e = refl
+mark_no_space (Command name) mark e = refl
+mark_no_space (Character c) mark e = refl
+
+begun_atom : (k : ℕ) → HasOutcomes k → (ending : Ending) (c : Context) (u : Unit) (l : Units) → size l < k → (start : AtomStart) → atom_start ending u.piece ≡ start → Comes Atom (ReadsAtom ending c u l) (size l)
+begun_atom k has ending c u l h DividerStart s = elim (has.of_rule (takes_delimiter (λ sign_text. gives (core (divider sign_text)))) l h) [
+  | comes_to x n fits d ↦ comes_to x.atom n fits (divider_read s d)
+  | is_refused r d ↦ is_refused r (divider_refused s d)
+]
+begun_atom k has ending c u l h RuleStart s =
+    after (λ x n. ReadsScripts c x.atom (no_scripts x.limits) n) (has.of_rule (rule u.place c u.piece) l h) (omega arith) (λ x n fits. has.of_scripts c x.atom (no_scripts x.limits) n (omega arith)) (λ x n o. base_read s) (λ r. base_refused s)
+begun_atom k has ending c u l h ScriptStart s =
+    let (mark, e) = script_mark ending u.piece s in
+    let stays : past_space (Next u l) ≡ Next u l = rw (mark_no_space u.piece mark e) refl in
+    let step : step_of_mark (no_scripts Beside) (mark_of u.piece) ≡ Some (step_of (no_scripts Beside) None None mark) = rw e refl in
+    with_outcome (stepped k has c empty_base (no_scripts Beside) (Next u l) l u stays h _ step) (omega arith) (λ o. on_empty_row s)
+
+-- an atom that has an outcome, and then the atoms after it
+atom_total : (k : ℕ) → HasOutcomes k → (ending : Ending) (c : Context) (l m : Units) (u : Unit) → past_space l ≡ Next u m → size m < size l → size l < suc k → ends ending u.piece ≡ false → Comes (List Atom) (ReadsAtoms ending c l) (size l)
+atom_total k has ending c l m u p less h s = elim (begun_atom k has ending c u m (omega arith) (atom_start ending u.piece) refl) [
+  | is_refused r d ↦ is_refused r (atom_refused p s d)
+  | comes_to x n fits d ↦ elim (has.of_atoms ending c n (omega arith)) [
+    | comes_to xs rest fewer ds ↦ comes_to (x ∷ xs) rest (omega arith) (atom_read p s d ds)
+    | is_refused r ds ↦ is_refused r (later_refused p s d ds)
+  ]
+]
+
+ended_total : (ending : Ending) (c : Context) (l : Units) (at : ℕ) → past_space l ≡ End at → (refusal : Option Refusal) → unended ending ≡ refusal → Comes (List Atom) (ReadsAtoms ending c l) (size l)
+ended_total ending c l at p None e = comes_to [] (End at) (omega arith) (text_ends p e)
+ended_total ending c l at p (Some r) e = is_refused r (never_ended p e)
+
+atoms_total : (k : ℕ) → HasOutcomes k → (ending : Ending) (c : Context) (l : Units) → size l < suc k → Comes (List Atom) (ReadsAtoms ending c l) (size l)
+atoms_total k has ending c l h = elim (sees l) [
+  | sees_end at p ↦ ended_total ending c l at p (unended ending) refl
+  | sees_stop r p ↦ is_refused r (atoms_stopped p)
+  | sees_unit u m p less ↦ elim (cases_Bool (ends ending u.piece)) [
+    | inl s ↦ comes_to [] m (omega arith) (atoms_end p s)
+    | inr s ↦ atom_total k has ending c l m u p less h s
+  ]
+]
+
+begun_word : (k : ℕ) → HasOutcomes k → (place : ℕ) (a : Option Alphabet) (u : Unit) (l : Units) → size l < k → (r : WordRule) → word_rule a u.piece ≡ r → Comes (List Word) (ReadsWord place a (Next u l)) (size l)
+begun_word k has place a u l h (IsWord w) s = comes_to (w ∷ []) l (omega arith) (word_stands s)
+begun_word k has place a u l h BeginsGroup s = with_outcome (has.of_words u.place a l h) (omega arith) (λ o. group_of_words s)
+begun_word k has place a u l h EndsGroup s = is_refused _ (word_missing s)
+begun_word k has place a u l h BeginsFormula s = elim (has.of_atoms (InDollars u.place) (in_context InText None) l h) [
+  | comes_to xs m fits d ↦ comes_to (Formula xs ∷ []) m fits (formula_read s d)
+  | is_refused r d ↦ is_refused r (formula_refused s d)
+]
+begun_word k has place a u l h (TakesWords b) s =
+    let less = size-past_space l in with_outcome (has.of_word u.place b (past_space l) (omega arith)) (omega arith) (λ o. words_in_alphabet s)
+begun_word k has place a u l h (NoWord kind) s = is_refused _ (no_word s)
+
+word_total : (k : ℕ) → HasOutcomes k → (place : ℕ) (a : Option Alphabet) (l : Units) → size l < suc k → Comes (List Word) (ReadsWord place a l) (size l - 1)
+word_total k has place a (Next u l) h = with_outcome (begun_word k has place a u l (omega arith) (word_rule a u.piece) refl) (omega arith) (λ o d. d)
+word_total k has place a (End at) h = is_refused _ word_at_end
+word_total k has place a (Stop r) h = is_refused r word_stopped
+
+-- a part of words that has an outcome, and then the words after it
+word_after : (k : ℕ) → HasOutcomes k → (place : ℕ) (a : Option Alphabet) (u : Unit) (l : Units) → size l < k → is_close u.piece ≡ false → Comes (List Word) (ReadsWord place a (Next u l)) (size l) → Comes (List Word) (ReadsWords place a (Next u l)) (size (Next u l))
+word_after k has place a u l h s (is_refused r d) = is_refused r (word_refused s d)
+word_after k has place a u l h s (comes_to ws m fits d) = elim (has.of_words place a m (omega arith)) [
+  | comes_to vs rest fewer ds ↦ comes_to (ws ++ vs) rest (omega arith) (word_read s d ds)
+  | is_refused r ds ↦ is_refused r (later_word_refused s d ds)
+]
+
+words_total : (k : ℕ) → HasOutcomes k → (place : ℕ) (a : Option Alphabet) (l : Units) → size l < suc k → Comes (List Word) (ReadsWords place a l) (size l)
+words_total k has place a (End at) h = is_refused _ words_never_ended
+words_total k has place a (Stop r) h = is_refused r words_stopped
+words_total k has place a (Next u l) h = elim (cases_Bool (is_close u.piece)) [
+  | inl s ↦ comes_to [] l (omega arith) (words_end s)
+  | inr s ↦ word_after k has place a u l (omega arith) s (begun_word k has place a u l (omega arith) (word_rule a u.piece) refl)
+]
+
+-- so a rule has an outcome
+
+after_tests : (l : Units) (tests : List (Piece → Option (List ℕ))) (then : List ℕ → Rule) (otherwise : Rule) → Finds tests l → ((texts : List ℕ) (m : Units) → size m ≤ size l → Comes Core (ReadsRule (then texts) m) (size m)) → Comes Core (ReadsRule otherwise l) (size l) → Comes Core (ReadsRule (takes_if tests then otherwise) l) (size l)
+after_tests l tests then otherwise (finds texts m f fits) first second = with_outcome (first texts m fits) fits (λ o. units_taken f)
+after_tests l tests then otherwise (finds_none f) first second = with_outcome second (omega arith) (λ o. units_missing f)
+
+after_delimiter : (l : Units) (then : List ℕ → Rule) → Finds (delimiter_of ∷ []) l → ((texts : List ℕ) (m : Units) → size m ≤ size l → Comes Core (ReadsRule (then texts) m) (size m)) → Comes Core (ReadsRule (takes_delimiter then) l) (size l)
+after_delimiter l then (finds texts m f fits) first = with_outcome (first texts m fits) fits (λ o. delimiter_taken f)
+after_delimiter l then (finds_none f) first = is_refused _ (delimiter_missing f)
+
+after_core : (k : ℕ) → HasOutcomes k → (place : ℕ) (c : Context) (then : Core → Rule) (l : Units) → size l < suc k → ((x : Core) (m : Units) → size m ≤ size l → Comes Core (ReadsRule (then x) m) (size m)) → Comes Core (ReadsRule (reads_core place c then) l) (size l)
+after_core k has place c then l h follow = elim (sees l) [
+  | sees_unit u m p less ↦ after (λ x n. ReadsRule (then x) n) (has.of_rule (rule u.place c u.piece) m (omega arith)) (omega arith) (λ x n fits. follow x n (omega arith)) (λ x n o. core_read p) (λ r. core_refused p)
+  | sees_end at p ↦ is_refused _ (core_missing p)
+  | sees_stop r p ↦ is_refused r (core_stopped p)
+]
+
+rule_total : (k : ℕ) → HasOutcomes k → (r : Rule) (l : Units) → size l < suc k → Comes Core (ReadsRule r l) (size l)
+rule_total k has (gives x) l h = comes_to x l (omega arith) rule_gives
+rule_total k has (refuses r) l h = is_refused r rule_refuses
+rule_total k has (reads_operand place c then) l h =
+    after (λ xs m. ReadsRule (then xs) m) (operand_total k has place c l h) (omega arith) (λ xs m fits. rule_total k has (then xs) m (omega arith)) (λ xs m o. operand_read) (λ r. operand_refused)
+rule_total k has (reads_core place c then) l h = after_core k has place c then l h (λ x m fits. rule_total k has (then x) m (omega arith))
+rule_total k has (reads_atoms ending c then) l h =
+    after (λ xs m. ReadsRule (then xs) m) (atoms_total k has ending c l h) (omega arith) (λ xs m fits. rule_total k has (then xs) m (omega arith)) (λ xs m o. atoms_read) (λ r. atoms_refused)
+rule_total k has (reads_words place a then) l h =
+    let less = size-past_space l in after (λ ws m. ReadsRule (then ws) m) (word_total k has place a (past_space l) (omega arith)) (omega arith) (λ ws m fits. rule_total k has (then ws) m (omega arith)) (λ ws m o. words_read) (λ r. words_refused)
+rule_total k has (takes_if tests then otherwise) l h =
+    after_tests l tests then otherwise (find_next tests l) (λ texts m fits. rule_total k has (then texts) m (omega arith)) (rule_total k has otherwise l h)
+rule_total k has (takes_digits then) l h =
+    let less = size-digits_next l in with_outcome (rule_total k has (then (digits_next l).0) (digits_next l).1 (omega arith)) (omega arith) (λ o. digits_taken)
+rule_total k has (takes_delimiter then) l h = after_delimiter l then (find_next (delimiter_of ∷ []) l) (λ texts m fits. rule_total k has (then texts) m (omega arith))
+
+-- so there is an outcome, however many units there are
+outcomes : (k : ℕ) → HasOutcomes k
+outcomes zero = record {
+  of_rule = λ r l h. absurd (omega arith);
+  of_operand = λ place c l h. absurd (omega arith);
+  of_scripts = λ c base scripts l h. absurd (omega arith);
+  of_atoms = λ ending c l h. absurd (omega arith);
+  of_word = λ place a l h. absurd (omega arith);
+  of_words = λ place a l h. absurd (omega arith);
+}
+outcomes (suc k) = record {
+  of_rule = rule_total k (outcomes k);
+  of_operand = operand_total k (outcomes k);
+  of_scripts = scripts_total k (outcomes k);
+  of_atoms = atoms_total k (outcomes k);
+  of_word = word_total k (outcomes k);
+  of_words = words_total k (outcomes k);
+}
+
+found_outcome : {A : Type 0} {reads : Outcome A → Type 0} {k : ℕ} → Comes A reads k → (o : Outcome A) × reads o
+found_outcome (comes_to x m fits d) = (Read x m, d)
+found_outcome (is_refused r d) = (Refused r, d)
+
+-- the law
+pub has_one_outcome : (ending : Ending) (c : Context) (l : Units) → HasOneOutcome ending c l
+has_one_outcome ending c l = record {
+  some = found_outcome ((outcomes (suc (size l))).of_atoms ending c l (omega arith));
+  one = λ o p d e. one_atoms d e;
+}

@@ -1,0 +1,374 @@
+-- Two outcomes of the same units are one.
+use Rattle.std.proofs.Common.{◌≡◌, ℕ, List, Option, Some, None, refl, ap, subst}
+use Rattle.latex2mathml_tex_grammar.specs.{Atoms.Atom, Makes.Core, Makes.Scripts, Makes.no_scripts}
+use Rattle.latex2mathml_tex_grammar.specs.Reading.{Outcome, Read, Refused, ReadsRule, rule_gives, rule_refuses, operand_read, operand_refused, core_read, core_refused, core_missing, core_stopped, atoms_read, atoms_refused, words_read, words_refused, units_taken, units_missing, digits_taken, delimiter_taken, delimiter_missing, ReadsOperand, group_operand, digit_operand, other_operand, other_refused, no_operand, operand_at_end, operand_stopped, ReadsScripts, scripts_end, mark_taken, script_read, script_refused, second_script, ReadsAtom, divider_read, divider_refused, on_empty_row, base_read, base_refused, ReadsAtoms, text_ends, never_ended, atoms_stopped, atoms_end, atom_read, later_refused, atom_refused, ReadsWord, word_stands, group_of_words, formula_read, formula_refused, words_in_alphabet, no_word, word_missing, word_at_end, word_stopped, ReadsWords, words_end, words_never_ended, words_stopped, word_read, later_word_refused, word_refused}
+use Rattle.latex2mathml_tex_grammar.specs.Rules.{Context, Ending, InBraces, Rule, rule}
+use Rattle.latex2mathml_tex_grammar.specs.{Starts.step_next, Starts.step_of_mark, Starts.mark_of, Starts.Step, Starts.GoesOn, Starts.TakesOperand, Starts.Twice, Refusal.Kind, Refusal.refusal_at, Symbols.Alphabet, Words.Word, Words.WordRule, Words.TakesWords}
+use Rattle.latex2mathml_tex_grammar.specs.Units.{Unit, Units, Next}
+
+-- what holds of the unit that stands next, and of the units after it, holds whichever way it was found
+next_is : (P : Unit → Units → Type 0) {w m n : Units} {u v : Unit} → w ≡ Next u m → w ≡ Next v n → P v n → P u m
+next_is P {w} {m} {n} {u} {v} p q e =
+    let same : v ≡ u = cc in
+    let rest : n ≡ m = cc in
+    subst (λ x. P x m) same (subst (λ k. P v k) rest e)
+
+-- what follows one outcome also follows the other, which is the same
+moved : {A : Type 0} (P : A → Units → Type 0) {x y : A} {m n : Units} → Read x m ≡ Read y n → P y n → P x m
+moved P {x} {y} {m} {n} e d =
+    let same : y ≡ x = cc in
+    let rest : n ≡ m = cc in
+    subst (λ z. P z m) same (subst (λ k. P y k) rest d)
+
+moved_some : {A : Type 0} (P : A → Units → Type 0) {found : Option (A × Units)} {x y : A} {m n : Units} → found ≡ Some (x, m) → found ≡ Some (y, n) → P y n → P x m
+moved_some {A} P {found} {x} {y} {m} {n} p q d =
+    let both : A × Units = (x, m) in
+    let others : A × Units = (y, n) in
+    let same : others ≡ both = cc in
+    subst (λ t. P t.0 t.1) same d
+
+-- so it is of rules, of operands and of atoms that begin with the unit
+
+core_is : (c : Context) {w m n : Units} {u v : Unit} {o : Outcome Core} → w ≡ Next u m → w ≡ Next v n → ReadsRule (rule v.place c v.piece) n o → ReadsRule (rule u.place c u.piece) m o
+core_is c {o = o} p q e = next_is (λ v n. ReadsRule (rule v.place c v.piece) n o) p q e
+
+group_is : {c : Context} {w m n : Units} {u v : Unit} {o : Outcome (List Atom)} → w ≡ Next u m → w ≡ Next v n → ReadsAtoms (InBraces v.place) c n o → ReadsAtoms (InBraces u.place) c m o
+group_is {c} {o = o} p q e = next_is (λ v n. ReadsAtoms (InBraces v.place) c n o) p q e
+
+operand_is : {c : Context} {w m n : Units} {u v : Unit} {o : Outcome (List Atom)} → w ≡ Next u m → w ≡ Next v n → ReadsOperand v.place c n o → ReadsOperand u.place c m o
+operand_is {c} {o = o} p q e = next_is (λ v n. ReadsOperand v.place c n o) p q e
+
+atom_is : {ending : Ending} {c : Context} {w m n : Units} {u v : Unit} {o : Outcome Atom} → w ≡ Next u m → w ≡ Next v n → ReadsAtom ending c v n o → ReadsAtom ending c u m o
+atom_is {ending} {c} {o = o} p q e = next_is (λ v n. ReadsAtom ending c v n o) p q e
+
+-- and so it is of what follows an outcome
+
+rule_moved : {A : Type 0} (then : A → Rule) {x y : A} {m n : Units} {o : Outcome Core} → Read x m ≡ Read y n → ReadsRule (then y) n o → ReadsRule (then x) m o
+rule_moved then {o = o} e d = moved (λ x m. ReadsRule (then x) m o) e d
+
+taken_moved : {A : Type 0} (then : A → Rule) {found : Option (A × Units)} {x y : A} {m n : Units} {o : Outcome Core} → found ≡ Some (x, m) → found ≡ Some (y, n) → ReadsRule (then y) n o → ReadsRule (then x) m o
+taken_moved then {o = o} p q d = moved_some (λ x m. ReadsRule (then x) m o) p q d
+
+base_moved : {c : Context} {x y : Core} {m n : Units} {o : Outcome Atom} → Read x m ≡ Read y n → ReadsScripts c y.atom (no_scripts y.limits) n o → ReadsScripts c x.atom (no_scripts x.limits) m o
+base_moved {c} {o = o} e d = moved (λ x m. ReadsScripts c x.atom (no_scripts x.limits) m o) e d
+
+atoms_moved : {ending : Ending} {c : Context} {x y : Atom} {m n : Units} {o : Outcome (List Atom)} → Read x m ≡ Read y n → ReadsAtoms ending c n o → ReadsAtoms ending c m o
+atoms_moved {ending} {c} {o = o} e d = moved (λ x m. ReadsAtoms ending c m o) e d
+
+words_moved : {place : ℕ} {a : Option Alphabet} {x y : List Word} {m n : Units} {o : Outcome (List Word)} → Read x m ≡ Read y n → ReadsWords place a n o → ReadsWords place a m o
+words_moved {place} {a} {o = o} e d = moved (λ x m. ReadsWords place a m o) e d
+
+-- the step of the mark that stands next is one
+
+one_step : (step : Unit → Option Step) {w m n : Units} {u v : Unit} {a b : Step} → w ≡ Next u m → w ≡ Next v n → step u ≡ Some a → step v ≡ Some b → a ≡ b
+one_step step {u = u} {v = v} p q s t = (let same : u ≡ v = cc in cc)
+
+goes_on : (step : Unit → Option Step) (P : Scripts → Units → Type 0) {w m n : Units} {u v : Unit} {a b : Scripts} → w ≡ Next u m → w ≡ Next v n → step u ≡ Some (GoesOn a) → step v ≡ Some (GoesOn b) → P b n → P a m
+goes_on step P {m = m} {n = n} {a = a} {b = b} p q s t e =
+    let same : b ≡ a = cc (one_step step p q s t) in
+    let rest : n ≡ m = cc in
+    subst (λ x. P x m) same (subst (λ k. P b k) rest e)
+
+same_operand_step : (step : Unit → Option Step) (P : (List Atom → Scripts) → Type 0) {w m n : Units} {u v : Unit} {f g : List Atom → Scripts} → w ≡ Next u m → w ≡ Next v n → step u ≡ Some (TakesOperand f) → step v ≡ Some (TakesOperand g) → P g → P f
+same_operand_step step P {f = f} {g = g} p q s t e = (let same : g ≡ f = cc (one_step step p q s t) in subst P same e)
+
+same_second : (step : Unit → Option Step) {w m n : Units} {u v : Unit} {a b : Kind} → w ≡ Next u m → w ≡ Next v n → step u ≡ Some (Twice a) → step v ≡ Some (Twice b) → refusal_at a u.place ≡ refusal_at b v.place
+same_second step {u = u} {v = v} {a = a} {b = b} p q s t =
+    let same : u ≡ v = cc in
+    let kind : a ≡ b = cc (one_step step p q s t) in
+    rw (same, kind) refl
+
+-- and no step is made where the scripts end
+ended_there : (scripts : Scripts) {w m : Units} {u : Unit} {a : Step} → w ≡ Next u m → step_next scripts w ≡ None → step_of_mark scripts (mark_of u.piece) ≡ Some a → ⊥
+ended_there scripts p s t = cc (ap (step_next scripts) p)
+
+same_alphabet : (P : Option Alphabet → Type 0) {r : WordRule} {a b : Option Alphabet} → r ≡ TakesWords a → r ≡ TakesWords b → P b → P a
+same_alphabet P {r} {a} {b} s t e = (let same : b ≡ a = cc in subst P same e)
+
+word_is : {place : ℕ} {r : WordRule} {a b : Option Alphabet} {l : Units} {o : Outcome (List Word)} → r ≡ TakesWords a → r ≡ TakesWords b → ReadsWord place b l o → ReadsWord place a l o
+word_is {place} {l = l} {o = o} s t e = same_alphabet (λ a. ReadsWord place a l o) s t e
+
+scripts_go_on : (step : Unit → Option Step) {c : Context} {base : Atom} {w m n : Units} {u v : Unit} {a b : Scripts} {o : Outcome Atom} → w ≡ Next u m → w ≡ Next v n → step u ≡ Some (GoesOn a) → step v ≡ Some (GoesOn b) → ReadsScripts c base b n o → ReadsScripts c base a m o
+scripts_go_on step {c} {base} {o = o} p q s t e = goes_on step (λ x n. ReadsScripts c base x n o) p q s t e
+
+script_moved : (step : Unit → Option Step) {c : Context} {base : Atom} {w m n k j : Units} {u v : Unit} {f g : List Atom → Scripts} {xs ys : List Atom} {o : Outcome Atom} → w ≡ Next u m → w ≡ Next v n → step u ≡ Some (TakesOperand f) → step v ≡ Some (TakesOperand g) → Read xs k ≡ Read ys j → ReadsScripts c base (g ys) j o → ReadsScripts c base (f xs) k o
+script_moved step {c} {base} {j = j} {f = f} {ys = ys} {o = o} p q s t e d =
+    moved (λ xs k. ReadsScripts c base (f xs) k o) e (same_operand_step step (λ h. ReadsScripts c base (h ys) j o) p q s t d)
+
+mutual
+  -- a rule comes to one outcome
+  pub one_rule : {r : Rule} {l : Units} {o p : Outcome Core} → ReadsRule r l o → ReadsRule r l p → o ≡ p
+  one_rule rule_gives rule_gives = refl
+  one_rule rule_refuses rule_refuses = refl
+  one_rule (operand_read {then = then} d ds) (operand_read e es) = one_rule ds (rule_moved then (one_operand d e) es)
+  one_rule (operand_read d ds) (operand_refused e) = cc (one_operand d e)
+  one_rule (operand_refused d) (operand_read e es) = cc (one_operand d e)
+  one_rule (operand_refused d) (operand_refused e) = cc (one_operand d e)
+  one_rule (atoms_read {then = then} d ds) (atoms_read e es) = one_rule ds (rule_moved then (one_atoms d e) es)
+  one_rule (atoms_read d ds) (atoms_refused e) = cc (one_atoms d e)
+  one_rule (atoms_refused d) (atoms_read e es) = cc (one_atoms d e)
+  one_rule (atoms_refused d) (atoms_refused e) = cc (one_atoms d e)
+  one_rule (words_read {then = then} d ds) (words_read e es) = one_rule ds (rule_moved then (one_word d e) es)
+  one_rule (words_read d ds) (words_refused e) = cc (one_word d e)
+  one_rule (words_refused d) (words_read e es) = cc (one_word d e)
+  one_rule (words_refused d) (words_refused e) = cc (one_word d e)
+  one_rule (core_read {c = c} {then = then} p d ds) (core_read q e es) = one_rule ds (rule_moved then (one_rule d (core_is c p q e)) es)
+  one_rule (core_read {c = c} p d ds) (core_refused q e) = cc (one_rule d (core_is c p q e))
+  one_rule (core_refused {c = c} p d) (core_read q e es) = cc (one_rule d (core_is c p q e))
+  one_rule (core_refused {c = c} p d) (core_refused q e) = cc (one_rule d (core_is c p q e))
+  one_rule (core_read p d ds) (core_missing q) = cc
+  one_rule (core_read p d ds) (core_stopped q) = cc
+  one_rule (core_refused p d) (core_missing q) = cc
+  one_rule (core_refused p d) (core_stopped q) = cc
+  one_rule (core_missing p) (core_read q e es) = cc
+  one_rule (core_missing p) (core_refused q e) = cc
+  one_rule (core_missing p) (core_missing q) = cc
+  one_rule (core_missing p) (core_stopped q) = cc
+  one_rule (core_stopped p) (core_read q e es) = cc
+  one_rule (core_stopped p) (core_refused q e) = cc
+  one_rule (core_stopped p) (core_missing q) = cc
+  one_rule (core_stopped p) (core_stopped q) = cc
+  one_rule (units_taken {then = then} p ds) (units_taken q es) = one_rule ds (taken_moved then p q es)
+  one_rule (units_taken p ds) (units_missing q es) = cc
+  one_rule (units_missing p ds) (units_taken q es) = cc
+  one_rule (units_missing p ds) (units_missing q es) = one_rule ds es
+  one_rule (digits_taken d) (digits_taken e) = one_rule d e
+  one_rule (delimiter_taken {then = then} p ds) (delimiter_taken q es) = one_rule ds (taken_moved then p q es)
+  one_rule (delimiter_taken p ds) (delimiter_missing q) = cc
+  one_rule (delimiter_missing p) (delimiter_taken q es) = cc
+  one_rule (delimiter_missing p) (delimiter_missing q) = refl
+
+  -- an operand comes to one outcome
+  pub one_operand : {place : ℕ} {c : Context} {l : Units} {o p : Outcome (List Atom)} → ReadsOperand place c l o → ReadsOperand place c l p → o ≡ p
+  one_operand (group_operand {c = c} p s d) (group_operand q t e) = one_atoms d (group_is p q e)
+  one_operand (other_operand {c = c} p s d) (other_operand q t e) = cc (one_rule d (core_is c p q e))
+  one_operand (other_operand {c = c} p s d) (other_refused q t e) = cc (one_rule d (core_is c p q e))
+  one_operand (other_refused {c = c} p s d) (other_operand q t e) = cc (one_rule d (core_is c p q e))
+  one_operand (other_refused {c = c} p s d) (other_refused q t e) = cc (one_rule d (core_is c p q e))
+  one_operand (group_operand p s d) (digit_operand q t) = cc
+  one_operand (group_operand p s d) (other_operand q t e) = cc
+  one_operand (group_operand p s d) (other_refused q t e) = cc
+  one_operand (group_operand p s d) (no_operand q t) = cc
+  one_operand (group_operand p s d) (operand_at_end q) = cc
+  one_operand (group_operand p s d) (operand_stopped q) = cc
+  one_operand (digit_operand p s) (group_operand q t e) = cc
+  one_operand (digit_operand p s) (digit_operand q t) = cc
+  one_operand (digit_operand p s) (other_operand q t e) = cc
+  one_operand (digit_operand p s) (other_refused q t e) = cc
+  one_operand (digit_operand p s) (no_operand q t) = cc
+  one_operand (digit_operand p s) (operand_at_end q) = cc
+  one_operand (digit_operand p s) (operand_stopped q) = cc
+  one_operand (other_operand p s d) (group_operand q t e) = cc
+  one_operand (other_operand p s d) (digit_operand q t) = cc
+  one_operand (other_operand p s d) (no_operand q t) = cc
+  one_operand (other_operand p s d) (operand_at_end q) = cc
+  one_operand (other_operand p s d) (operand_stopped q) = cc
+  one_operand (other_refused p s d) (group_operand q t e) = cc
+  one_operand (other_refused p s d) (digit_operand q t) = cc
+  one_operand (other_refused p s d) (no_operand q t) = cc
+  one_operand (other_refused p s d) (operand_at_end q) = cc
+  one_operand (other_refused p s d) (operand_stopped q) = cc
+  one_operand (no_operand p s) (group_operand q t e) = cc
+  one_operand (no_operand p s) (digit_operand q t) = cc
+  one_operand (no_operand p s) (other_operand q t e) = cc
+  one_operand (no_operand p s) (other_refused q t e) = cc
+  one_operand (no_operand p s) (no_operand q t) = cc
+  one_operand (no_operand p s) (operand_at_end q) = cc
+  one_operand (no_operand p s) (operand_stopped q) = cc
+  one_operand (operand_at_end p) (group_operand q t e) = cc
+  one_operand (operand_at_end p) (digit_operand q t) = cc
+  one_operand (operand_at_end p) (other_operand q t e) = cc
+  one_operand (operand_at_end p) (other_refused q t e) = cc
+  one_operand (operand_at_end p) (no_operand q t) = cc
+  one_operand (operand_at_end p) (operand_at_end q) = cc
+  one_operand (operand_at_end p) (operand_stopped q) = cc
+  one_operand (operand_stopped p) (group_operand q t e) = cc
+  one_operand (operand_stopped p) (digit_operand q t) = cc
+  one_operand (operand_stopped p) (other_operand q t e) = cc
+  one_operand (operand_stopped p) (other_refused q t e) = cc
+  one_operand (operand_stopped p) (no_operand q t) = cc
+  one_operand (operand_stopped p) (operand_at_end q) = cc
+  one_operand (operand_stopped p) (operand_stopped q) = cc
+
+  -- what stands after an atom comes to one outcome
+  one_scripts : {c : Context} {base : Atom} {scripts : Scripts} {l : Units} {o p : Outcome Atom} → ReadsScripts c base scripts l o → ReadsScripts c base scripts l p → o ≡ p
+  one_scripts (scripts_end s) (scripts_end t) = refl
+  one_scripts (mark_taken {c = c} {base = base} {scripts = k} p s d) (mark_taken q t e) = one_scripts d (scripts_go_on (λ u. step_of_mark k (mark_of u.piece)) p q s t e)
+  one_scripts (script_read {c = c} {scripts = k} p s d ds) (script_read q t e es) = one_scripts ds (script_moved (λ u. step_of_mark k (mark_of u.piece)) p q s t (one_operand d (operand_is p q e)) es)
+  one_scripts (script_read {c = c} p s d ds) (script_refused q t e) = cc (one_operand d (operand_is p q e))
+  one_scripts (script_refused {c = c} p s d) (script_read q t e es) = cc (one_operand d (operand_is p q e))
+  one_scripts (script_refused {c = c} p s d) (script_refused q t e) = cc (one_operand d (operand_is p q e))
+  one_scripts (second_script {scripts = k} p s) (second_script q t) = ap Refused (same_second (λ u. step_of_mark k (mark_of u.piece)) p q s t)
+  one_scripts (scripts_end {scripts = k} s) (mark_taken q t e) = absurd (ended_there k q s t)
+  one_scripts (scripts_end {scripts = k} s) (script_read q t e es) = absurd (ended_there k q s t)
+  one_scripts (scripts_end {scripts = k} s) (script_refused q t e) = absurd (ended_there k q s t)
+  one_scripts (scripts_end {scripts = k} s) (second_script q t) = absurd (ended_there k q s t)
+  one_scripts (mark_taken {scripts = k} p s d) (scripts_end t) = absurd (ended_there k p t s)
+  one_scripts (mark_taken {scripts = k} p s d) (script_read q t e es) = cc (one_step (λ u. step_of_mark k (mark_of u.piece)) p q s t)
+  one_scripts (mark_taken {scripts = k} p s d) (script_refused q t e) = cc (one_step (λ u. step_of_mark k (mark_of u.piece)) p q s t)
+  one_scripts (mark_taken {scripts = k} p s d) (second_script q t) = cc (one_step (λ u. step_of_mark k (mark_of u.piece)) p q s t)
+  one_scripts (script_read {scripts = k} p s d ds) (scripts_end t) = absurd (ended_there k p t s)
+  one_scripts (script_read {scripts = k} p s d ds) (mark_taken q t e) = cc (one_step (λ u. step_of_mark k (mark_of u.piece)) p q s t)
+  one_scripts (script_read {scripts = k} p s d ds) (second_script q t) = cc (one_step (λ u. step_of_mark k (mark_of u.piece)) p q s t)
+  one_scripts (script_refused {scripts = k} p s d) (scripts_end t) = absurd (ended_there k p t s)
+  one_scripts (script_refused {scripts = k} p s d) (mark_taken q t e) = cc (one_step (λ u. step_of_mark k (mark_of u.piece)) p q s t)
+  one_scripts (script_refused {scripts = k} p s d) (second_script q t) = cc (one_step (λ u. step_of_mark k (mark_of u.piece)) p q s t)
+  one_scripts (second_script {scripts = k} p s) (scripts_end t) = absurd (ended_there k p t s)
+  one_scripts (second_script {scripts = k} p s) (mark_taken q t e) = cc (one_step (λ u. step_of_mark k (mark_of u.piece)) p q s t)
+  one_scripts (second_script {scripts = k} p s) (script_read q t e es) = cc (one_step (λ u. step_of_mark k (mark_of u.piece)) p q s t)
+  one_scripts (second_script {scripts = k} p s) (script_refused q t e) = cc (one_step (λ u. step_of_mark k (mark_of u.piece)) p q s t)
+
+  -- an atom comes to one outcome
+  one_atom : {ending : Ending} {c : Context} {u : Unit} {l : Units} {o p : Outcome Atom} → ReadsAtom ending c u l o → ReadsAtom ending c u l p → o ≡ p
+  one_atom (divider_read s d) (divider_read t e) = cc (one_rule d e)
+  one_atom (divider_read s d) (divider_refused t e) = cc (one_rule d e)
+  one_atom (divider_refused s d) (divider_read t e) = cc (one_rule d e)
+  one_atom (divider_refused s d) (divider_refused t e) = cc (one_rule d e)
+  one_atom (on_empty_row s d) (on_empty_row t e) = one_scripts d e
+  one_atom (base_read {c = c} s d ds) (base_read t e es) = one_scripts ds (base_moved (one_rule d e) es)
+  one_atom (base_read s d ds) (base_refused t e) = cc (one_rule d e)
+  one_atom (base_refused s d) (base_read t e es) = cc (one_rule d e)
+  one_atom (base_refused s d) (base_refused t e) = cc (one_rule d e)
+  one_atom (divider_read s d) (on_empty_row t e) = cc
+  one_atom (divider_read s d) (base_read t e es) = cc
+  one_atom (divider_read s d) (base_refused t e) = cc
+  one_atom (divider_refused s d) (on_empty_row t e) = cc
+  one_atom (divider_refused s d) (base_read t e es) = cc
+  one_atom (divider_refused s d) (base_refused t e) = cc
+  one_atom (on_empty_row s d) (divider_read t e) = cc
+  one_atom (on_empty_row s d) (divider_refused t e) = cc
+  one_atom (on_empty_row s d) (base_read t e es) = cc
+  one_atom (on_empty_row s d) (base_refused t e) = cc
+  one_atom (base_read s d ds) (divider_read t e) = cc
+  one_atom (base_read s d ds) (divider_refused t e) = cc
+  one_atom (base_read s d ds) (on_empty_row t e) = cc
+  one_atom (base_refused s d) (divider_read t e) = cc
+  one_atom (base_refused s d) (divider_refused t e) = cc
+  one_atom (base_refused s d) (on_empty_row t e) = cc
+
+  -- atoms side by side come to one outcome
+  pub one_atoms : {ending : Ending} {c : Context} {l : Units} {o p : Outcome (List Atom)} → ReadsAtoms ending c l o → ReadsAtoms ending c l p → o ≡ p
+  one_atoms (atom_read {ending = ending} {c = c} p s d ds) (atom_read q t e es) = cc (one_atom d (atom_is p q e), one_atoms ds (atoms_moved (one_atom d (atom_is p q e)) es))
+  one_atoms (atom_read {ending = ending} {c = c} p s d ds) (later_refused q t e es) = cc (one_atoms ds (atoms_moved (one_atom d (atom_is p q e)) es))
+  one_atoms (later_refused {ending = ending} {c = c} p s d ds) (atom_read q t e es) = cc (one_atoms ds (atoms_moved (one_atom d (atom_is p q e)) es))
+  one_atoms (later_refused {ending = ending} {c = c} p s d ds) (later_refused q t e es) = one_atoms ds (atoms_moved (one_atom d (atom_is p q e)) es)
+  one_atoms (atom_read {ending = ending} {c = c} p s d ds) (atom_refused q t e) = cc (one_atom d (atom_is p q e))
+  one_atoms (later_refused {ending = ending} {c = c} p s d ds) (atom_refused q t e) = cc (one_atom d (atom_is p q e))
+  one_atoms (atom_refused {ending = ending} {c = c} p s d) (atom_read q t e es) = cc (one_atom d (atom_is p q e))
+  one_atoms (atom_refused {ending = ending} {c = c} p s d) (later_refused q t e es) = cc (one_atom d (atom_is p q e))
+  one_atoms (atom_refused {ending = ending} {c = c} p s d) (atom_refused q t e) = cc (one_atom d (atom_is p q e))
+  one_atoms (text_ends p s) (text_ends q t) = cc
+  one_atoms (text_ends p s) (never_ended q t) = cc
+  one_atoms (text_ends p s) (atoms_stopped q) = cc
+  one_atoms (text_ends p s) (atoms_end q t) = cc
+  one_atoms (text_ends p s) (atom_read q t e es) = cc
+  one_atoms (text_ends p s) (later_refused q t e es) = cc
+  one_atoms (text_ends p s) (atom_refused q t e) = cc
+  one_atoms (never_ended p s) (text_ends q t) = cc
+  one_atoms (never_ended p s) (never_ended q t) = cc
+  one_atoms (never_ended p s) (atoms_stopped q) = cc
+  one_atoms (never_ended p s) (atoms_end q t) = cc
+  one_atoms (never_ended p s) (atom_read q t e es) = cc
+  one_atoms (never_ended p s) (later_refused q t e es) = cc
+  one_atoms (never_ended p s) (atom_refused q t e) = cc
+  one_atoms (atoms_stopped p) (text_ends q t) = cc
+  one_atoms (atoms_stopped p) (never_ended q t) = cc
+  one_atoms (atoms_stopped p) (atoms_stopped q) = cc
+  one_atoms (atoms_stopped p) (atoms_end q t) = cc
+  one_atoms (atoms_stopped p) (atom_read q t e es) = cc
+  one_atoms (atoms_stopped p) (later_refused q t e es) = cc
+  one_atoms (atoms_stopped p) (atom_refused q t e) = cc
+  one_atoms (atoms_end p s) (text_ends q t) = cc
+  one_atoms (atoms_end p s) (never_ended q t) = cc
+  one_atoms (atoms_end p s) (atoms_stopped q) = cc
+  one_atoms (atoms_end p s) (atoms_end q t) = cc
+  one_atoms (atoms_end p s) (atom_read q t e es) = cc
+  one_atoms (atoms_end p s) (later_refused q t e es) = cc
+  one_atoms (atoms_end p s) (atom_refused q t e) = cc
+  one_atoms (atom_read p s d ds) (text_ends q t) = cc
+  one_atoms (atom_read p s d ds) (never_ended q t) = cc
+  one_atoms (atom_read p s d ds) (atoms_stopped q) = cc
+  one_atoms (atom_read p s d ds) (atoms_end q t) = cc
+  one_atoms (later_refused p s d ds) (text_ends q t) = cc
+  one_atoms (later_refused p s d ds) (never_ended q t) = cc
+  one_atoms (later_refused p s d ds) (atoms_stopped q) = cc
+  one_atoms (later_refused p s d ds) (atoms_end q t) = cc
+  one_atoms (atom_refused p s d) (text_ends q t) = cc
+  one_atoms (atom_refused p s d) (never_ended q t) = cc
+  one_atoms (atom_refused p s d) (atoms_stopped q) = cc
+  one_atoms (atom_refused p s d) (atoms_end q t) = cc
+
+  -- a part of words comes to one outcome
+  one_word : {place : ℕ} {a : Option Alphabet} {l : Units} {o p : Outcome (List Word)} → ReadsWord place a l o → ReadsWord place a l p → o ≡ p
+  one_word word_at_end word_at_end = refl
+  one_word word_stopped word_stopped = refl
+  one_word (group_of_words s d) (group_of_words t e) = one_words d e
+  one_word (formula_read s d) (formula_read t e) = cc (one_atoms d e)
+  one_word (formula_read s d) (formula_refused t e) = cc (one_atoms d e)
+  one_word (formula_refused s d) (formula_read t e) = cc (one_atoms d e)
+  one_word (formula_refused s d) (formula_refused t e) = cc (one_atoms d e)
+  one_word (words_in_alphabet s d) (words_in_alphabet t e) = one_word d (word_is s t e)
+  one_word (word_stands s) (word_stands t) = cc
+  one_word (word_stands s) (group_of_words t e) = cc
+  one_word (word_stands s) (formula_read t e) = cc
+  one_word (word_stands s) (formula_refused t e) = cc
+  one_word (word_stands s) (words_in_alphabet t e) = cc
+  one_word (word_stands s) (no_word t) = cc
+  one_word (word_stands s) (word_missing t) = cc
+  one_word (group_of_words s d) (word_stands t) = cc
+  one_word (group_of_words s d) (formula_read t e) = cc
+  one_word (group_of_words s d) (formula_refused t e) = cc
+  one_word (group_of_words s d) (words_in_alphabet t e) = cc
+  one_word (group_of_words s d) (no_word t) = cc
+  one_word (group_of_words s d) (word_missing t) = cc
+  one_word (formula_read s d) (word_stands t) = cc
+  one_word (formula_read s d) (group_of_words t e) = cc
+  one_word (formula_read s d) (words_in_alphabet t e) = cc
+  one_word (formula_read s d) (no_word t) = cc
+  one_word (formula_read s d) (word_missing t) = cc
+  one_word (formula_refused s d) (word_stands t) = cc
+  one_word (formula_refused s d) (group_of_words t e) = cc
+  one_word (formula_refused s d) (words_in_alphabet t e) = cc
+  one_word (formula_refused s d) (no_word t) = cc
+  one_word (formula_refused s d) (word_missing t) = cc
+  one_word (words_in_alphabet s d) (word_stands t) = cc
+  one_word (words_in_alphabet s d) (group_of_words t e) = cc
+  one_word (words_in_alphabet s d) (formula_read t e) = cc
+  one_word (words_in_alphabet s d) (formula_refused t e) = cc
+  one_word (words_in_alphabet s d) (no_word t) = cc
+  one_word (words_in_alphabet s d) (word_missing t) = cc
+  one_word (no_word s) (word_stands t) = cc
+  one_word (no_word s) (group_of_words t e) = cc
+  one_word (no_word s) (formula_read t e) = cc
+  one_word (no_word s) (formula_refused t e) = cc
+  one_word (no_word s) (words_in_alphabet t e) = cc
+  one_word (no_word s) (no_word t) = cc
+  one_word (no_word s) (word_missing t) = cc
+  one_word (word_missing s) (word_stands t) = cc
+  one_word (word_missing s) (group_of_words t e) = cc
+  one_word (word_missing s) (formula_read t e) = cc
+  one_word (word_missing s) (formula_refused t e) = cc
+  one_word (word_missing s) (words_in_alphabet t e) = cc
+  one_word (word_missing s) (no_word t) = cc
+  one_word (word_missing s) (word_missing t) = cc
+
+  -- words side by side come to one outcome
+  one_words : {place : ℕ} {a : Option Alphabet} {l : Units} {o p : Outcome (List Word)} → ReadsWords place a l o → ReadsWords place a l p → o ≡ p
+  one_words words_never_ended words_never_ended = refl
+  one_words words_stopped words_stopped = refl
+  one_words (words_end s) (words_end t) = refl
+  one_words (word_read {place = place} {a = a} s d ds) (word_read t e es) = cc (one_word d e, one_words ds (words_moved (one_word d e) es))
+  one_words (word_read {place = place} {a = a} s d ds) (later_word_refused t e es) = cc (one_words ds (words_moved (one_word d e) es))
+  one_words (later_word_refused {place = place} {a = a} s d ds) (word_read t e es) = cc (one_words ds (words_moved (one_word d e) es))
+  one_words (later_word_refused {place = place} {a = a} s d ds) (later_word_refused t e es) = one_words ds (words_moved (one_word d e) es)
+  one_words (word_read s d ds) (word_refused t e) = cc (one_word d e)
+  one_words (word_refused s d) (word_read t e es) = cc (one_word d e)
+  one_words (later_word_refused s d ds) (word_refused t e) = cc (one_word d e)
+  one_words (word_refused s d) (later_word_refused t e es) = cc (one_word d e)
+  one_words (word_refused s d) (word_refused t e) = cc (one_word d e)
+  one_words (words_end s) (word_read t e es) = cc
+  one_words (words_end s) (later_word_refused t e es) = cc
+  one_words (words_end s) (word_refused t e) = cc
+  one_words (word_read s d ds) (words_end t) = cc
+  one_words (later_word_refused s d ds) (words_end t) = cc
+  one_words (word_refused s d) (words_end t) = cc

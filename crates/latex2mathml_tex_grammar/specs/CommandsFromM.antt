@@ -1,0 +1,319 @@
+-- The commands from those that begin with m, in the order of their names' bytes. A name is its bytes, without the
+-- backslash; a character is its code point, and stands after its line as well.
+use Rattle.std.specs.Prelude.{ℕ, pos, negsuc, List, [], ◌∷◌, Some, None, codes}
+use Rattle.latex2mathml_tex_grammar.specs.Meaning.{Meaning, Shows, FunctionName, Spacing, Styled, Words, Fraction, Root, Accent, Brace, Stack, StackedRelation, OperatorName, Negation, Slash, Middle, Right, NoLimits, Classed, words_apart}
+use Rattle.latex2mathml_tex_grammar.specs.Symbols.{Letter, UprightLetter, Sign, BigOperator, Integral, Ordinary, Operator, Binary, Relation, Opening, Closing, Punctuation, Inner, Upright, Italic, Bold, BoldItalic, DoubleStruck, Fraktur, Calligraphic, SansSerif, Monospace, InText}
+use Rattle.latex2mathml_tex_grammar.specs.Meaning.{Above, Below, Stretching, Rigid, Beside, ByStyle, Bar, NoBar}
+
+unfoldable pub commands_from_m : List (List ℕ × Meaning)
+commands_from_m =
+    (codes "maltese", Shows (Sign Ordinary 0x2720)) ∷  -- ✠
+    (codes "mapsto", Shows (Sign Relation 0x21A6)) ∷  -- ↦
+    (codes "mars", Shows (Sign Ordinary 0x2642)) ∷  -- ♂
+    (codes "mathbb", Styled DoubleStruck) ∷
+    (codes "mathbbm", Styled DoubleStruck) ∷
+    (codes "mathbf", Styled Bold) ∷
+    (codes "mathbin", Classed Binary) ∷
+    (codes "mathcal", Styled Calligraphic) ∷
+    (codes "mathclose", Classed Closing) ∷
+    (codes "mathds", Styled DoubleStruck) ∷
+    (codes "mathellipsis", Shows (Sign Inner 0x2026)) ∷  -- …
+    (codes "mathfrak", Styled Fraktur) ∷
+    (codes "mathinner", Classed Inner) ∷
+    (codes "mathit", Styled Italic) ∷
+    (codes "mathnormal", Styled Italic) ∷
+    (codes "mathop", Classed Operator) ∷
+    (codes "mathopen", Classed Opening) ∷
+    (codes "mathord", Classed Ordinary) ∷
+    (codes "mathpunct", Classed Punctuation) ∷
+    (codes "mathrel", Classed Relation) ∷
+    (codes "mathring", Accent Above 0x02DA Rigid) ∷  -- ˚
+    (codes "mathrm", Styled Upright) ∷
+    (codes "mathscr", Styled Calligraphic) ∷
+    (codes "mathsf", Styled SansSerif) ∷
+    (codes "mathsterling", Shows (Sign Ordinary 0xA3)) ∷  -- £
+    (codes "mathtt", Styled Monospace) ∷
+    (codes "mathup", Styled Upright) ∷
+    (codes "max", FunctionName ByStyle (codes "max")) ∷
+    (codes "mbox", Words None) ∷
+    (codes "measuredangle", Shows (Sign Ordinary 0x2221)) ∷  -- ∡
+    (codes "medspace", Spacing (pos 4)) ∷
+    (codes "mercury", Shows (Sign Ordinary 0x263F)) ∷  -- ☿
+    (codes "mho", Shows (Sign Ordinary 0x2127)) ∷  -- ℧
+    (codes "mid", Shows (Sign Relation 0x2223)) ∷  -- ∣
+    (codes "middle", Middle) ∷
+    (codes "min", FunctionName ByStyle (codes "min")) ∷
+    (codes "models", Shows (Sign Relation 0x22A8)) ∷  -- ⊨
+    (codes "mp", Shows (Sign Binary 0x2213)) ∷  -- ∓
+    (codes "mu", Shows (Letter 0x03BC)) ∷  -- μ
+    (codes "multimap", Shows (Sign Relation 0x22B8)) ∷  -- ⊸
+    (codes "nLeftarrow", Shows (Sign Relation 0x21CD)) ∷  -- ⇍
+    (codes "nLeftrightarrow", Shows (Sign Relation 0x21CE)) ∷  -- ⇎
+    (codes "nRightarrow", Shows (Sign Relation 0x21CF)) ∷  -- ⇏
+    (codes "nVDash", Shows (Sign Relation 0x22AF)) ∷  -- ⊯
+    (codes "nVdash", Shows (Sign Relation 0x22AE)) ∷  -- ⊮
+    (codes "nabla", Shows (Sign Ordinary 0x2207)) ∷  -- ∇
+    (codes "natural", Shows (Sign Ordinary 0x266E)) ∷  -- ♮
+    (codes "ncong", Shows (Sign Relation 0x2246)) ∷  -- ≆
+    (codes "ne", Shows (Sign Relation 0x2260)) ∷  -- ≠
+    (codes "nearrow", Shows (Sign Relation 0x2197)) ∷  -- ↗
+    (codes "neg", Shows (Sign Ordinary 0xAC)) ∷  -- ¬
+    (codes "negmedspace", Spacing (negsuc 3)) ∷
+    (codes "negthickspace", Spacing (negsuc 4)) ∷
+    (codes "negthinspace", Spacing (negsuc 2)) ∷
+    (codes "neptune", Shows (Sign Ordinary 0x2646)) ∷  -- ♆
+    (codes "neq", Shows (Sign Relation 0x2260)) ∷  -- ≠
+    (codes "nequiv", Shows (Sign Relation 0x2262)) ∷  -- ≢
+    (codes "nexists", Shows (Sign Ordinary 0x2204)) ∷  -- ∄
+    (codes "ng", Shows (UprightLetter 0x014B)) ∷  -- ŋ
+    (codes "ngeq", Shows (Sign Relation 0x2271)) ∷  -- ≱
+    (codes "ngtr", Shows (Sign Relation 0x226F)) ∷  -- ≯
+    (codes "ni", Shows (Sign Relation 0x220B)) ∷  -- ∋
+    (codes "nleftarrow", Shows (Sign Relation 0x219A)) ∷  -- ↚
+    (codes "nleftrightarrow", Shows (Sign Relation 0x21AE)) ∷  -- ↮
+    (codes "nleq", Shows (Sign Relation 0x2270)) ∷  -- ≰
+    (codes "nless", Shows (Sign Relation 0x226E)) ∷  -- ≮
+    (codes "nmid", Shows (Sign Relation 0x2224)) ∷  -- ∤
+    (codes "nobreakspace", Spacing (pos 6)) ∷
+    (codes "nolimits", NoLimits) ∷
+    (codes "not", Negation) ∷
+    (codes "notin", Shows (Sign Relation 0x2209)) ∷  -- ∉
+    (codes "nparallel", Shows (Sign Relation 0x2226)) ∷  -- ∦
+    (codes "nprec", Shows (Sign Relation 0x2280)) ∷  -- ⊀
+    (codes "npreceq", Shows (Sign Relation 0x22E0)) ∷  -- ⋠
+    (codes "nrightarrow", Shows (Sign Relation 0x219B)) ∷  -- ↛
+    (codes "nsim", Shows (Sign Relation 0x2241)) ∷  -- ≁
+    (codes "nsubseteq", Shows (Sign Relation 0x2288)) ∷  -- ⊈
+    (codes "nsucc", Shows (Sign Relation 0x2281)) ∷  -- ⊁
+    (codes "nsucceq", Shows (Sign Relation 0x22E1)) ∷  -- ⋡
+    (codes "nsupseteq", Shows (Sign Relation 0x2289)) ∷  -- ⊉
+    (codes "ntriangleleft", Shows (Sign Relation 0x22EA)) ∷  -- ⋪
+    (codes "ntrianglelefteq", Shows (Sign Relation 0x22EC)) ∷  -- ⋬
+    (codes "ntriangleright", Shows (Sign Relation 0x22EB)) ∷  -- ⋫
+    (codes "ntrianglerighteq", Shows (Sign Relation 0x22ED)) ∷  -- ⋭
+    (codes "nu", Shows (Letter 0x03BD)) ∷  -- ν
+    (codes "nvDash", Shows (Sign Relation 0x22AD)) ∷  -- ⊭
+    (codes "nvdash", Shows (Sign Relation 0x22AC)) ∷  -- ⊬
+    (codes "nwarrow", Shows (Sign Relation 0x2196)) ∷  -- ↖
+    (codes "o", Shows (UprightLetter 0xF8)) ∷  -- ø
+    (codes "odot", Shows (Sign Binary 0x2299)) ∷  -- ⊙
+    (codes "oe", Shows (UprightLetter 0x0153)) ∷  -- œ
+    (codes "oiiint", Shows (Integral 0x2230)) ∷  -- ∰
+    (codes "oiint", Shows (Integral 0x222F)) ∷  -- ∯
+    (codes "oint", Shows (Integral 0x222E)) ∷  -- ∮
+    (codes "omega", Shows (Letter 0x03C9)) ∷  -- ω
+    (codes "omicron", Shows (Letter 0x03BF)) ∷  -- ο
+    (codes "ominus", Shows (Sign Binary 0x2296)) ∷  -- ⊖
+    (codes "operatorname", OperatorName) ∷
+    (codes "oplus", Shows (Sign Binary 0x2295)) ∷  -- ⊕
+    (codes "origof", Shows (Sign Relation 0x22B6)) ∷  -- ⊶
+    (codes "oslash", Shows (Sign Binary 0x2298)) ∷  -- ⊘
+    (codes "otimes", Shows (Sign Binary 0x2297)) ∷  -- ⊗
+    (codes "overbrace", Brace Above 0x23DE) ∷  -- ⏞
+    (codes "overbracket", Brace Above 0x23B4) ∷  -- ⎴
+    (codes "overleftarrow", Accent Above 0x2190 Stretching) ∷  -- ←
+    (codes "overleftrightarrow", Accent Above 0x2194 Stretching) ∷  -- ↔
+    (codes "overline", Accent Above 0x203E Stretching) ∷  -- ‾
+    (codes "overparen", Brace Above 0x23DC) ∷  -- ⏜
+    (codes "overrightarrow", Accent Above 0x2192 Stretching) ∷  -- →
+    (codes "overset", Stack Above) ∷
+    (codes "owns", Shows (Sign Relation 0x220B)) ∷  -- ∋
+    (codes "parallel", Shows (Sign Relation 0x2225)) ∷  -- ∥
+    (codes "partial", Shows (Sign Ordinary 0x2202)) ∷  -- ∂
+    (codes "perp", Shows (Sign Relation 0x22A5)) ∷  -- ⊥
+    (codes "phi", Shows (Letter 0x03D5)) ∷  -- ϕ
+    (codes "pi", Shows (Letter 0x03C0)) ∷  -- π
+    (codes "pitchfork", Shows (Sign Relation 0x22D4)) ∷  -- ⋔
+    (codes "pm", Shows (Sign Binary 0xB1)) ∷  -- ±
+    (codes "pmb", Styled BoldItalic) ∷
+    (codes "pounds", Shows (Sign Ordinary 0xA3)) ∷  -- £
+    (codes "prec", Shows (Sign Relation 0x227A)) ∷  -- ≺
+    (codes "precapprox", Shows (Sign Relation 0x2AB7)) ∷  -- ⪷
+    (codes "preccurlyeq", Shows (Sign Relation 0x227C)) ∷  -- ≼
+    (codes "preceq", Shows (Sign Relation 0x2AAF)) ∷  -- ⪯
+    (codes "precnapprox", Shows (Sign Relation 0x2AB9)) ∷  -- ⪹
+    (codes "precneqq", Shows (Sign Relation 0x2AB5)) ∷  -- ⪵
+    (codes "precnsim", Shows (Sign Relation 0x22E8)) ∷  -- ⋨
+    (codes "precsim", Shows (Sign Relation 0x227E)) ∷  -- ≾
+    (codes "prime", Shows (Sign Ordinary 0x2032)) ∷  -- ′
+    (codes "prod", Shows (BigOperator 0x220F)) ∷  -- ∏
+    (codes "projlim", FunctionName ByStyle (words_apart (codes "proj") (codes "lim"))) ∷
+    (codes "propto", Shows (Sign Relation 0x221D)) ∷  -- ∝
+    (codes "psi", Shows (Letter 0x03C8)) ∷  -- ψ
+    (codes "qquad", Spacing (pos 36)) ∷
+    (codes "quad", Spacing (pos 18)) ∷
+    (codes "rVert", Shows (Sign Closing 0x2225)) ∷  -- ∥
+    (codes "rangle", Shows (Sign Closing 0x27E9)) ∷  -- ⟩
+    (codes "rbrace", Shows (Sign Closing 0x7D)) ∷  -- }
+    (codes "rbrack", Shows (Sign Closing 0x5D)) ∷  -- ]
+    (codes "rceil", Shows (Sign Closing 0x2309)) ∷  -- ⌉
+    (codes "restriction", Shows (Sign Relation 0x21BE)) ∷  -- ↾
+    (codes "rfloor", Shows (Sign Closing 0x230B)) ∷  -- ⌋
+    (codes "rgroup", Shows (Sign Closing 0x2998)) ∷  -- ⦘
+    (codes "rhd", Shows (Sign Binary 0x22B3)) ∷  -- ⊳
+    (codes "rho", Shows (Letter 0x03C1)) ∷  -- ρ
+    (codes "right", Right) ∷
+    (codes "rightarrow", Shows (Sign Relation 0x2192)) ∷  -- →
+    (codes "rightarrowtail", Shows (Sign Relation 0x21A3)) ∷  -- ↣
+    (codes "rightharpoondown", Shows (Sign Relation 0x21C1)) ∷  -- ⇁
+    (codes "rightharpoonup", Shows (Sign Relation 0x21C0)) ∷  -- ⇀
+    (codes "rightleftarrows", Shows (Sign Relation 0x21C4)) ∷  -- ⇄
+    (codes "rightleftharpoons", Shows (Sign Relation 0x21CC)) ∷  -- ⇌
+    (codes "rightrightarrows", Shows (Sign Relation 0x21C9)) ∷  -- ⇉
+    (codes "rightsquigarrow", Shows (Sign Relation 0x21DD)) ∷  -- ⇝
+    (codes "rightthreetimes", Shows (Sign Binary 0x22CC)) ∷  -- ⋌
+    (codes "risingdotseq", Shows (Sign Relation 0x2253)) ∷  -- ≓
+    (codes "rmoustache", Shows (Sign Closing 0x23B1)) ∷  -- ⎱
+    (codes "rparen", Shows (Sign Closing 0x29)) ∷  -- )
+    (codes "rrbracket", Shows (Sign Closing 0x27E7)) ∷  -- ⟧
+    (codes "rtimes", Shows (Sign Binary 0x22CA)) ∷  -- ⋊
+    (codes "rupee", Shows (Sign Ordinary 0x20B9)) ∷  -- ₹
+    (codes "rvert", Shows (Sign Closing 0x2223)) ∷  -- ∣
+    (codes "saturn", Shows (Sign Ordinary 0x2644)) ∷  -- ♄
+    (codes "searrow", Shows (Sign Relation 0x2198)) ∷  -- ↘
+    (codes "sec", FunctionName Beside (codes "sec")) ∷
+    (codes "sech", FunctionName Beside (codes "sech")) ∷
+    (codes "setminus", Shows (Sign Binary 0x2216)) ∷  -- ∖
+    (codes "sh", FunctionName Beside (codes "sh")) ∷
+    (codes "sharp", Shows (Sign Ordinary 0x266F)) ∷  -- ♯
+    (codes "shortmid", Shows (Sign Relation 0x2223)) ∷  -- ∣
+    (codes "shortparallel", Shows (Sign Relation 0x2225)) ∷  -- ∥
+    (codes "sigma", Shows (Letter 0x03C3)) ∷  -- σ
+    (codes "sim", Shows (Sign Relation 0x223C)) ∷  -- ∼
+    (codes "simeq", Shows (Sign Relation 0x2243)) ∷  -- ≃
+    (codes "sin", FunctionName Beside (codes "sin")) ∷
+    (codes "sinh", FunctionName Beside (codes "sinh")) ∷
+    (codes "slashed", Slash) ∷
+    (codes "smallfrown", Shows (Sign Relation 0x2322)) ∷  -- ⌢
+    (codes "smallint", Shows (Integral 0x222B)) ∷  -- ∫
+    (codes "smallsetminus", Shows (Sign Binary 0xFE68)) ∷  -- ﹨
+    (codes "smallsmile", Shows (Sign Relation 0x2323)) ∷  -- ⌣
+    (codes "smile", Shows (Sign Relation 0x2323)) ∷  -- ⌣
+    (codes "space", Spacing (pos 6)) ∷
+    (codes "spadesuit", Shows (Sign Ordinary 0x2660)) ∷  -- ♠
+    (codes "sphericalangle", Shows (Sign Ordinary 0x2222)) ∷  -- ∢
+    (codes "sqcap", Shows (Sign Binary 0x2293)) ∷  -- ⊓
+    (codes "sqcup", Shows (Sign Binary 0x2294)) ∷  -- ⊔
+    (codes "sqrt", Root) ∷
+    (codes "sqsubset", Shows (Sign Relation 0x228F)) ∷  -- ⊏
+    (codes "sqsubseteq", Shows (Sign Relation 0x2291)) ∷  -- ⊑
+    (codes "sqsupset", Shows (Sign Relation 0x2290)) ∷  -- ⊐
+    (codes "sqsupseteq", Shows (Sign Relation 0x2292)) ∷  -- ⊒
+    (codes "square", Shows (Sign Ordinary 0x25A1)) ∷  -- □
+    (codes "ss", Shows (UprightLetter 0xDF)) ∷  -- ß
+    (codes "stackrel", StackedRelation) ∷
+    (codes "star", Shows (Sign Binary 0x22C6)) ∷  -- ⋆
+    (codes "subset", Shows (Sign Relation 0x2282)) ∷  -- ⊂
+    (codes "subseteq", Shows (Sign Relation 0x2286)) ∷  -- ⊆
+    (codes "subseteqq", Shows (Sign Relation 0x2AC5)) ∷  -- ⫅
+    (codes "subsetneq", Shows (Sign Relation 0x228A)) ∷  -- ⊊
+    (codes "subsetneqq", Shows (Sign Relation 0x2ACB)) ∷  -- ⫋
+    (codes "succ", Shows (Sign Relation 0x227B)) ∷  -- ≻
+    (codes "succapprox", Shows (Sign Relation 0x2AB8)) ∷  -- ⪸
+    (codes "succcurlyeq", Shows (Sign Relation 0x227D)) ∷  -- ≽
+    (codes "succeq", Shows (Sign Relation 0x2AB0)) ∷  -- ⪰
+    (codes "succnapprox", Shows (Sign Relation 0x2ABA)) ∷  -- ⪺
+    (codes "succneqq", Shows (Sign Relation 0x2AB6)) ∷  -- ⪶
+    (codes "succnsim", Shows (Sign Relation 0x22E9)) ∷  -- ⋩
+    (codes "succsim", Shows (Sign Relation 0x227F)) ∷  -- ≿
+    (codes "sum", Shows (BigOperator 0x2211)) ∷  -- ∑
+    (codes "sun", Shows (Sign Ordinary 0x263C)) ∷  -- ☼
+    (codes "sup", FunctionName ByStyle (codes "sup")) ∷
+    (codes "supset", Shows (Sign Relation 0x2283)) ∷  -- ⊃
+    (codes "supseteq", Shows (Sign Relation 0x2287)) ∷  -- ⊇
+    (codes "supseteqq", Shows (Sign Relation 0x2AC6)) ∷  -- ⫆
+    (codes "supsetneq", Shows (Sign Relation 0x228B)) ∷  -- ⊋
+    (codes "supsetneqq", Shows (Sign Relation 0x2ACC)) ∷  -- ⫌
+    (codes "surd", Shows (Sign Ordinary 0x221A)) ∷  -- √
+    (codes "swarrow", Shows (Sign Relation 0x2199)) ∷  -- ↙
+    (codes "symbf", Styled BoldItalic) ∷
+    (codes "tan", FunctionName Beside (codes "tan")) ∷
+    (codes "tanh", FunctionName Beside (codes "tanh")) ∷
+    (codes "tau", Shows (Letter 0x03C4)) ∷  -- τ
+    (codes "tbinom", Fraction NoBar (Some InText)) ∷
+    (codes "text", Words None) ∷
+    (codes "textbf", Words (Some Bold)) ∷
+    (codes "textit", Words (Some Italic)) ∷
+    (codes "textmd", Words None) ∷
+    (codes "textnormal", Words None) ∷
+    (codes "textrm", Words None) ∷
+    (codes "textsc", Words None) ∷
+    (codes "textsf", Words (Some SansSerif)) ∷
+    (codes "texttt", Words (Some Monospace)) ∷
+    (codes "textup", Words None) ∷
+    (codes "textyen", Shows (Sign Ordinary 0xA5)) ∷  -- ¥
+    (codes "tfrac", Fraction Bar (Some InText)) ∷
+    (codes "tg", FunctionName Beside (codes "tg")) ∷
+    (codes "th", FunctionName Beside (codes "th")) ∷
+    (codes "therefore", Shows (Sign Relation 0x2234)) ∷  -- ∴
+    (codes "theta", Shows (Letter 0x03B8)) ∷  -- θ
+    (codes "thickapprox", Shows (Sign Relation 0x2248)) ∷  -- ≈
+    (codes "thicksim", Shows (Sign Relation 0x223C)) ∷  -- ∼
+    (codes "thickspace", Spacing (pos 5)) ∷
+    (codes "thinspace", Spacing (pos 3)) ∷
+    (codes "tilde", Accent Above 0x02DC Rigid) ∷  -- ˜
+    (codes "times", Shows (Sign Binary 0xD7)) ∷  -- ×
+    (codes "to", Shows (Sign Relation 0x2192)) ∷  -- →
+    (codes "top", Shows (Sign Ordinary 0x22A4)) ∷  -- ⊤
+    (codes "triangle", Shows (Sign Ordinary 0x25B3)) ∷  -- △
+    (codes "triangledown", Shows (Sign Ordinary 0x25BD)) ∷  -- ▽
+    (codes "triangleleft", Shows (Sign Binary 0x25C1)) ∷  -- ◁
+    (codes "trianglelefteq", Shows (Sign Relation 0x22B4)) ∷  -- ⊴
+    (codes "triangleq", Shows (Sign Relation 0x225C)) ∷  -- ≜
+    (codes "triangleright", Shows (Sign Binary 0x25B7)) ∷  -- ▷
+    (codes "trianglerighteq", Shows (Sign Relation 0x22B5)) ∷  -- ⊵
+    (codes "twoheadleftarrow", Shows (Sign Relation 0x219E)) ∷  -- ↞
+    (codes "twoheadrightarrow", Shows (Sign Relation 0x21A0)) ∷  -- ↠
+    (codes "ulcorner", Shows (Sign Opening 0x250C)) ∷  -- ┌
+    (codes "underbar", Accent Below 0x0332 Stretching) ∷
+    (codes "underbrace", Brace Below 0x23DF) ∷  -- ⏟
+    (codes "underbracket", Brace Below 0x23B5) ∷  -- ⎵
+    (codes "underleftarrow", Accent Below 0x2190 Stretching) ∷  -- ←
+    (codes "underline", Accent Below 0x0332 Stretching) ∷
+    (codes "underparen", Brace Below 0x23DD) ∷  -- ⏝
+    (codes "underrightarrow", Accent Below 0x2192 Stretching) ∷  -- →
+    (codes "underset", Stack Below) ∷
+    (codes "unlhd", Shows (Sign Binary 0x22B4)) ∷  -- ⊴
+    (codes "unrhd", Shows (Sign Binary 0x22B5)) ∷  -- ⊵
+    (codes "uparrow", Shows (Sign Relation 0x2191)) ∷  -- ↑
+    (codes "updownarrow", Shows (Sign Relation 0x2195)) ∷  -- ↕
+    (codes "upharpoonleft", Shows (Sign Relation 0x21BF)) ∷  -- ↿
+    (codes "upharpoonright", Shows (Sign Relation 0x21BE)) ∷  -- ↾
+    (codes "uplus", Shows (Sign Binary 0x228E)) ∷  -- ⊎
+    (codes "upsilon", Shows (Letter 0x03C5)) ∷  -- υ
+    (codes "upuparrows", Shows (Sign Relation 0x21C8)) ∷  -- ⇈
+    (codes "uranus", Shows (Sign Ordinary 0x2645)) ∷  -- ♅
+    (codes "urcorner", Shows (Sign Closing 0x2510)) ∷  -- ┐
+    (codes "vDash", Shows (Sign Relation 0x22A8)) ∷  -- ⊨
+    (codes "varepsilon", Shows (Letter 0x03B5)) ∷  -- ε
+    (codes "varkappa", Shows (UprightLetter 0x03F0)) ∷  -- ϰ
+    (codes "varnothing", Shows (Sign Ordinary 0x2205)) ∷  -- ∅
+    (codes "varphi", Shows (Letter 0x03C6)) ∷  -- φ
+    (codes "varpi", Shows (Letter 0x03D6)) ∷  -- ϖ
+    (codes "varpropto", Shows (Sign Relation 0x221D)) ∷  -- ∝
+    (codes "varrho", Shows (Letter 0x03F1)) ∷  -- ϱ
+    (codes "varsigma", Shows (Letter 0x03C2)) ∷  -- ς
+    (codes "vartheta", Shows (Letter 0x03D1)) ∷  -- ϑ
+    (codes "vartriangle", Shows (Sign Relation 0x25B3)) ∷  -- △
+    (codes "vartriangleleft", Shows (Sign Relation 0x22B2)) ∷  -- ⊲
+    (codes "vartriangleright", Shows (Sign Relation 0x22B3)) ∷  -- ⊳
+    (codes "varvdots", Shows (Sign Ordinary 0x22EE)) ∷  -- ⋮
+    (codes "vdash", Shows (Sign Relation 0x22A2)) ∷  -- ⊢
+    (codes "vdots", Shows (Sign Relation 0x22EE)) ∷  -- ⋮
+    (codes "vec", Accent Above 0x20D7 Stretching) ∷
+    (codes "vee", Shows (Sign Binary 0x2228)) ∷  -- ∨
+    (codes "veebar", Shows (Sign Binary 0x22BB)) ∷  -- ⊻
+    (codes "venus", Shows (Sign Ordinary 0x2640)) ∷  -- ♀
+    (codes "vert", Shows (Sign Ordinary 0x2223)) ∷  -- ∣
+    (codes "wedge", Shows (Sign Binary 0x2227)) ∷  -- ∧
+    (codes "widecheck", Accent Above 0x02C7 Stretching) ∷  -- ˇ
+    (codes "widehat", Accent Above 0x0302 Stretching) ∷
+    (codes "widetilde", Accent Above 0x7E Stretching) ∷  -- ~
+    (codes "wr", Shows (Sign Binary 0x2240)) ∷  -- ≀
+    (codes "xi", Shows (Letter 0x03BE)) ∷  -- ξ
+    (codes "yen", Shows (Sign Ordinary 0xA5)) ∷  -- ¥
+    (codes "zeta", Shows (Letter 0x03B6)) ∷  -- ζ
+    (codes "{", Shows (Sign Opening 0x7B)) ∷  -- {
+    (codes "|", Shows (Sign Ordinary 0x2225)) ∷  -- ∥
+    (codes "}", Shows (Sign Closing 0x7D)) ∷  -- }
+    []

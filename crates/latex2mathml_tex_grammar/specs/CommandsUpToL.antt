@@ -1,0 +1,398 @@
+-- The commands up to those that begin with l, in the order of their names' bytes. A name is its bytes, without the
+-- backslash; a character is its code point, and stands after its line as well.
+use Rattle.std.specs.Prelude.{ℕ, pos, negsuc, List, [], ◌∷◌, Some, None, codes}
+use Rattle.latex2mathml_tex_grammar.specs.Meaning.{Meaning, Shows, FunctionName, Spacing, Styled, Words, Fraction, Accent, Sized, Left, Limits, words_apart}
+use Rattle.latex2mathml_tex_grammar.specs.Symbols.{Letter, UprightLetter, Sign, BigOperator, Integral, Ordinary, Binary, Relation, Opening, Closing, Punctuation, Inner, Italic, Bold, BoldItalic, DoubleStruck, Fraktur, InDisplay}
+use Rattle.latex2mathml_tex_grammar.specs.Meaning.{Above, Rigid, Beside, ByStyle, Bar, NoBar, Big, Bigger, VeryBig, Biggest}
+
+unfoldable pub commands_up_to_l : List (List ℕ × Meaning)
+commands_up_to_l =
+    (codes " ", Spacing (pos 6)) ∷
+    (codes "!", Spacing (negsuc 2)) ∷
+    (codes "#", Shows (Sign Ordinary 0x23)) ∷  -- #
+    (codes "$", Shows (Sign Ordinary 0x24)) ∷  -- $
+    (codes "%", Shows (Sign Ordinary 0x25)) ∷  -- %
+    (codes "&", Shows (Sign Ordinary 0x26)) ∷  -- &
+    (codes ",", Spacing (pos 3)) ∷
+    (codes ":", Spacing (pos 4)) ∷
+    (codes ";", Spacing (pos 5)) ∷
+    (codes ">", Spacing (pos 4)) ∷
+    (codes "A", Shows (UprightLetter 0xC5)) ∷  -- Å
+    (codes "AE", Shows (UprightLetter 0xC6)) ∷  -- Æ
+    (codes "Alpha", Shows (UprightLetter 0x0391)) ∷  -- Α
+    (codes "And", Shows (Sign Binary 0x26)) ∷  -- &
+    (codes "Bbb", Styled DoubleStruck) ∷
+    (codes "Beta", Shows (UprightLetter 0x0392)) ∷  -- Β
+    (codes "Big", Sized Bigger Ordinary) ∷
+    (codes "Bigg", Sized Biggest Ordinary) ∷
+    (codes "Biggl", Sized Biggest Opening) ∷
+    (codes "Biggm", Sized Biggest Relation) ∷
+    (codes "Biggr", Sized Biggest Closing) ∷
+    (codes "Bigl", Sized Bigger Opening) ∷
+    (codes "Bigm", Sized Bigger Relation) ∷
+    (codes "Bigr", Sized Bigger Closing) ∷
+    (codes "Box", Shows (Sign Ordinary 0x25FB)) ∷  -- ◻
+    (codes "Bumpeq", Shows (Sign Relation 0x224E)) ∷  -- ≎
+    (codes "Cap", Shows (Sign Binary 0x22D2)) ∷  -- ⋒
+    (codes "Chi", Shows (UprightLetter 0x03A7)) ∷  -- Χ
+    (codes "Cup", Shows (Sign Binary 0x22D3)) ∷  -- ⋓
+    (codes "DH", Shows (UprightLetter 0xD0)) ∷  -- Ð
+    (codes "Dagger", Shows (Sign Ordinary 0x2021)) ∷  -- ‡
+    (codes "Delta", Shows (UprightLetter 0x0394)) ∷  -- Δ
+    (codes "Diamond", Shows (Sign Ordinary 0x25CA)) ∷  -- ◊
+    (codes "Doteq", Shows (Sign Relation 0x2251)) ∷  -- ≑
+    (codes "Downarrow", Shows (Sign Relation 0x21D3)) ∷  -- ⇓
+    (codes "Epsilon", Shows (UprightLetter 0x0395)) ∷  -- Ε
+    (codes "Eta", Shows (UprightLetter 0x0397)) ∷  -- Η
+    (codes "Finv", Shows (UprightLetter 0x2132)) ∷  -- Ⅎ
+    (codes "Game", Shows (Sign Ordinary 0x2141)) ∷  -- ⅁
+    (codes "Gamma", Shows (UprightLetter 0x0393)) ∷  -- Γ
+    (codes "Im", Shows (UprightLetter 0x2111)) ∷  -- ℑ
+    (codes "Iota", Shows (UprightLetter 0x0399)) ∷  -- Ι
+    (codes "Join", Shows (Sign Relation 0x22C8)) ∷  -- ⋈
+    (codes "Kappa", Shows (UprightLetter 0x039A)) ∷  -- Κ
+    (codes "L", Shows (UprightLetter 0x0141)) ∷  -- Ł
+    (codes "Lambda", Shows (UprightLetter 0x039B)) ∷  -- Λ
+    (codes "Leftarrow", Shows (Sign Relation 0x21D0)) ∷  -- ⇐
+    (codes "Leftrightarrow", Shows (Sign Relation 0x21D4)) ∷  -- ⇔
+    (codes "Lleftarrow", Shows (Sign Relation 0x21DA)) ∷  -- ⇚
+    (codes "Longleftarrow", Shows (Sign Relation 0x27F8)) ∷  -- ⟸
+    (codes "Longleftrightarrow", Shows (Sign Relation 0x27FA)) ∷  -- ⟺
+    (codes "Longrightarrow", Shows (Sign Relation 0x27F9)) ∷  -- ⟹
+    (codes "Lsh", Shows (Sign Relation 0x21B0)) ∷  -- ↰
+    (codes "Mu", Shows (UprightLetter 0x039C)) ∷  -- Μ
+    (codes "NG", Shows (UprightLetter 0x014A)) ∷  -- Ŋ
+    (codes "Nu", Shows (UprightLetter 0x039D)) ∷  -- Ν
+    (codes "O", Shows (UprightLetter 0xD8)) ∷  -- Ø
+    (codes "OE", Shows (UprightLetter 0x0152)) ∷  -- Œ
+    (codes "Omega", Shows (UprightLetter 0x03A9)) ∷  -- Ω
+    (codes "Omicron", Shows (UprightLetter 0x039F)) ∷  -- Ο
+    (codes "P", Shows (Sign Ordinary 0xB6)) ∷  -- ¶
+    (codes "Phi", Shows (UprightLetter 0x03A6)) ∷  -- Φ
+    (codes "Pi", Shows (UprightLetter 0x03A0)) ∷  -- Π
+    (codes "Pr", FunctionName ByStyle (codes "Pr")) ∷
+    (codes "Psi", Shows (UprightLetter 0x03A8)) ∷  -- Ψ
+    (codes "Re", Shows (UprightLetter 0x211C)) ∷  -- ℜ
+    (codes "Rho", Shows (UprightLetter 0x03A1)) ∷  -- Ρ
+    (codes "Rightarrow", Shows (Sign Relation 0x21D2)) ∷  -- ⇒
+    (codes "Rrightarrow", Shows (Sign Relation 0x21DB)) ∷  -- ⇛
+    (codes "Rsh", Shows (Sign Relation 0x21B1)) ∷  -- ↱
+    (codes "S", Shows (Sign Ordinary 0xA7)) ∷  -- §
+    (codes "Sigma", Shows (UprightLetter 0x03A3)) ∷  -- Σ
+    (codes "Subset", Shows (Sign Relation 0x22D0)) ∷  -- ⋐
+    (codes "Supset", Shows (Sign Relation 0x22D1)) ∷  -- ⋑
+    (codes "TH", Shows (UprightLetter 0xDE)) ∷  -- Þ
+    (codes "Tau", Shows (UprightLetter 0x03A4)) ∷  -- Τ
+    (codes "Theta", Shows (UprightLetter 0x0398)) ∷  -- Θ
+    (codes "Uparrow", Shows (Sign Relation 0x21D1)) ∷  -- ⇑
+    (codes "Updownarrow", Shows (Sign Relation 0x21D5)) ∷  -- ⇕
+    (codes "Upsilon", Shows (UprightLetter 0x03A5)) ∷  -- Υ
+    (codes "Vdash", Shows (Sign Relation 0x22A9)) ∷  -- ⊩
+    (codes "Vert", Shows (Sign Ordinary 0x2225)) ∷  -- ∥
+    (codes "Vvdash", Shows (Sign Relation 0x22AA)) ∷  -- ⊪
+    (codes "Xi", Shows (UprightLetter 0x039E)) ∷  -- Ξ
+    (codes "Yleft", Shows (Sign Relation 0x2919)) ∷  -- ⤙
+    (codes "Yright", Shows (Sign Relation 0x291A)) ∷  -- ⤚
+    (codes "Zeta", Shows (UprightLetter 0x0396)) ∷  -- Ζ
+    (codes "_", Shows (Sign Ordinary 0x5F)) ∷  -- _
+    (codes "a", Shows (UprightLetter 0xE5)) ∷  -- å
+    (codes "acute", Accent Above 0xB4 Rigid) ∷  -- ´
+    (codes "ae", Shows (UprightLetter 0xE6)) ∷  -- æ
+    (codes "aleph", Shows (UprightLetter 0x2135)) ∷  -- ℵ
+    (codes "alpha", Shows (Letter 0x03B1)) ∷  -- α
+    (codes "amalg", Shows (Sign Binary 0x2A3F)) ∷  -- ⨿
+    (codes "angle", Shows (Sign Ordinary 0x2220)) ∷  -- ∠
+    (codes "approx", Shows (Sign Relation 0x2248)) ∷  -- ≈
+    (codes "approxeq", Shows (Sign Relation 0x224A)) ∷  -- ≊
+    (codes "arccos", FunctionName Beside (codes "arccos")) ∷
+    (codes "arcctg", FunctionName Beside (codes "arcctg")) ∷
+    (codes "arcsin", FunctionName Beside (codes "arcsin")) ∷
+    (codes "arctan", FunctionName Beside (codes "arctan")) ∷
+    (codes "arctg", FunctionName Beside (codes "arctg")) ∷
+    (codes "arg", FunctionName Beside (codes "arg")) ∷
+    (codes "argmax", FunctionName ByStyle (words_apart (codes "arg") (codes "max"))) ∷
+    (codes "argmin", FunctionName ByStyle (words_apart (codes "arg") (codes "min"))) ∷
+    (codes "ascnode", Shows (Sign Ordinary 0x260A)) ∷  -- ☊
+    (codes "ast", Shows (Sign Binary 0x2217)) ∷  -- ∗
+    (codes "astrosun", Shows (Sign Ordinary 0x2609)) ∷  -- ☉
+    (codes "asymp", Shows (Sign Relation 0x224D)) ∷  -- ≍
+    (codes "backepsilon", Shows (Sign Relation 0x220D)) ∷  -- ∍
+    (codes "backprime", Shows (Sign Ordinary 0x2035)) ∷  -- ‵
+    (codes "backsim", Shows (Sign Relation 0x223D)) ∷  -- ∽
+    (codes "backsimeq", Shows (Sign Relation 0x22CD)) ∷  -- ⋍
+    (codes "backslash", Shows (Sign Ordinary 0x5C)) ∷  -- \
+    (codes "bar", Accent Above 0xAF Rigid) ∷  -- ¯
+    (codes "barwedge", Shows (Sign Binary 0x22BC)) ∷  -- ⊼
+    (codes "because", Shows (Sign Relation 0x2235)) ∷  -- ∵
+    (codes "beta", Shows (Letter 0x03B2)) ∷  -- β
+    (codes "beth", Shows (UprightLetter 0x2136)) ∷  -- ℶ
+    (codes "between", Shows (Sign Relation 0x226C)) ∷  -- ≬
+    (codes "big", Sized Big Ordinary) ∷
+    (codes "bigcap", Shows (BigOperator 0x22C2)) ∷  -- ⋂
+    (codes "bigcirc", Shows (Sign Binary 0x25EF)) ∷  -- ◯
+    (codes "bigcup", Shows (BigOperator 0x22C3)) ∷  -- ⋃
+    (codes "bigg", Sized VeryBig Ordinary) ∷
+    (codes "biggl", Sized VeryBig Opening) ∷
+    (codes "biggm", Sized VeryBig Relation) ∷
+    (codes "biggr", Sized VeryBig Closing) ∷
+    (codes "bigl", Sized Big Opening) ∷
+    (codes "bigm", Sized Big Relation) ∷
+    (codes "bigodot", Shows (BigOperator 0x2A00)) ∷  -- ⨀
+    (codes "bigoplus", Shows (BigOperator 0x2A01)) ∷  -- ⨁
+    (codes "bigotimes", Shows (BigOperator 0x2A02)) ∷  -- ⨂
+    (codes "bigr", Sized Big Closing) ∷
+    (codes "bigsqcup", Shows (BigOperator 0x2A06)) ∷  -- ⨆
+    (codes "bigstar", Shows (Sign Ordinary 0x2605)) ∷  -- ★
+    (codes "bigtriangledown", Shows (Sign Binary 0x25BD)) ∷  -- ▽
+    (codes "bigtriangleup", Shows (Sign Binary 0x25B3)) ∷  -- △
+    (codes "biguplus", Shows (BigOperator 0x2A04)) ∷  -- ⨄
+    (codes "bigvee", Shows (BigOperator 0x22C1)) ∷  -- ⋁
+    (codes "bigwedge", Shows (BigOperator 0x22C0)) ∷  -- ⋀
+    (codes "binom", Fraction NoBar None) ∷
+    (codes "bitotimes", Shows (BigOperator 0x2A02)) ∷  -- ⨂
+    (codes "blacklozenge", Shows (Sign Ordinary 0x29EB)) ∷  -- ⧫
+    (codes "blacksquare", Shows (Sign Ordinary 0x25A0)) ∷  -- ■
+    (codes "blacktriangle", Shows (Sign Ordinary 0x25B2)) ∷  -- ▲
+    (codes "blacktriangledown", Shows (Sign Ordinary 0x25BC)) ∷  -- ▼
+    (codes "blacktriangleleft", Shows (Sign Relation 0x25C0)) ∷  -- ◀
+    (codes "blacktriangleright", Shows (Sign Relation 0x25B6)) ∷  -- ▶
+    (codes "bm", Styled BoldItalic) ∷
+    (codes "bold", Styled Bold) ∷
+    (codes "boldsymbol", Styled BoldItalic) ∷
+    (codes "bot", Shows (Sign Ordinary 0x22A5)) ∷  -- ⊥
+    (codes "bowtie", Shows (Sign Relation 0x22C8)) ∷  -- ⋈
+    (codes "boxbox", Shows (Sign Relation 0x29C8)) ∷  -- ⧈
+    (codes "boxbslash", Shows (Sign Relation 0x29C5)) ∷  -- ⧅
+    (codes "boxdot", Shows (Sign Binary 0x22A1)) ∷  -- ⊡
+    (codes "boxminus", Shows (Sign Binary 0x229F)) ∷  -- ⊟
+    (codes "boxplus", Shows (Sign Binary 0x229E)) ∷  -- ⊞
+    (codes "boxslash", Shows (Sign Relation 0x29C4)) ∷  -- ⧄
+    (codes "boxtimes", Shows (Sign Binary 0x22A0)) ∷  -- ⊠
+    (codes "breve", Accent Above 0x02D8 Rigid) ∷  -- ˘
+    (codes "bullet", Shows (Sign Binary 0x2219)) ∷  -- ∙
+    (codes "bumpeq", Shows (Sign Relation 0x224F)) ∷  -- ≏
+    (codes "cap", Shows (Sign Binary 0x2229)) ∷  -- ∩
+    (codes "cdot", Shows (Sign Binary 0xB7)) ∷  -- ·
+    (codes "cdotp", Shows (Sign Punctuation 0x22C5)) ∷  -- ⋅
+    (codes "cdots", Shows (Sign Relation 0x22EF)) ∷  -- ⋯
+    (codes "centerdot", Shows (Sign Binary 0x2219)) ∷  -- ∙
+    (codes "cfrac", Fraction Bar (Some InDisplay)) ∷
+    (codes "ch", FunctionName Beside (codes "ch")) ∷
+    (codes "check", Accent Above 0x02C7 Rigid) ∷  -- ˇ
+    (codes "checkmark", Shows (Sign Ordinary 0x2713)) ∷  -- ✓
+    (codes "chi", Shows (Letter 0x03C7)) ∷  -- χ
+    (codes "circ", Shows (Sign Binary 0x2218)) ∷  -- ∘
+    (codes "circeq", Shows (Sign Relation 0x2257)) ∷  -- ≗
+    (codes "circlearrowleft", Shows (Sign Relation 0x21BA)) ∷  -- ↺
+    (codes "circlearrowright", Shows (Sign Relation 0x21BB)) ∷  -- ↻
+    (codes "circledR", Shows (Sign Ordinary 0x24C7)) ∷  -- Ⓡ
+    (codes "circledS", Shows (Sign Ordinary 0x24C8)) ∷  -- Ⓢ
+    (codes "circledast", Shows (Sign Binary 0x229B)) ∷  -- ⊛
+    (codes "circledcirc", Shows (Sign Binary 0x229A)) ∷  -- ⊚
+    (codes "circleddash", Shows (Sign Binary 0x229D)) ∷  -- ⊝
+    (codes "clubsuit", Shows (Sign Ordinary 0x2663)) ∷  -- ♣
+    (codes "colon", Shows (Sign Ordinary 0x3A)) ∷  -- :
+    (codes "complement", Shows (Sign Ordinary 0x2201)) ∷  -- ∁
+    (codes "cong", Shows (Sign Relation 0x2245)) ∷  -- ≅
+    (codes "coprod", Shows (BigOperator 0x2210)) ∷  -- ∐
+    (codes "copyright", Shows (Sign Ordinary 0xA9)) ∷  -- ©
+    (codes "cos", FunctionName Beside (codes "cos")) ∷
+    (codes "cosec", FunctionName Beside (codes "cosec")) ∷
+    (codes "cosh", FunctionName Beside (codes "cosh")) ∷
+    (codes "cot", FunctionName Beside (codes "cot")) ∷
+    (codes "cotg", FunctionName Beside (codes "cotg")) ∷
+    (codes "coth", FunctionName Beside (codes "coth")) ∷
+    (codes "csc", FunctionName Beside (codes "csc")) ∷
+    (codes "csch", FunctionName Beside (codes "csch")) ∷
+    (codes "ctg", FunctionName Beside (codes "ctg")) ∷
+    (codes "cth", FunctionName Beside (codes "cth")) ∷
+    (codes "cup", Shows (Sign Binary 0x222A)) ∷  -- ∪
+    (codes "curlyeqprec", Shows (Sign Relation 0x22DE)) ∷  -- ⋞
+    (codes "curlyeqsucc", Shows (Sign Relation 0x22DF)) ∷  -- ⋟
+    (codes "curlyvee", Shows (Sign Binary 0x22CE)) ∷  -- ⋎
+    (codes "curlywedge", Shows (Sign Binary 0x22CF)) ∷  -- ⋏
+    (codes "curvearrowleft", Shows (Sign Relation 0x21B6)) ∷  -- ↶
+    (codes "curvearrowright", Shows (Sign Relation 0x21B7)) ∷  -- ↷
+    (codes "dag", Shows (Sign Ordinary 0x2020)) ∷  -- †
+    (codes "dagger", Shows (Sign Binary 0x2020)) ∷  -- †
+    (codes "daleth", Shows (UprightLetter 0x2138)) ∷  -- ℸ
+    (codes "dashleftarrow", Shows (Sign Relation 0x21E0)) ∷  -- ⇠
+    (codes "dashrightarrow", Shows (Sign Relation 0x21E2)) ∷  -- ⇢
+    (codes "dashv", Shows (Sign Relation 0x22A3)) ∷  -- ⊣
+    (codes "dbinom", Fraction NoBar (Some InDisplay)) ∷
+    (codes "ddag", Shows (Sign Ordinary 0x2021)) ∷  -- ‡
+    (codes "ddagger", Shows (Sign Binary 0x2021)) ∷  -- ‡
+    (codes "dddot", Accent Above 0x20DB Rigid) ∷
+    (codes "ddot", Accent Above 0xA8 Rigid) ∷  -- ¨
+    (codes "ddots", Shows (Sign Inner 0x22F1)) ∷  -- ⋱
+    (codes "deg", FunctionName Beside (codes "deg")) ∷
+    (codes "degree", Shows (Sign Ordinary 0xB0)) ∷  -- °
+    (codes "delta", Shows (Letter 0x03B4)) ∷  -- δ
+    (codes "det", FunctionName ByStyle (codes "det")) ∷
+    (codes "dfrac", Fraction Bar (Some InDisplay)) ∷
+    (codes "dh", Shows (UprightLetter 0xF0)) ∷  -- ð
+    (codes "diagdown", Shows (Sign Ordinary 0x2572)) ∷  -- ╲
+    (codes "diagup", Shows (Sign Ordinary 0x2571)) ∷  -- ╱
+    (codes "diamond", Shows (Sign Binary 0x22C4)) ∷  -- ⋄
+    (codes "diamondsuit", Shows (Sign Ordinary 0x2662)) ∷  -- ♢
+    (codes "digamma", Shows (Letter 0x03DD)) ∷  -- ϝ
+    (codes "dim", FunctionName Beside (codes "dim")) ∷
+    (codes "div", Shows (Sign Binary 0xF7)) ∷  -- ÷
+    (codes "divideontimes", Shows (Sign Binary 0x22C7)) ∷  -- ⋇
+    (codes "dj", Shows (UprightLetter 0x0111)) ∷  -- đ
+    (codes "dot", Accent Above 0x02D9 Rigid) ∷  -- ˙
+    (codes "doteq", Shows (Sign Relation 0x2250)) ∷  -- ≐
+    (codes "doteqdot", Shows (Sign Relation 0x2251)) ∷  -- ≑
+    (codes "dotplus", Shows (Sign Binary 0x2214)) ∷  -- ∔
+    (codes "doublebarwedge", Shows (Sign Binary 0x2A5E)) ∷  -- ⩞
+    (codes "doublecap", Shows (Sign Binary 0x22D2)) ∷  -- ⋒
+    (codes "doublecup", Shows (Sign Binary 0x22D3)) ∷  -- ⋓
+    (codes "downarrow", Shows (Sign Relation 0x2193)) ∷  -- ↓
+    (codes "downdownarrows", Shows (Sign Relation 0x21CA)) ∷  -- ⇊
+    (codes "downharpoonleft", Shows (Sign Relation 0x21C3)) ∷  -- ⇃
+    (codes "downharpoonright", Shows (Sign Relation 0x21C2)) ∷  -- ⇂
+    (codes "earth", Shows (Sign Ordinary 0x2641)) ∷  -- ♁
+    (codes "ell", Shows (Letter 0x2113)) ∷  -- ℓ
+    (codes "emph", Words (Some Italic)) ∷
+    (codes "emptyset", Shows (Sign Ordinary 0x2205)) ∷  -- ∅
+    (codes "enskip", Spacing (pos 9)) ∷
+    (codes "enspace", Spacing (pos 9)) ∷
+    (codes "epsilon", Shows (Letter 0x03F5)) ∷  -- ϵ
+    (codes "eqcirc", Shows (Sign Relation 0x2256)) ∷  -- ≖
+    (codes "eqsim", Shows (Sign Relation 0x2242)) ∷  -- ≂
+    (codes "eqslantgtr", Shows (Sign Relation 0x2A96)) ∷  -- ⪖
+    (codes "eqslantless", Shows (Sign Relation 0x2A95)) ∷  -- ⪕
+    (codes "equiv", Shows (Sign Relation 0x2261)) ∷  -- ≡
+    (codes "erf", FunctionName Beside (codes "erf")) ∷
+    (codes "erfc", FunctionName Beside (codes "erfc")) ∷
+    (codes "eta", Shows (Letter 0x03B7)) ∷  -- η
+    (codes "eth", Shows (UprightLetter 0xF0)) ∷  -- ð
+    (codes "euro", Shows (Sign Ordinary 0x20AC)) ∷  -- €
+    (codes "exists", Shows (Sign Ordinary 0x2203)) ∷  -- ∃
+    (codes "exp", FunctionName Beside (codes "exp")) ∷
+    (codes "fallingdotseq", Shows (Sign Relation 0x2252)) ∷  -- ≒
+    (codes "flat", Shows (Sign Ordinary 0x266D)) ∷  -- ♭
+    (codes "forall", Shows (Sign Ordinary 0x2200)) ∷  -- ∀
+    (codes "frac", Fraction Bar None) ∷
+    (codes "frak", Styled Fraktur) ∷
+    (codes "from", Shows (Sign Relation 0x2322)) ∷  -- ⌢
+    (codes "frown", Shows (Sign Relation 0x2322)) ∷  -- ⌢
+    (codes "gamma", Shows (Letter 0x03B3)) ∷  -- γ
+    (codes "gcd", FunctionName ByStyle (codes "gcd")) ∷
+    (codes "ge", Shows (Sign Relation 0x2265)) ∷  -- ≥
+    (codes "geq", Shows (Sign Relation 0x2265)) ∷  -- ≥
+    (codes "geqq", Shows (Sign Relation 0x2267)) ∷  -- ≧
+    (codes "geqslant", Shows (Sign Relation 0x2A7E)) ∷  -- ⩾
+    (codes "gets", Shows (Sign Relation 0x2190)) ∷  -- ←
+    (codes "gg", Shows (Sign Relation 0x226B)) ∷  -- ≫
+    (codes "ggg", Shows (Sign Relation 0x22D9)) ∷  -- ⋙
+    (codes "gggtr", Shows (Sign Relation 0x22D9)) ∷  -- ⋙
+    (codes "gimel", Shows (UprightLetter 0x2137)) ∷  -- ℷ
+    (codes "gnapprox", Shows (Sign Relation 0x2A8A)) ∷  -- ⪊
+    (codes "gneq", Shows (Sign Relation 0x2A88)) ∷  -- ⪈
+    (codes "gneqq", Shows (Sign Relation 0x2269)) ∷  -- ≩
+    (codes "gnsim", Shows (Sign Relation 0x22E7)) ∷  -- ⋧
+    (codes "grave", Accent Above 0x60 Rigid) ∷  -- `
+    (codes "gt", Shows (Sign Relation 0x3E)) ∷  -- >
+    (codes "gtrapprox", Shows (Sign Relation 0x2A86)) ∷  -- ⪆
+    (codes "gtrdot", Shows (Sign Binary 0x22D7)) ∷  -- ⋗
+    (codes "gtreqless", Shows (Sign Relation 0x22DB)) ∷  -- ⋛
+    (codes "gtreqqless", Shows (Sign Relation 0x2A8C)) ∷  -- ⪌
+    (codes "gtrless", Shows (Sign Relation 0x2277)) ∷  -- ≷
+    (codes "gtrsim", Shows (Sign Relation 0x2273)) ∷  -- ≳
+    (codes "hat", Accent Above 0x02C6 Rigid) ∷  -- ˆ
+    (codes "hbar", Shows (Letter 0x210F)) ∷  -- ℏ
+    (codes "hbox", Words None) ∷
+    (codes "heartsuit", Shows (Sign Ordinary 0x2661)) ∷  -- ♡
+    (codes "hom", FunctionName Beside (codes "hom")) ∷
+    (codes "hookleftarrow", Shows (Sign Relation 0x21A9)) ∷  -- ↩
+    (codes "hookrightarrow", Shows (Sign Relation 0x21AA)) ∷  -- ↪
+    (codes "hslash", Shows (Letter 0x210F)) ∷  -- ℏ
+    (codes "iff", Shows (Sign Relation 0x27FA)) ∷  -- ⟺
+    (codes "iiiint", Shows (Integral 0x2A0C)) ∷  -- ⨌
+    (codes "iiint", Shows (Integral 0x222D)) ∷  -- ∭
+    (codes "iint", Shows (Integral 0x222C)) ∷  -- ∬
+    (codes "imageof", Shows (Sign Relation 0x22B7)) ∷  -- ⊷
+    (codes "imath", Shows (Letter 0x0131)) ∷  -- ı
+    (codes "impliedby", Shows (Sign Relation 0x27F8)) ∷  -- ⟸
+    (codes "implies", Shows (Sign Relation 0x27F9)) ∷  -- ⟹
+    (codes "in", Shows (Sign Relation 0x2208)) ∷  -- ∈
+    (codes "inf", FunctionName ByStyle (codes "inf")) ∷
+    (codes "infty", Shows (Sign Ordinary 0x221E)) ∷  -- ∞
+    (codes "injlim", FunctionName ByStyle (words_apart (codes "inj") (codes "lim"))) ∷
+    (codes "int", Shows (Integral 0x222B)) ∷  -- ∫
+    (codes "intercal", Shows (Sign Binary 0x22BA)) ∷  -- ⊺
+    (codes "intop", Shows (BigOperator 0x222B)) ∷  -- ∫
+    (codes "iota", Shows (Letter 0x03B9)) ∷  -- ι
+    (codes "jmath", Shows (Letter 0x0237)) ∷  -- ȷ
+    (codes "jupiter", Shows (Sign Ordinary 0x2643)) ∷  -- ♃
+    (codes "kappa", Shows (Letter 0x03BA)) ∷  -- κ
+    (codes "ker", FunctionName Beside (codes "ker")) ∷
+    (codes "l", Shows (UprightLetter 0x0142)) ∷  -- ł
+    (codes "lVert", Shows (Sign Opening 0x2225)) ∷  -- ∥
+    (codes "lambda", Shows (Letter 0x03BB)) ∷  -- λ
+    (codes "land", Shows (Sign Binary 0x2227)) ∷  -- ∧
+    (codes "langle", Shows (Sign Opening 0x27E8)) ∷  -- ⟨
+    (codes "lbrace", Shows (Sign Opening 0x7B)) ∷  -- {
+    (codes "lbrack", Shows (Sign Opening 0x5B)) ∷  -- [
+    (codes "lceil", Shows (Sign Opening 0x2308)) ∷  -- ⌈
+    (codes "ldotp", Shows (Sign Punctuation 0x2E)) ∷  -- .
+    (codes "ldots", Shows (Sign Inner 0x2026)) ∷  -- …
+    (codes "le", Shows (Sign Relation 0x2264)) ∷  -- ≤
+    (codes "leadsto", Shows (Sign Relation 0x21DD)) ∷  -- ⇝
+    (codes "left", Left) ∷
+    (codes "leftarrow", Shows (Sign Relation 0x2190)) ∷  -- ←
+    (codes "leftarrowtail", Shows (Sign Relation 0x21A2)) ∷  -- ↢
+    (codes "leftharpoondown", Shows (Sign Relation 0x21BD)) ∷  -- ↽
+    (codes "leftharpoonup", Shows (Sign Relation 0x21BC)) ∷  -- ↼
+    (codes "leftleftarrows", Shows (Sign Relation 0x21C7)) ∷  -- ⇇
+    (codes "leftrightarrow", Shows (Sign Relation 0x2194)) ∷  -- ↔
+    (codes "leftrightarrows", Shows (Sign Relation 0x21C6)) ∷  -- ⇆
+    (codes "leftrightharpoons", Shows (Sign Relation 0x21CB)) ∷  -- ⇋
+    (codes "leftrightsquigarrow", Shows (Sign Relation 0x21AD)) ∷  -- ↭
+    (codes "leftthreetimes", Shows (Sign Binary 0x22CB)) ∷  -- ⋋
+    (codes "leq", Shows (Sign Relation 0x2264)) ∷  -- ≤
+    (codes "leqq", Shows (Sign Relation 0x2266)) ∷  -- ≦
+    (codes "leqslant", Shows (Sign Relation 0x2A7D)) ∷  -- ⩽
+    (codes "lessapprox", Shows (Sign Relation 0x2A85)) ∷  -- ⪅
+    (codes "lessdot", Shows (Sign Binary 0x22D6)) ∷  -- ⋖
+    (codes "lesseqgtr", Shows (Sign Relation 0x22DA)) ∷  -- ⋚
+    (codes "lesseqqgtr", Shows (Sign Relation 0x2A8B)) ∷  -- ⪋
+    (codes "lessgtr", Shows (Sign Relation 0x2276)) ∷  -- ≶
+    (codes "lesssim", Shows (Sign Relation 0x2272)) ∷  -- ≲
+    (codes "lfloor", Shows (Sign Opening 0x230A)) ∷  -- ⌊
+    (codes "lg", FunctionName Beside (codes "lg")) ∷
+    (codes "lgroup", Shows (Sign Opening 0x2997)) ∷  -- ⦗
+    (codes "lhd", Shows (Sign Binary 0x22B2)) ∷  -- ⊲
+    (codes "lightning", Shows (Sign Relation 0x21AF)) ∷  -- ↯
+    (codes "lim", FunctionName ByStyle (codes "lim")) ∷
+    (codes "liminf", FunctionName ByStyle (words_apart (codes "lim") (codes "inf"))) ∷
+    (codes "limits", Limits) ∷
+    (codes "limsup", FunctionName ByStyle (words_apart (codes "lim") (codes "sup"))) ∷
+    (codes "ll", Shows (Sign Relation 0x226A)) ∷  -- ≪
+    (codes "llbracket", Shows (Sign Opening 0x27E6)) ∷  -- ⟦
+    (codes "llcorner", Shows (Sign Opening 0x2514)) ∷  -- └
+    (codes "lll", Shows (Sign Relation 0x22D8)) ∷  -- ⋘
+    (codes "llless", Shows (Sign Relation 0x22D8)) ∷  -- ⋘
+    (codes "lmoustache", Shows (Sign Opening 0x23B0)) ∷  -- ⎰
+    (codes "ln", FunctionName Beside (codes "ln")) ∷
+    (codes "lnapprox", Shows (Sign Relation 0x2A89)) ∷  -- ⪉
+    (codes "lneq", Shows (Sign Relation 0x2A87)) ∷  -- ⪇
+    (codes "lneqq", Shows (Sign Relation 0x2268)) ∷  -- ≨
+    (codes "lnot", Shows (Sign Ordinary 0xAC)) ∷  -- ¬
+    (codes "lnsim", Shows (Sign Relation 0x22E6)) ∷  -- ⋦
+    (codes "log", FunctionName Beside (codes "log")) ∷
+    (codes "longleftarrow", Shows (Sign Relation 0x27F5)) ∷  -- ⟵
+    (codes "longleftrightarrow", Shows (Sign Relation 0x27F7)) ∷  -- ⟷
+    (codes "longmapsto", Shows (Sign Relation 0x27FC)) ∷  -- ⟼
+    (codes "longrightarrow", Shows (Sign Relation 0x27F6)) ∷  -- ⟶
+    (codes "looparrowleft", Shows (Sign Relation 0x21AB)) ∷  -- ↫
+    (codes "looparrowright", Shows (Sign Relation 0x21AC)) ∷  -- ↬
+    (codes "lor", Shows (Sign Binary 0x2228)) ∷  -- ∨
+    (codes "lozenge", Shows (Sign Ordinary 0x25CA)) ∷  -- ◊
+    (codes "lparen", Shows (Sign Opening 0x28)) ∷  -- (
+    (codes "lrcorner", Shows (Sign Closing 0x2518)) ∷  -- ┘
+    (codes "lt", Shows (Sign Relation 0x3C)) ∷  -- <
+    (codes "ltimes", Shows (Sign Binary 0x22C9)) ∷  -- ⋉
+    (codes "lvert", Shows (Sign Opening 0x2223)) ∷  -- ∣
+    []

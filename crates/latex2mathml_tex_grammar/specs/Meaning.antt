@@ -1,0 +1,75 @@
+-- What the name of a command means.
+use Rattle.std.specs.Prelude.{ℕ, ℤ, List, ◌∷◌, ◌++◌, Option}
+use Rattle.latex2mathml_tex_grammar.specs.Symbols.{Class, Style, Alphabet, Symbol}
+
+-- on which side of its base a mark stands
+pub data Side : Type 0 where
+  Above : Side
+  Below : Side
+
+-- whether an accent is as wide as its base
+pub data Width : Type 0 where
+  Stretching : Width
+  Rigid : Width
+
+-- whether a fraction has its bar, or parentheses around it
+pub data FractionRule : Type 0 where
+  Bar : FractionRule
+  NoBar : FractionRule
+
+-- the size of a delimiter
+pub data Size : Type 0 where
+  Big : Size
+  Bigger : Size
+  VeryBig : Size
+  Biggest : Size
+
+-- where the limits of an operator stand: beside it; in display style above and below it; above and below it, where the
+-- browser moves them beside it in text; always above and below it
+pub data LimitPlace : Type 0 where
+  Beside : LimitPlace
+  ByStyle : LimitPlace
+  Movable : LimitPlace
+  Stacked : LimitPlace
+
+pub data Meaning : Type 0 where
+  -- a character
+  Shows : Symbol → Meaning
+  -- the name of a function, as its bytes
+  FunctionName : LimitPlace → List ℕ → Meaning
+  -- a space, in eighteenths of an em
+  Spacing : ℤ → Meaning
+  -- its operand in an alphabet
+  Styled : Alphabet → Meaning
+  -- words, which may have an alphabet
+  Words : Option Alphabet → Meaning
+  -- a fraction, which may have a style of its own
+  Fraction : FractionRule → Option Style → Meaning
+  Root : Meaning
+  -- a mark on one operand
+  Accent : Side → ℕ → Width → Meaning
+  -- a brace, which takes scripts as labels
+  Brace : Side → ℕ → Meaning
+  -- a first operand above or below the second
+  Stack : Side → Meaning
+  -- a first operand above the second, which both are a relation
+  StackedRelation : Meaning
+  OperatorName : Meaning
+  -- a stroke through the relation that follows, and through an operand
+  Negation : Meaning
+  Slash : Meaning
+  -- a delimiter of this size and class
+  Sized : Size → Class → Meaning
+  -- delimiters around a formula and within it
+  Left : Meaning
+  Middle : Meaning
+  Right : Meaning
+  -- the limits of the operator before it
+  Limits : Meaning
+  NoLimits : Meaning
+  -- its operand as an atom of this class
+  Classed : Class → Meaning
+
+-- two words with a thin space between them, U+2009
+abbrev pub words_apart : List ℕ → List ℕ → List ℕ
+words_apart first second = first ++ (0xE2 ∷ 0x80 ∷ 0x89 ∷ second)

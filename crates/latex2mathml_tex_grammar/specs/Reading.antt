@@ -1,0 +1,269 @@
+-- Reading: what units come to, atoms or a refusal. The table of rules says what each unit begins; the relations here say
+-- how rules are read, and they are the same for every rule. White space in formulas is nothing.
+use Rattle.std.specs.Prelude.{◌≡◌, ℕ, IsTrue, IsFalse, List, [], ◌∷◌, ◌++◌, Option, Some, None}
+use Rattle.latex2mathml_tex_grammar.specs.{Atoms.Atom, Delimiters.delimiter_of}
+use Rattle.latex2mathml_tex_grammar.specs.Makes.{Core, core, number, divider, Scripts, no_scripts, scripted}
+use Rattle.latex2mathml_tex_grammar.specs.{Meaning.Beside, Next.past_space, Next.next_are, Next.digits_next, Next.refusal_here}
+use Rattle.latex2mathml_tex_grammar.specs.Refusal.{Kind, MissingArgument, UnclosedBrace, MissingDelimiter, Refusal, refusal_at}
+use Rattle.latex2mathml_tex_grammar.specs.Rules.{Context, in_context, styled, Ending, InBraces, InDollars, Rule, gives, refuses, reads_operand, reads_core, reads_atoms, reads_words, takes_if, takes_digits, takes_delimiter, rule}
+use Rattle.latex2mathml_tex_grammar.specs.Starts.{DividerStart, ScriptStart, RuleStart, NoStart, GroupStart, DigitStart, OtherStart, atom_start, operand_start, mark_of, GoesOn, TakesOperand, Twice, step_of_mark, step_next, empty_base, ends, unended, is_close}
+use Rattle.latex2mathml_tex_grammar.specs.Symbols.{InText, InScript, Alphabet}
+use Rattle.latex2mathml_tex_grammar.specs.Units.{Piece, Unit, Units, Next, End, Stop}
+use Rattle.latex2mathml_tex_grammar.specs.Words.{Word, Formula, IsWord, BeginsGroup, EndsGroup, BeginsFormula, TakesWords, NoWord, word_rule}
+
+-- what was read, with the units that are left, or the refusal
+pub data Outcome (A : Type 0) : Type 0 where
+  Read : A → Units → Outcome A
+  Refused : Refusal → Outcome A
+
+mutual
+  -- what the parts of a rule come to
+  pub data ReadsRule : Rule → Units → Outcome Core → Type 0 where
+    -- nothing more is read
+    rule_gives : {x : Core} {l : Units}
+        → ReadsRule (gives x) l (Read x l)
+    -- the formula is refused here
+    rule_refuses : {r : Refusal} {l : Units}
+        → ReadsRule (refuses r) l (Refused r)
+    -- the operand is read, and what follows it stands after
+    operand_read : {place : ℕ} {c : Context} {then : List Atom → Rule} {l m : Units} {xs : List Atom} {o : Outcome Core}
+        → ReadsOperand place c l (Read xs m)
+        → ReadsRule (then xs) m o
+        → ReadsRule (reads_operand place c then) l o
+    operand_refused : {place : ℕ} {c : Context} {then : List Atom → Rule} {l : Units} {r : Refusal}
+        → ReadsOperand place c l (Refused r)
+        → ReadsRule (reads_operand place c then) l (Refused r)
+    -- an atom without scripts is read, and what follows it stands after
+    core_read : {place : ℕ} {c : Context} {then : Core → Rule} {l m n : Units} {u : Unit} {x : Core} {o : Outcome Core}
+        → past_space l ≡ Next u m
+        → ReadsRule (rule u.place c u.piece) m (Read x n)
+        → ReadsRule (then x) n o
+        → ReadsRule (reads_core place c then) l o
+    core_refused : {place : ℕ} {c : Context} {then : Core → Rule} {l m : Units} {u : Unit} {r : Refusal}
+        → past_space l ≡ Next u m
+        → ReadsRule (rule u.place c u.piece) m (Refused r)
+        → ReadsRule (reads_core place c then) l (Refused r)
+    core_missing : {place at : ℕ} {c : Context} {then : Core → Rule} {l : Units}
+        → past_space l ≡ End at
+        → ReadsRule (reads_core place c then) l (Refused (refusal_at MissingArgument place))
+    core_stopped : {place : ℕ} {c : Context} {then : Core → Rule} {l : Units} {r : Refusal}
+        → past_space l ≡ Stop r
+        → ReadsRule (reads_core place c then) l (Refused r)
+    -- the atoms are read up to their ending, and what follows them stands after
+    atoms_read : {ending : Ending} {c : Context} {then : List Atom → Rule} {l m : Units} {xs : List Atom} {o : Outcome Core}
+        → ReadsAtoms ending c l (Read xs m)
+        → ReadsRule (then xs) m o
+        → ReadsRule (reads_atoms ending c then) l o
+    atoms_refused : {ending : Ending} {c : Context} {then : List Atom → Rule} {l : Units} {r : Refusal}
+        → ReadsAtoms ending c l (Refused r)
+        → ReadsRule (reads_atoms ending c then) l (Refused r)
+    -- the words are read, and what follows them stands after. White space before them is nothing.
+    words_read : {place : ℕ} {a : Option Alphabet} {then : List Word → Rule} {l m : Units} {ws : List Word} {o : Outcome Core}
+        → ReadsWord place a (past_space l) (Read ws m)
+        → ReadsRule (then ws) m o
+        → ReadsRule (reads_words place a then) l o
+    words_refused : {place : ℕ} {a : Option Alphabet} {then : List Word → Rule} {l : Units} {r : Refusal}
+        → ReadsWord place a (past_space l) (Refused r)
+        → ReadsRule (reads_words place a then) l (Refused r)
+    -- the units stand next, and the first rule goes on after them
+    units_taken : {tests : List (Piece → Option (List ℕ))} {then : List ℕ → Rule} {otherwise : Rule} {l m : Units} {texts : List ℕ} {o : Outcome Core}
+        → next_are tests l ≡ Some (texts, m)
+        → ReadsRule (then texts) m o
+        → ReadsRule (takes_if tests then otherwise) l o
+    -- they do not stand next, and the second rule goes on
+    units_missing : {tests : List (Piece → Option (List ℕ))} {then : List ℕ → Rule} {otherwise : Rule} {l : Units} {o : Outcome Core}
+        → next_are tests l ≡ None
+        → ReadsRule otherwise l o
+        → ReadsRule (takes_if tests then otherwise) l o
+    -- the digits that stand next are taken
+    digits_taken : {then : List ℕ → Rule} {l : Units} {o : Outcome Core}
+        → ReadsRule (then (digits_next l).0) (digits_next l).1 o
+        → ReadsRule (takes_digits then) l o
+    -- a delimiter stands next, and is taken
+    delimiter_taken : {then : List ℕ → Rule} {l m : Units} {sign_text : List ℕ} {o : Outcome Core}
+        → next_are (delimiter_of ∷ []) l ≡ Some (sign_text, m)
+        → ReadsRule (then sign_text) m o
+        → ReadsRule (takes_delimiter then) l o
+    delimiter_missing : {then : List ℕ → Rule} {l : Units}
+        → next_are (delimiter_of ∷ []) l ≡ None
+        → ReadsRule (takes_delimiter then) l (Refused (refusal_here MissingDelimiter (past_space l)))
+
+  -- what an operand comes to, where this place takes it: a group, one digit, or an atom without scripts
+  pub data ReadsOperand : ℕ → Context → Units → Outcome (List Atom) → Type 0 where
+    group_operand : {place : ℕ} {c : Context} {l m : Units} {u : Unit} {o : Outcome (List Atom)}
+        → past_space l ≡ Next u m
+        → operand_start u.piece ≡ GroupStart
+        → ReadsAtoms (InBraces u.place) c m o
+        → ReadsOperand place c l o
+    digit_operand : {place : ℕ} {c : Context} {l m : Units} {u : Unit} {digit : List ℕ}
+        → past_space l ≡ Next u m
+        → operand_start u.piece ≡ DigitStart digit
+        → ReadsOperand place c l (Read (number c.alphabet digit ∷ []) m)
+    other_operand : {place : ℕ} {c : Context} {l m n : Units} {u : Unit} {x : Core}
+        → past_space l ≡ Next u m
+        → operand_start u.piece ≡ OtherStart
+        → ReadsRule (rule u.place c u.piece) m (Read x n)
+        → ReadsOperand place c l (Read (x.atom ∷ []) n)
+    other_refused : {place : ℕ} {c : Context} {l m : Units} {u : Unit} {r : Refusal}
+        → past_space l ≡ Next u m
+        → operand_start u.piece ≡ OtherStart
+        → ReadsRule (rule u.place c u.piece) m (Refused r)
+        → ReadsOperand place c l (Refused r)
+    no_operand : {place : ℕ} {c : Context} {l m : Units} {u : Unit}
+        → past_space l ≡ Next u m
+        → operand_start u.piece ≡ NoStart
+        → ReadsOperand place c l (Refused (refusal_at MissingArgument place))
+    operand_at_end : {place at : ℕ} {c : Context} {l : Units}
+        → past_space l ≡ End at
+        → ReadsOperand place c l (Refused (refusal_at MissingArgument place))
+    operand_stopped : {place : ℕ} {c : Context} {l : Units} {r : Refusal}
+        → past_space l ≡ Stop r
+        → ReadsOperand place c l (Refused r)
+
+  -- what stands after an atom with these scripts comes to
+  pub data ReadsScripts : Context → Atom → Scripts → Units → Outcome Atom → Type 0 where
+    -- no mark stands next
+    scripts_end : {c : Context} {base : Atom} {scripts : Scripts} {l : Units}
+        → step_next scripts (past_space l) ≡ None
+        → ReadsScripts c base scripts l (Read (scripted c.style base scripts) l)
+    -- a mark, and those after it
+    mark_taken : {c : Context} {base : Atom} {scripts more : Scripts} {l m : Units} {u : Unit} {o : Outcome Atom}
+        → past_space l ≡ Next u m
+        → step_of_mark scripts (mark_of u.piece) ≡ Some (GoesOn more)
+        → ReadsScripts c base more m o
+        → ReadsScripts c base scripts l o
+    -- a mark with its operand, and those after it
+    script_read : {c : Context} {base : Atom} {scripts : Scripts} {with_operand : List Atom → Scripts} {l m n : Units} {u : Unit} {xs : List Atom} {o : Outcome Atom}
+        → past_space l ≡ Next u m
+        → step_of_mark scripts (mark_of u.piece) ≡ Some (TakesOperand with_operand)
+        → ReadsOperand u.place (styled c InScript) m (Read xs n)
+        → ReadsScripts c base (with_operand xs) n o
+        → ReadsScripts c base scripts l o
+    script_refused : {c : Context} {base : Atom} {scripts : Scripts} {with_operand : List Atom → Scripts} {l m : Units} {u : Unit} {r : Refusal}
+        → past_space l ≡ Next u m
+        → step_of_mark scripts (mark_of u.piece) ≡ Some (TakesOperand with_operand)
+        → ReadsOperand u.place (styled c InScript) m (Refused r)
+        → ReadsScripts c base scripts l (Refused r)
+    -- a second script
+    second_script : {c : Context} {base : Atom} {scripts : Scripts} {kind : Kind} {l m : Units} {u : Unit}
+        → past_space l ≡ Next u m
+        → step_of_mark scripts (mark_of u.piece) ≡ Some (Twice kind)
+        → ReadsScripts c base scripts l (Refused (refusal_at kind u.place))
+
+  -- what the atom comes to that this unit begins, before these units
+  pub data ReadsAtom : Ending → Context → Unit → Units → Outcome Atom → Type 0 where
+    divider_read : {ending : Ending} {c : Context} {u : Unit} {l m : Units} {x : Core}
+        → atom_start ending u.piece ≡ DividerStart
+        → ReadsRule (takes_delimiter (λ sign_text. gives (core (divider sign_text)))) l (Read x m)
+        → ReadsAtom ending c u l (Read x.atom m)
+    divider_refused : {ending : Ending} {c : Context} {u : Unit} {l : Units} {r : Refusal}
+        → atom_start ending u.piece ≡ DividerStart
+        → ReadsRule (takes_delimiter (λ sign_text. gives (core (divider sign_text)))) l (Refused r)
+        → ReadsAtom ending c u l (Refused r)
+    on_empty_row : {ending : Ending} {c : Context} {u : Unit} {l : Units} {o : Outcome Atom}
+        → atom_start ending u.piece ≡ ScriptStart
+        → ReadsScripts c empty_base (no_scripts Beside) (Next u l) o
+        → ReadsAtom ending c u l o
+    base_read : {ending : Ending} {c : Context} {u : Unit} {l m : Units} {x : Core} {o : Outcome Atom}
+        → atom_start ending u.piece ≡ RuleStart
+        → ReadsRule (rule u.place c u.piece) l (Read x m)
+        → ReadsScripts c x.atom (no_scripts x.limits) m o
+        → ReadsAtom ending c u l o
+    base_refused : {ending : Ending} {c : Context} {u : Unit} {l : Units} {r : Refusal}
+        → atom_start ending u.piece ≡ RuleStart
+        → ReadsRule (rule u.place c u.piece) l (Refused r)
+        → ReadsAtom ending c u l (Refused r)
+
+  -- what atoms side by side come to, up to their ending, which is taken
+  pub data ReadsAtoms : Ending → Context → Units → Outcome (List Atom) → Type 0 where
+    -- a formula that is the whole text ends with it
+    text_ends : {ending : Ending} {c : Context} {l : Units} {at : ℕ}
+        → past_space l ≡ End at
+        → unended ending ≡ None
+        → ReadsAtoms ending c l (Read [] (End at))
+    never_ended : {ending : Ending} {c : Context} {l : Units} {at : ℕ} {r : Refusal}
+        → past_space l ≡ End at
+        → unended ending ≡ Some r
+        → ReadsAtoms ending c l (Refused r)
+    atoms_stopped : {ending : Ending} {c : Context} {l : Units} {r : Refusal}
+        → past_space l ≡ Stop r
+        → ReadsAtoms ending c l (Refused r)
+    atoms_end : {ending : Ending} {c : Context} {l m : Units} {u : Unit}
+        → past_space l ≡ Next u m
+        → IsTrue (ends ending u.piece)
+        → ReadsAtoms ending c l (Read [] m)
+    -- an atom, and the atoms after it
+    atom_read : {ending : Ending} {c : Context} {l m n rest : Units} {u : Unit} {x : Atom} {xs : List Atom}
+        → past_space l ≡ Next u m
+        → IsFalse (ends ending u.piece)
+        → ReadsAtom ending c u m (Read x n)
+        → ReadsAtoms ending c n (Read xs rest)
+        → ReadsAtoms ending c l (Read (x ∷ xs) rest)
+    later_refused : {ending : Ending} {c : Context} {l m n : Units} {u : Unit} {x : Atom} {r : Refusal}
+        → past_space l ≡ Next u m
+        → IsFalse (ends ending u.piece)
+        → ReadsAtom ending c u m (Read x n)
+        → ReadsAtoms ending c n (Refused r)
+        → ReadsAtoms ending c l (Refused r)
+    atom_refused : {ending : Ending} {c : Context} {l m : Units} {u : Unit} {r : Refusal}
+        → past_space l ≡ Next u m
+        → IsFalse (ends ending u.piece)
+        → ReadsAtom ending c u m (Refused r)
+        → ReadsAtoms ending c l (Refused r)
+
+  -- what one part of words comes to, in an alphabet, where this place takes it. White space counts.
+  pub data ReadsWord : ℕ → Option Alphabet → Units → Outcome (List Word) → Type 0 where
+    word_stands : {place : ℕ} {a : Option Alphabet} {l : Units} {u : Unit} {w : Word}
+        → word_rule a u.piece ≡ IsWord w
+        → ReadsWord place a (Next u l) (Read (w ∷ []) l)
+    group_of_words : {place : ℕ} {a : Option Alphabet} {l : Units} {u : Unit} {o : Outcome (List Word)}
+        → word_rule a u.piece ≡ BeginsGroup
+        → ReadsWords u.place a l o
+        → ReadsWord place a (Next u l) o
+    formula_read : {place : ℕ} {a : Option Alphabet} {l m : Units} {u : Unit} {xs : List Atom}
+        → word_rule a u.piece ≡ BeginsFormula
+        → ReadsAtoms (InDollars u.place) (in_context InText None) l (Read xs m)
+        → ReadsWord place a (Next u l) (Read (Formula xs ∷ []) m)
+    formula_refused : {place : ℕ} {a : Option Alphabet} {l : Units} {u : Unit} {r : Refusal}
+        → word_rule a u.piece ≡ BeginsFormula
+        → ReadsAtoms (InDollars u.place) (in_context InText None) l (Refused r)
+        → ReadsWord place a (Next u l) (Refused r)
+    words_in_alphabet : {place : ℕ} {a b : Option Alphabet} {l : Units} {u : Unit} {o : Outcome (List Word)}
+        → word_rule a u.piece ≡ TakesWords b
+        → ReadsWord u.place b (past_space l) o
+        → ReadsWord place a (Next u l) o
+    no_word : {place : ℕ} {a : Option Alphabet} {l : Units} {u : Unit} {kind : Kind}
+        → word_rule a u.piece ≡ NoWord kind
+        → ReadsWord place a (Next u l) (Refused (refusal_at kind u.place))
+    word_missing : {place : ℕ} {a : Option Alphabet} {l : Units} {u : Unit}
+        → word_rule a u.piece ≡ EndsGroup
+        → ReadsWord place a (Next u l) (Refused (refusal_at MissingArgument place))
+    word_at_end : {place at : ℕ} {a : Option Alphabet}
+        → ReadsWord place a (End at) (Refused (refusal_at MissingArgument place))
+    word_stopped : {place : ℕ} {a : Option Alphabet} {r : Refusal}
+        → ReadsWord place a (Stop r) (Refused r)
+
+  -- what words side by side come to, up to their brace, which is taken, where they begin at this place
+  pub data ReadsWords : ℕ → Option Alphabet → Units → Outcome (List Word) → Type 0 where
+    words_end : {place : ℕ} {a : Option Alphabet} {l : Units} {u : Unit}
+        → IsTrue (is_close u.piece)
+        → ReadsWords place a (Next u l) (Read [] l)
+    words_never_ended : {place at : ℕ} {a : Option Alphabet}
+        → ReadsWords place a (End at) (Refused (refusal_at UnclosedBrace place))
+    words_stopped : {place : ℕ} {a : Option Alphabet} {r : Refusal}
+        → ReadsWords place a (Stop r) (Refused r)
+    -- a part, and the words after it
+    word_read : {place : ℕ} {a : Option Alphabet} {l m rest : Units} {u : Unit} {ws vs : List Word}
+        → IsFalse (is_close u.piece)
+        → ReadsWord place a (Next u l) (Read ws m)
+        → ReadsWords place a m (Read vs rest)
+        → ReadsWords place a (Next u l) (Read (ws ++ vs) rest)
+    later_word_refused : {place : ℕ} {a : Option Alphabet} {l m : Units} {u : Unit} {ws : List Word} {r : Refusal}
+        → IsFalse (is_close u.piece)
+        → ReadsWord place a (Next u l) (Read ws m)
+        → ReadsWords place a m (Refused r)
+        → ReadsWords place a (Next u l) (Refused r)
+    word_refused : {place : ℕ} {a : Option Alphabet} {l : Units} {u : Unit} {r : Refusal}
+        → IsFalse (is_close u.piece)
+        → ReadsWord place a (Next u l) (Refused r)
+        → ReadsWords place a (Next u l) (Refused r)

@@ -1,0 +1,141 @@
+-- How atoms, operands and scripts begin and end: what each unit is to them.
+use Rattle.std.specs.Prelude.{ℕ, suc, ◌==◌, ◌||◌, Bool, true, false, List, [], codes, Option, Some, None, if◌then◌else◌}
+use Rattle.std.specs.{Str.byte, Str.bytes_eq}
+use Rattle.latex2mathml_tex_grammar.specs.{Atoms.Atom, Atoms.Plain, Atoms.atom, Atoms.row_of, Makes.Scripts, Rules.a_digit}
+use Rattle.latex2mathml_tex_grammar.specs.Meaning.{LimitPlace, Beside, Stacked}
+use Rattle.latex2mathml_tex_grammar.specs.Refusal.{Kind, UnclosedBrace, UnclosedBracket, UnclosedDollar, LeftWithoutRight, SecondSubscript, SecondSuperscript, Refusal, refusal_at}
+use Rattle.latex2mathml_tex_grammar.specs.Rules.{Ending, WholeText, InBraces, InBrackets, InDollars, InDelimiters}
+use Rattle.latex2mathml_tex_grammar.specs.Symbols.{InText, Ordinary}
+use Rattle.latex2mathml_tex_grammar.specs.Units.{Piece, Open, Close, Command, Character, Units, Next, End, Stop}
+
+-- What ends atoms side by side
+
+abbrev pub is_command : List ℕ → Piece → Bool
+is_command name (Command other) = bytes_eq name other
+is_command name piece = false
+
+abbrev pub is_character : ℕ → Piece → Bool
+is_character c (Character d) = c == d
+is_character c piece = false
+
+abbrev pub is_close : Piece → Bool
+is_close Close = true
+is_close piece = false
+
+-- whether the unit is the ending
+abbrev pub ends : Ending → Piece → Bool
+ends WholeText piece = false
+ends (InBraces place) piece = is_close piece
+ends (InBrackets place) piece = is_character (byte "]") piece
+ends (InDollars place) piece = is_character (byte "$") piece
+ends (InDelimiters place) piece = is_command (codes "right") piece
+
+-- why atoms are refused whose ending does not come, where there is to be one
+abbrev pub unended : Ending → Option Refusal
+unended WholeText = None
+unended (InBraces place) = Some (refusal_at UnclosedBrace place)
+unended (InBrackets place) = Some (refusal_at UnclosedBracket place)
+unended (InDollars place) = Some (refusal_at UnclosedDollar place)
+unended (InDelimiters place) = Some (refusal_at LeftWithoutRight place)
+
+-- Atoms and operands begin with a unit
+
+-- how an atom begins
+pub data AtomStart : Type 0 where
+  -- with a delimiter within others
+  DividerStart : AtomStart
+  -- with a script or a prime, which stands on an empty row
+  ScriptStart : AtomStart
+  -- with what has a rule
+  RuleStart : AtomStart
+
+-- how an operand begins
+pub data OperandStart : Type 0 where
+  -- no operand begins with the unit
+  NoStart : OperandStart
+  GroupStart : OperandStart
+  -- with a digit, which is all of it
+  DigitStart : List ℕ → OperandStart
+  OtherStart : OperandStart
+
+-- what goes on with an atom: a prime, a script, or where its limits are to stand
+pub data Mark : Type 0 where
+  Prime : Mark
+  Below : Mark
+  Above : Mark
+  LimitsAt : LimitPlace → Mark
+
+abbrev pub mark_of : Piece → Option Mark
+mark_of (Character c) =
+    if c == byte "'" then Some Prime
+    else if c == byte "_" then Some Below
+    else if c == byte "^" then Some Above
+    else None
+mark_of (Command name) =
+    if bytes_eq name (codes "limits") then Some (LimitsAt Stacked)
+    else if bytes_eq name (codes "nolimits") then Some (LimitsAt Beside)
+    else None
+mark_of piece = None
+
+abbrev pub start_of_mark : Option Mark → AtomStart
+start_of_mark (Some Prime) = ScriptStart
+start_of_mark (Some Below) = ScriptStart
+start_of_mark (Some Above) = ScriptStart
+start_of_mark (Some (LimitsAt place)) = RuleStart
+start_of_mark None = RuleStart
+
+-- how the atom begins that this unit begins, among atoms with this ending
+abbrev pub atom_start : Ending → Piece → AtomStart
+atom_start (InDelimiters place) piece = if is_command (codes "middle") piece then DividerStart else start_of_mark (mark_of piece)
+atom_start ending piece = start_of_mark (mark_of piece)
+
+-- what ends atoms, or goes on with one, is no operand
+abbrev pub is_no_operand : Piece → Bool
+is_no_operand piece =
+    is_close piece || is_character (byte "&") piece || is_character (byte "_") piece || is_character (byte "^") piece || is_character (byte "'") piece
+    || is_command (codes "\\") piece || is_command (codes "right") piece || is_command (codes "middle") piece || is_command (codes "limits") piece || is_command (codes "nolimits") piece
+
+abbrev pub is_open : Piece → Bool
+is_open Open = true
+is_open piece = false
+
+abbrev pub start_of_digit : Option (List ℕ) → OperandStart
+start_of_digit (Some digit) = DigitStart digit
+start_of_digit None = OtherStart
+
+abbrev pub operand_start : Piece → OperandStart
+operand_start piece =
+    if is_no_operand piece then NoStart
+    else if is_open piece then GroupStart
+    else start_of_digit (a_digit piece)
+
+-- Scripts
+
+-- what a mark does after an atom with these scripts
+pub data Step : Type 0 where
+  GoesOn : Scripts → Step
+  TakesOperand : (List Atom → Scripts) → Step
+  Twice : Kind → Step
+
+abbrev pub step_of : Scripts → Option (List Atom) → Option (List Atom) → Mark → Step
+step_of scripts below (Some xs) Prime = Twice SecondSuperscript
+step_of scripts below None Prime = GoesOn (record scripts { primes = suc scripts.primes })
+step_of scripts (Some xs) above Below = Twice SecondSubscript
+step_of scripts None above Below = TakesOperand (λ xs. record scripts { below = Some xs })
+step_of scripts below (Some xs) Above = Twice SecondSuperscript
+step_of scripts below None Above = TakesOperand (λ xs. record scripts { above = Some xs })
+step_of scripts below above (LimitsAt place) = GoesOn (record scripts { limits = place })
+
+-- the step of the unit that stands next, where it is a mark
+abbrev pub step_of_mark : Scripts → Option Mark → Option Step
+step_of_mark scripts None = None
+step_of_mark scripts (Some mark) = Some (step_of scripts scripts.below scripts.above mark)
+
+abbrev pub step_next : Scripts → Units → Option Step
+step_next scripts (Next u us) = step_of_mark scripts (mark_of u.piece)
+step_next scripts (End place) = None
+step_next scripts (Stop refusal) = None
+
+-- the row that scripts stand on where no atom is before them
+abbrev pub empty_base : Atom
+empty_base = atom (Plain Ordinary) false (row_of InText [])
