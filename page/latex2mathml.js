@@ -31,7 +31,9 @@ var latex2mathml = latex2mathml ?? (() => {
     };
     // Browsers stretch these to the tallest thing beside them where the markup does not say otherwise.
     const UPRIGHT = [...'()[]{}|‖∣∥⟨⟩⌈⌉⌊⌋⦗⦘⟦⟧↑↓↕⇑⇓⇕↿↾⇃⇂⇈⇊↰↱'];
-    const CENTRED = {'-': '−', '*': '∗'};
+    // Signs as TeX draws them, and accents over one letter, which browsers draw as wide as several.
+    const DRAWN = {'-': '−', '*': '∗', "'": '′'};
+    const NARROW = {'^': 'ˆ', '~': '˜'};
 
     // TeX's classes of what stands in a row. A MARK is a relation between two operands, and ordinary elsewhere.
     const [ORDINARY, OPERATOR, BINARY, RELATION, OPENING, CLOSING, PUNCTUATION, INNER, MIDDLE, MARK] = Array(10).keys();
@@ -84,7 +86,7 @@ var latex2mathml = latex2mathml ?? (() => {
     // A bracket that has attributes is one whose program said how it is drawn.
     function mendSign(sign) {
         if (UPRIGHT.includes(sign.textContent) && !sign.hasAttributes()) sign.setAttribute('stretchy', 'false');
-        if (sign.textContent in CENTRED) sign.textContent = CENTRED[sign.textContent];
+        if (sign.textContent in DRAWN) sign.textContent = DRAWN[sign.textContent];
     }
 
     // An accent is said of the sign; browsers ask the element around it. A line is drawn as long as what it covers.
@@ -92,6 +94,10 @@ var latex2mathml = latex2mathml ?? (() => {
         const around = sign.parentElement;
         around.setAttribute(around.localName === 'mover' ? 'accent' : 'accentunder', 'true');
         if (sign.textContent === '_') around.classList.add('latex2mathml-line');
+        if (sign.textContent in NARROW && [...around.firstElementChild.textContent].length === 1) {
+            sign.textContent = NARROW[sign.textContent];
+            sign.setAttribute('stretchy', 'false');
+        }
     }
 
     // What gives an element its class: its base, where it has scripts or limits, and the sign in it, where it has a size.

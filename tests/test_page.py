@@ -134,6 +134,61 @@ def classes():
     return cases
 
 
+# A member of each class of TeX.
+MEMBERS = {
+    "ordinary": "c",
+    "operator": r"\sum",
+    "binary": "+",
+    "relation": "=",
+    "opening": "(",
+    "closing": ")",
+    "punctuation": ",",
+    "inner": r"\ldots",
+}
+
+COMMANDS = {"0": "", "1": r"\,", "2": r"\:", "3": r"\;"}
+
+
+def cells():
+    """A case for each cell of table.txt in a line and in a script: two neighbours between two letters. As for `spaces`."""
+    between, cases = spaces_between(), []
+    for left, right in between:
+        row = ["ordinary", left, right, "ordinary"]
+        plain = " ".join(MEMBERS[kind] for kind in row)
+        name = f"table.txt: {left} before {right}"
+        cases.append((name, f"${plain}$", f"${write_out(row, between, in_script=False)}$"))
+        cases.append((f"{name}, in a script", f"$x^{{{plain}}}$", f"$x^{{{write_out(row, between, in_script=True)}}}$"))
+    return cases
+
+
+def spaces_between():
+    """The cells of table.txt, by the classes of both neighbours."""
+    (*columns,), *rows = [line.split() for line in data("table.txt") if line and not line.startswith("# ")]
+    return {(left, right): cell for left, *row in rows for right, cell in zip(columns, row, strict=True)}
+
+
+def write_out(row, between, in_script):
+    """A formula of a member of each class, with TeX's spaces."""
+    classes = settle(row)
+    written = MEMBERS[row[0]]
+    for kind, left, right in zip(row[1:], classes, classes[1:]):
+        cell = between[left, right]
+        space = "0" if in_script and cell.startswith("(") else cell.strip("()")
+        written += f" {COMMANDS[space]} {MEMBERS[kind]}"
+    return written
+
+
+def settle(row):
+    """The classes as TeX changes them: a binary sign is ordinary at an end, and beside what is no operand of it."""
+    classes = list(row)
+    for place, kind in enumerate(classes):
+        before, behind = (["end", *classes][place], [*classes, "end"][place + 1])
+        if kind == "binary" and (before in {"end", "binary", "operator", "relation", "opening", "punctuation"}
+                                 or behind in {"end", "relation", "closing", "punctuation"}):
+            classes[place] = "ordinary"
+    return classes
+
+
 def data(name):
     return (PAGES / name).read_text().splitlines()
 
@@ -161,7 +216,7 @@ def build_site(site):
     shutil.copytree(PAGES, site, dirs_exist_ok=True)
     shutil.copytree(support.ROOT / "page", site / "page")
     insert(site / "spaces.html", [f'<div title="{html.escape(name)}">\n<p>{formula}</p>\n<p>{spaced}</p>\n</div>'
-                                  for name, formula, spaced in [*spaces(), *classes()]])
+                                  for name, formula, spaced in [*spaces(), *classes(), *cells()]])
     insert(site / "signs.html", [f'<p title="{html.escape(sign)}">${sign} x$ ${sign} {TALL}$</p>' for sign in signs()])
     done = support.run([support.program(), "html", site])
     assert done.returncode == 0, done.stderr.decode()
