@@ -12,7 +12,7 @@ TABLE = ROOT / "docs/WRONG_BODIES.md"
 
 # The crates whose public calls are promises: the library, the program and the library for C.
 PROMISING = (
-    "latex2mathml_tokens", "latex2mathml_trees", "latex2mathml_nodes", "latex2mathml_formulas", "latex2mathml", "latex2mathml_app", "latex2mathml_c",
+    "latex2mathml_tokens", "latex2mathml_trees", "latex2mathml_nodes", "latex2mathml_formulas", "latex2mathml", "latex2mathml_program", "latex2mathml_c",
 )
 
 MOST = 110

@@ -1,6 +1,15 @@
--- The entries that the system gives of a directory: their names, and how many could not be read.
+-- What the system gives of a path and of a directory: the kind of what stands there, the names of its entries, and how many could
+-- not be read.
 use Rattle.std.specs.Prelude.{ℕ, ◌+◌, List, [], ◌∷◌, Result, Ok, Err}
-use Rattle.std.specs.{Fs.dir_entry_name, declared.fs.dir.DirEntry.DirEntry}
+use Rattle.std.specs.{Fs.IsDir, Fs.IsFile, Fs.dir_entry_name, declared.fs.dir.DirEntry.DirEntry, declared.fs.FileType.FileType}
+use Rattle.latex2mathml.specs.declared.files.site.PathKind.{PathKind}
+use Rattle.latex2mathml.specs.declared.files.site.PathKind.TheVariants.{Directory, File, Other}
+
+-- the kind of what the system says is of this type
+abbrev pub IsKind : FileType → PathKind → Type 0
+IsKind found Directory = IsDir found
+IsKind found File = IsFile found
+IsKind found Other = ¬ (IsDir found) × ¬ (IsFile found)
 
 module _ {R A F D E : Type 0} where
   abbrev pub names_of : List (Result (DirEntry R A F D) E) → List (List ℕ)

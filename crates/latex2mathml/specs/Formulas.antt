@@ -1,6 +1,6 @@
 -- The words of a formula's promise: its rendering, its refusal, and the laws of both.
 unfoldable pub use Rattle.latex2mathml_formulas.specs.Rendering.{IsRendering, IsFormulaRefusal}
-pub use Rattle.latex2mathml_formulas.specs.RenderingLaws.{RendersElements, RendersDollarFree, IsNeverForDollars, HasOneRendering, RenderingsHold}
+pub use Rattle.latex2mathml_formulas.specs.RenderingLaws.{RendersElements, RendersDollarFree, IsNeverForDollars, HasOneRendering, ReadsNoArgument, RenderingsHold}
 pub use Rattle.latex2mathml_formulas.specs.TokenLists.{HasOneTokenList, TextHasOneReading}
 pub use Rattle.latex2mathml_formulas.specs.Laws.{HasOneReading, IsSliced, IsReadBySlices, IsRefusedBySlices}
 pub use Rattle.latex2mathml_formulas.specs.Places.{HasPlaces, SpaceChangesNothing}

@@ -5,10 +5,8 @@
 ghost use Rattle.std.specs.Prelude.{◌≡◌, IfErr};
 ghost use Rattle.std.specs.IoError.{error_kind};
 
-mod job;
-mod serve;
-
 use latex2mathml::{Disk, LatexError, Stream};
+use latex2mathml_program::serve;
 use std::io::{ErrorKind, Write};
 use std::process::ExitCode;
 use std::{env, io};
@@ -34,7 +32,7 @@ fn main(rt: HostRuntime) -> ExitCode {
     let mut output = Stream::new(rt.stdout());
     let mut errors = Stream::new(rt.stderr());
     let alloc = rt.alloc();
-    let status = serve::serve(
+    let status = serve(
         &mut Disk { rt: &rt, alloc },
         alloc,
         words.as_slice(),

@@ -1,14 +1,19 @@
 //! Each example caller once, with memory to spare.
-use latex2mathml::{DisplayStyle, Stream};
+use latex2mathml::ast::Node;
+use latex2mathml::attribute::Variant;
+use latex2mathml::{Disk, DisplayStyle, Stream};
 use latex2mathml_uses::build::{built_twice, rewrite, template};
 use latex2mathml_uses::cache::Cache;
 use latex2mathml_uses::insert::{article, blank, insert, quotation};
+use latex2mathml_uses::made::{formula, fraction};
 use latex2mathml_uses::page::{paragraph, show};
 use latex2mathml_uses::put::put;
 use latex2mathml_uses::refusal::{Mistake, in_document, in_formula};
+use latex2mathml_uses::restyle::restyle;
+use latex2mathml_uses::site::publish;
 use latex2mathml_uses::symbol::symbol;
 use latex2mathml_uses::wiki::{convert, ends_open, join};
-use latex2mathml_uses::{check, limit};
+use latex2mathml_uses::{budget, check, limit, lines, tokens};
 use std::test::Fail;
 
 #[test]
@@ -152,5 +157,61 @@ fn what_is_to_be_mended(rt: HostRuntime) -> Result<(), Fail> {
 fn what_is_within_a_limit(rt: HostRuntime) -> Result<(), Fail> {
     assert!(rt; limit::convert(rt.alloc(), "x+1", DisplayStyle::Inline, 3)?.is_some());
     assert!(rt; limit::convert(rt.alloc(), "x+1", DisplayStyle::Inline, 2)?.is_none());
+    Ok(())
+}
+
+#[test]
+fn what_is_within_a_budget(rt: HostRuntime) -> Result<(), Fail> {
+    let is_within = match budget::convert(rt.alloc(), "\\pi", DisplayStyle::Inline, 3) {
+        Some((answer, steps)) => answer.is_ok() && steps.tokens == 1,
+        None => false,
+    };
+    assert!(rt; is_within);
+    assert!(rt; budget::convert(rt.alloc(), "\\pi", DisplayStyle::Inline, 2).is_none());
+    Ok(())
+}
+
+#[test]
+fn a_formula_over_two_lines(rt: HostRuntime) -> Result<(), Fail> {
+    let markup = lines::convert(rt.alloc(), "x", "y", DisplayStyle::Inline)?;
+    assert!(rt;
+        markup.as_str()
+            == "<math xmlns=\"http://www.w3.org/1998/Math/MathML\" display=\"inline\"><mi>x</mi><mi>y</mi></math>"
+    );
+    Ok(())
+}
+
+#[test]
+fn how_many_tokens_there_are(rt: HostRuntime) -> Result<(), Fail> {
+    assert!(rt; tokens::count(rt.alloc(), "x + \\pi")? == 3);
+    assert!(rt; tokens::count(rt.alloc(), "{x").is_err());
+    Ok(())
+}
+
+#[test]
+fn a_fraction_made_by_hand(rt: HostRuntime) -> Result<(), Fail> {
+    let alloc = rt.alloc();
+    let numerator = String::from_str(alloc, "a<b")?;
+    let denominator = String::from_str(alloc, "c")?;
+    let element = fraction(alloc, numerator, denominator)?;
+    assert!(rt; element.as_str() == "<mfrac><mtext>a&lt;b</mtext><mtext>c</mtext></mfrac>");
+    let markup = formula(alloc, &Node::Letter('x', Variant::Italic))?;
+    assert!(rt; markup.as_str() == "<math><mi>x</mi></math>");
+    Ok(())
+}
+
+#[test]
+fn a_node_that_is_restyled(rt: HostRuntime) -> Result<(), Fail> {
+    let mut node = Node::Letter('x', Variant::Italic);
+    assert!(rt; restyle(rt.alloc(), &mut node, Variant::Bold)?);
+    assert!(rt; !restyle(rt.alloc(), &mut node, Variant::Bold)?);
+    assert!(rt; node == Node::Letter('x', Variant::Bold));
+    Ok(())
+}
+
+#[test]
+fn a_site_where_nothing_stands(rt: HostRuntime) -> Result<(), Fail> {
+    let alloc = rt.alloc();
+    assert!(rt; publish(&mut Disk { rt: &rt, alloc }, alloc, "none.html")?);
     Ok(())
 }

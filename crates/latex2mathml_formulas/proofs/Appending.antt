@@ -1,7 +1,7 @@
 -- The nodes of a formula, read and printed one after another.
 use Rattle.std.proofs.Common.{◌≡◌, ℕ, ◌<◌, Option, List, [], ◌∷◌, ◌++◌, length, None, refl, sym, ap, subst, ◌∙◌, append_assoc, append-nil, codes}
 use Rattle.std.proofs.lemmas.Option.{IfSome_then}
-use Rattle.latex2mathml_formulas.specs.Counts.{AreNodes, IsRefusedWithin, no_node, one_more}
+use Rattle.latex2mathml_formulas.specs.Counts.{ReadsNodes, IsRefusedWithin, none_read, one_more}
 use Rattle.latex2mathml_formulas.specs.{Frames.inside, Levels.Made, Levels.RuleLeads, Marks.MarkStands, declared.parse.frames.Frame.Frame}
 use Rattle.latex2mathml_formulas.specs.Grammar.{core, first, gives, rule, node, Read, Refused, Reads, ReadsAll, formula_ends, member_read, later_refused, member_refused, ReadsFormula, Refuses}
 use Rattle.latex2mathml_formulas.specs.Rendering.{math_print}
@@ -12,13 +12,13 @@ use Rattle.latex2mathml_formulas.specs.declared.reader.mark.Mark.{Mark}
 use Rattle.latex2mathml_formulas.proofs.{Levels.lone_node, Stacks.token_begun}
 
 -- the prints of nodes that were read
-abbrev pub printed : {ts l : List Tok} → AreNodes ts l → List ℕ
-printed no_node = []
+abbrev pub printed : {ts l : List Tok} → ReadsNodes ts l → List ℕ
+printed none_read = []
 printed (one_more {x = x} are d) = printed are ++ print x
 
 -- Nodes of the formula were read, down to the tokens that are left, and their prints stand after what was there.
 pub record Appends (input place : List Tok) (old new : List ℕ) : Type 0 where
-  pub are : AreNodes input place
+  pub are : ReadsNodes input place
   pub text : new ≡ old ++ printed are
 
 -- one more node is read and printed
@@ -30,8 +30,8 @@ one_node {place = t ∷ ts} {old = old} {x = x} stands d e so_far = record {
 }
 
 -- the nodes, and those that are read of the tokens that are left
-all_read : {input place : List Tok} (are : AreNodes input place) {xs : List Tree} → ReadsAll None place (Read xs []) → (ys : List Tree) × ReadsAll None input (Read ys []) × (printed are ++ prints (trees_of xs) ≡ prints (trees_of ys))
-all_read no_node {xs} ds = (xs, ds, refl)
+all_read : {input place : List Tok} (are : ReadsNodes input place) {xs : List Tree} → ReadsAll None place (Read xs []) → (ys : List Tree) × ReadsAll None input (Read ys []) × (printed are ++ prints (trees_of xs) ≡ prints (trees_of ys))
+all_read none_read {xs} ds = (xs, ds, refl)
 all_read (one_more {x = x} are d) {xs} ds =
     let whole = all_read are (member_read (λ e. cc) d ds) in
     (whole.0, whole.1, append_assoc (printed are) (print x) (prints (trees_of xs)) ∙ whole.2)
@@ -45,8 +45,8 @@ finished {place = place} display old opened is none so_far closed =
     (all.0, all.1, simp (closed, so_far.text, opened, is, nodes, append_assoc))
 
 -- where the nodes end in a refusal, the formula is refused
-refused_behind : {input place : List Tok} {r : Refusal} → AreNodes input place → ReadsAll None place (Refused r) → ReadsAll None input (Refused r)
-refused_behind no_node ds = ds
+refused_behind : {input place : List Tok} {r : Refusal} → ReadsNodes input place → ReadsAll None place (Refused r) → ReadsAll None input (Refused r)
+refused_behind none_read ds = ds
 refused_behind (one_more are d) ds = refused_behind are (later_refused (λ e. cc) d ds)
 
 one_refused : {place ts : List Tok} {t : Tok} {r : Refusal} → place ≡ t ∷ ts → Reads node place (Refused r) → ReadsAll None place (Refused r)

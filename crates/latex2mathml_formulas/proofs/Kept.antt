@@ -9,7 +9,7 @@ use Rattle.latex2mathml_trees.specs.Productions.{environment_tree, fence_of, mat
 use Rattle.latex2mathml_trees.specs.Tree.{Tree, Trees, row, no_trees, more_trees, trees_of}
 use Rattle.latex2mathml_formulas.specs.{Dollars.IsDollarFree, Dollars.free_both, Rendering.IsFormulaRefusal, Rendering.IsRendering}
 use Rattle.latex2mathml_formulas.specs.Grammar.{environment, with_fence, Sort, Rule, gives, refuses, reads_part, reads_members, reads_sign, takes_token, sees_token, takes_letters, rule, Outcome, Read, Refused, first_or_end, AreLetters, Reads, core_at_end, core_begun, single_read, node_read, ReadsRule, rule_gives, rule_refuses, part_read, part_refused, members_read, members_refused, sign_stands, sign_missing, token_taken, token_at_end, token_seen, letters_taken, ReadsAll, formula_ends, group_ends, never_closed, member_read, later_refused, member_refused, Refuses, ReadsFormula}
-use Rattle.latex2mathml_formulas.specs.{RenderingLaws.IsNeverForDollars, RenderingLaws.RendersDollarFree, Spelling.HasTokens}
+use Rattle.latex2mathml_formulas.specs.{RenderingLaws.IsNeverForDollars, RenderingLaws.ReadsNoArgument, RenderingLaws.RendersDollarFree, Spelling.HasTokens}
 use Rattle.latex2mathml_tokens.specs.{Refusal.InvalidNumberOfDollarSigns, declared.attribute.Variant.Variant}
 use Rattle.latex2mathml_tokens.specs.Tok.{Tok, EOF, Begin, LBrace, Left, Right, Middle, Sqrt, Style, Big, Binom}
 use Rattle.latex2mathml_tokens.specs.declared.attribute.ColumnAlign.TheVariants as align
@@ -117,6 +117,10 @@ mutual
 pub reading_is_kept : (text : List ℕ) (ts : List Tok) (xs : List Tree) → HasTokens None text ts → ReadsFormula ts xs → AreKept (trees_of xs)
 unfolding ReadsFormula
 reading_is_kept text ts xs h d = (read_all d (free_tokens None text ts h)).0
+
+-- in a reading of a formula no function has an argument
+pub no_argument : (text : List ℕ) → ReadsNoArgument text
+no_argument text ts xs h d = (reading_is_kept (chars text) ts xs h d).0
 
 -- no rendering of a formula holds a dollar sign
 pub dollar_free : (text : List ℕ) → RendersDollarFree text

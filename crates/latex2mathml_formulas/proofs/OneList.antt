@@ -8,7 +8,7 @@ use Rattle.latex2mathml_formulas.proofs.{Passing.each, FirstSlices.parted, First
 use Rattle.latex2mathml_tokens.specs.{Among.is_among, Commands.command_token}
 use Rattle.latex2mathml_formulas.specs.Cutting.{slice, slices_within, slices_of}
 use Rattle.latex2mathml_formulas.specs.{Lexing.BeginsWith, Lexing.BeginsWithNumber, Lexing.IsLongestRun, TokenLists.HasOneTokenList}
-use Rattle.latex2mathml_formulas.specs.Spelling.{Slice, IsStep, HasSlices, HasTokens, takes_digit, is_period, is_equals_sign, character_token, character, colon, colon_equals, number, digit, symbol_command, letter_command, lone_backslash}
+use Rattle.latex2mathml_formulas.specs.Spelling.{Slice, IsFirstSlice, HasSlices, HasTokens, takes_digit, is_period, is_equals_sign, character_token, character, colon, colon_equals, number, digit, symbol_command, letter_command, lone_backslash}
 use Rattle.latex2mathml_tokens.specs.Tok.{Tok, Number, Command, Paren, Operator}
 use Rattle.latex2mathml_formulas.proofs.Spellings.{digits_alone, digits_with_period, only_space}
 use Rattle.latex2mathml_formulas.proofs.Tokenizing.{Dark, spells_dark, step_shortens}
@@ -77,7 +77,7 @@ within zero takes text run h = absurd (omega arith)
 within (suc n) takes text (space, [], run) h = ([], only_space text space [] run refl)
 within (suc n) takes text (space, c ∷ cs, run) h =
     let (t, rest, (w, e, spells)) = begun (takes && is_empty space) c cs run.2 in
-    let step : IsStep takes text (slice w t) rest = (space, run.0 ∙ ap (λ s. space ++ s) e, run.1, spells) in
+    let step : IsFirstSlice takes text (slice w t) rest = (space, run.0 ∙ ap (λ s. space ++ s) e, run.1, spells) in
     let more = within n (takes_digit (Some t)) rest (split is_space rest) (omega (arith, step_shortens takes text rest (slice w t) step)) in
     (slice w t ∷ more.0, (rest, step, more.1))
 
@@ -106,7 +106,7 @@ cut takes text =
     subst (HasSlices takes text) (sym (one_cut takes text some.0 some.1)) some.1
 
 -- what a step takes from the slices that are left
-pub cut_step : (takes : Bool) (text : List ℕ) (s : Slice) (rest : List ℕ) → IsStep takes text s rest → slices_of takes text ≡ s ∷ slices_of (takes_digit (Some s.token)) rest
+pub cut_step : (takes : Bool) (text : List ℕ) (s : Slice) (rest : List ℕ) → IsFirstSlice takes text s rest → slices_of takes text ≡ s ∷ slices_of (takes_digit (Some s.token)) rest
 cut_step takes text s rest step = one_cut takes text (s ∷ slices_of (takes_digit (Some s.token)) rest) (rest, step, cut (takes_digit (Some s.token)) rest)
 
 pub some_list : (p : Option Tok) (text : List ℕ) → (ts : List Tok) × HasTokens p text ts

@@ -6,7 +6,7 @@ use Rattle.latex2mathml_formulas.specs.Rendering.{IsRendering, IsFormulaRefusal,
 use Rattle.latex2mathml_formulas.specs.{RenderingLaws.HasOneRendering, RenderingLaws.RenderingsHold, Spelling.HasTokens}
 use Rattle.latex2mathml_tokens.specs.{Tok.Tok, declared.DisplayStyle.DisplayStyle}
 use Rattle.latex2mathml_trees.specs.Tree.{Tree}
-use Rattle.latex2mathml_formulas.proofs.{Kept.dollar_free, Kept.never_dollars, MathElements.rendering_is_math}
+use Rattle.latex2mathml_formulas.proofs.{Kept.dollar_free, Kept.never_dollars, Kept.no_argument, MathElements.rendering_is_math}
 use Rattle.latex2mathml_formulas.proofs.{OneList.at_most_one, OneList.some_list, Total.has_one_reading, Unique.one_all}
 
 -- two token lists of a text come to one outcome
@@ -31,5 +31,6 @@ renderings_hold = record {
   elements = rendering_is_math;
   dollar_free = dollar_free;
   one_rendering = has_one_rendering;
+  no_argument = no_argument;
   never_for_dollars = never_dollars;
 }

@@ -7,7 +7,7 @@ use Rattle.std.specs.Str.{byte, chars, IsUtf8}
 use Rattle.latex2mathml_formulas.specs.Characters.{head, is_space}
 use Rattle.latex2mathml_formulas.specs.{Counts.backslash_count, Counts.backslashes, Counts.begins_with_backslash, Cutting.slice, Cutting.slices_of, Grammar.first_or_end}
 use Rattle.latex2mathml_formulas.specs.{Lexing.BeginsWith, Lexing.IsLongestRun, Lexing.IsStart, Marks.rest_of}
-use Rattle.latex2mathml_formulas.specs.Spelling.{Slice, SpellsAt, IsStep, begins_longer, character_token, takes_digit}
+use Rattle.latex2mathml_formulas.specs.Spelling.{Slice, SpellsAt, IsFirstSlice, begins_longer, character_token, takes_digit}
 use Rattle.latex2mathml_formulas.specs.Unread.{Takes, unread_in, token_list}
 use Rattle.latex2mathml_tokens.specs.Tok.{Tok, EOF}
 use Rattle.latex2mathml_formulas.proofs.{Fronts.no_characters, Spellings.one_character, Spellings.only_space}
@@ -24,7 +24,7 @@ starts_behind takes text c after start e light (space, run) =
     (c ∷ space, (e ∙ ap (λ k. c ∷ k) run.0, All-cons (λ x. is_space x ≡ true) c space light run.1, run.2), sym (and_right takes false refl))
 
 -- the first slice of a text, from where it starts
-pub step_from : (takes alone : Bool) (text start : List ℕ) (t : Tok) (rest : List ℕ) → IsStart takes text start alone → (begins : BeginsWith alone start t rest) → IsStep takes text (slice begins.0 t) rest
+pub step_from : (takes alone : Bool) (text start : List ℕ) (t : Tok) (rest : List ℕ) → IsStart takes text start alone → (begins : BeginsWith alone start t rest) → IsFirstSlice takes text (slice begins.0 t) rest
 step_from takes alone text start t rest (space, run, e) begins =
     (space, run.0 ∙ ap (λ s. space ++ s) begins.1, run.1, subst (λ b. SpellsAt b begins.0 (head rest) t) e begins.2)
 
@@ -66,7 +66,7 @@ IsTaken takes text t n takes' rest =
 -- .. where the text starts with it, with a backslash just where names were compared
 pub taken : (takes alone takes' : Bool) (text start : List ℕ) (t : Tok) (n : ℕ) (rest : List ℕ) → IsStart takes text start alone → BeginsWith alone start t rest → takes' ≡ takes_digit (Some t) → backslash_count start ≤ n → n ≤ 9 * backslash_count start → IsTaken takes text t n takes' rest
 taken takes alone takes' text start t n rest starts begins e least most =
-    let step : IsStep takes text (slice begins.0 t) rest = step_from takes alone text start t rest starts begins in
+    let step : IsFirstSlice takes text (slice begins.0 t) rest = step_from takes alone text start t rest starts begins in
     let same : backslash_count begins.0 ≡ backslash_count start = same_first alone begins.0 rest start t begins.2 begins.1 in
     (begins.0, cut_step takes text (slice begins.0 t) rest step ∙ ap (λ b. slice begins.0 t ∷ slices_of b rest) (sym e), rw same least, rw same most, step_shortens takes text rest (slice begins.0 t) step)
 

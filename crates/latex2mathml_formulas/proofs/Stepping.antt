@@ -1,6 +1,6 @@
 -- The steps of the parser: what they answer, and what they count.
 use Rattle.std.proofs.Common.{◌≡◌, ℕ, ◌+◌, ◌∷◌, arith}
-use Rattle.latex2mathml_formulas.specs.{Openers.opens, Marks.rest_of, Steps.Counted, Unread.GoesOn}
+use Rattle.latex2mathml_formulas.specs.{Openers.opens, Marks.rest_of, Steps.Counted, Steps.StacksWithin, Unread.GoesOn}
 use Rattle.latex2mathml_tokens.specs.Tok.{Tok}
 use Rattle.latex2mathml_formulas.specs.declared.parse.Parser.{Parser}
 use Rattle.latex2mathml_formulas.proofs.Progress.{GoesOn-trans, OpensFor-one, OpensFor-rest, OpensFor-trans}
@@ -23,6 +23,10 @@ counted_none p = record {
   };
   frames = record { taken = omega arith; openers = omega arith };
 }
+
+-- the greatest number of frames bounds the stack
+pub stacks_within : (p q : Parser) → Counted 0 p q → StacksWithin p q
+stacks_within p q h = omega (arith, h.frames.taken, q.frames.covered)
 
 -- a token is taken, which may open a frame
 pub counted_taken : (t : Tok) (p q r : Parser) → p.reader.list ≡ t ∷ q.reader.list → GoesOn p.reader q.reader → q.frames.greatest ≡ p.frames.greatest → Counted (opens t) q r → Counted 0 p r

@@ -3,7 +3,7 @@ use Rattle.std.proofs.Common.{◌≡◌, ℕ, ◌+◌, ◌≤◌, ◌<◌, Bool,
 use Rattle.std.specs.Char.{is_ascii_digit}
 use Rattle.std.proofs.lemmas.Bool.Decides.{nat_tests}
 use Rattle.latex2mathml_formulas.specs.Characters.{is_space}
-use Rattle.latex2mathml_formulas.specs.Spelling.{SpellsAt, Slice, IsStep, character, colon, colon_equals, number, digit, symbol_command, letter_command, lone_backslash}
+use Rattle.latex2mathml_formulas.specs.Spelling.{SpellsAt, Slice, IsFirstSlice, character, colon, colon_equals, number, digit, symbol_command, letter_command, lone_backslash}
 use Rattle.latex2mathml_tokens.specs.Tok.{Tok}
 
 -- the list begins with a character that is no white space
@@ -32,7 +32,7 @@ dark_length [] d = absurd d
 dark_length (c ∷ w) d = omega arith
 
 -- so a step leaves less of the text
-pub step_shortens : (takes : Bool) (text rest : List ℕ) (s : Slice) → IsStep takes text s rest → length rest < length text
+pub step_shortens : (takes : Bool) (text rest : List ℕ) (s : Slice) → IsFirstSlice takes text s rest → length rest < length text
 step_shortens takes text rest s step =
     let some : 1 ≤ length s.text = dark_length s.text (spells_dark _ _ _ _ step.3) in
     let whole : length text ≡ length step.0 + (length s.text + length rest) = ap length step.1 ∙ length-append step.0 (s.text ++ rest) ∙ ap (λ n. length step.0 + n) (length-append s.text rest) in

@@ -31,18 +31,18 @@ IsComparisonCount text taken n =
     (slices : List Slice) × HasSlices false text slices × (backslashes (take taken slices) ≤ n) × (n ≤ 9 * backslashes (take taken slices))
 
 -- nodes side by side are read, down to the tokens that are left
-pub data AreNodes (ts : List Tok) : List Tok → Type 0 where
-  no_node : AreNodes ts ts
+pub data ReadsNodes (ts : List Tok) : List Tok → Type 0 where
+  none_read : ReadsNodes ts ts
   one_more : {t : Tok} {l m : List Tok} {x : Tree}
-      → AreNodes ts (t ∷ l)
+      → ReadsNodes ts (t ∷ l)
       → Reads node (t ∷ l) (Read x m)
-      → AreNodes ts m
+      → ReadsNodes ts m
 
 -- a node is refused that stands after others, and of its tokens some were taken: these are left
 abbrev pub IsRefusedWithin : List Tok → List Tok → Refusal → Type 0
-IsRefusedWithin ts left r = (place : List Tok) × AreNodes ts place × Reads node place (Refused r) × (length left < length place)
+IsRefusedWithin ts left r = (place : List Tok) × ReadsNodes ts place × Reads node place (Refused r) × (length left < length place)
 
 -- n tokens of the text were taken where it is refused: all that stand before the node that is refused, and more
 abbrev pub IsRefusalCount : List ℕ → ℕ → Refusal → Type 0
 IsRefusalCount text n r =
-    (ts : List Tok) × HasTokens None text ts × ((place : List Tok) × AreNodes ts place × Reads node place (Refused r) × (length ts < n + length place))
+    (ts : List Tok) × HasTokens None text ts × ((place : List Tok) × ReadsNodes ts place × Reads node place (Refused r) × (length ts < n + length place))

@@ -116,14 +116,14 @@ pub record Slice : Type 0 where
 
 -- the text is white space, a slice that is its token, and the rest. `takes` says that a digit that nothing parts from
 -- the token before is a number of its own.
-abbrev pub IsStep : Bool → List ℕ → Slice → List ℕ → Type 0
-IsStep takes text s rest =
+abbrev pub IsFirstSlice : Bool → List ℕ → Slice → List ℕ → Type 0
+IsFirstSlice takes text s rest =
     (space : List ℕ) × (text ≡ space ++ (s.text ++ rest)) × AllPass is_space space × SpellsAt (takes && is_empty space) s.text (head rest) s.token
 
 -- the text is white space and these slices in turn
 abbrev pub HasSlices : Bool → List ℕ → List Slice → Type 0
 HasSlices takes text [] = AllPass is_space text
-HasSlices takes text (s ∷ ss) = (rest : List ℕ) × IsStep takes text s rest × HasSlices (takes_digit (Some s.token)) rest ss
+HasSlices takes text (s ∷ ss) = (rest : List ℕ) × IsFirstSlice takes text s rest × HasSlices (takes_digit (Some s.token)) rest ss
 
 -- after the previous token, the text has these tokens: they are what its slices are
 abbrev pub HasTokens : Option Tok → List ℕ → List Tok → Type 0

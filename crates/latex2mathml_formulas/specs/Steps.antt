@@ -43,9 +43,9 @@ Holds input p state.End = Ends input p
 Holds input p state.Refused = IfSome (refusal_of p.refusal) (λ r. Reads node input (Refused r))
 
 -- the last state: the node is read, or the formula is refused
-abbrev pub end_of : Bool → State
-end_of true = state.End
-end_of false = state.Refused
+abbrev pub last_state : Bool → State
+last_state true = state.End
+last_state false = state.Refused
 
 -- there are trees for all frames, and n more
 abbrev pub HasTrees : ℕ → Parser → Type 0
@@ -85,6 +85,10 @@ work p s = to_do p + state_weight s (innermost p.frames.stack.items)
 pub record Counted (n : ℕ) (old new : Parser) : Type 0 where
   pub counts : GoesOn old.reader new.reader
   pub frames : OpensFor old.reader new.reader (old.frames.greatest + n) new.frames.greatest
+
+-- the stack itself: it holds at most one frame for each token that was taken, and as many more as it held before
+abbrev pub StacksWithin : Parser → Parser → Type 0
+StacksWithin old new = length new.frames.stack.items + old.reader.tokens ≤ old.frames.greatest + new.reader.tokens
 
 -- The state comes next: there are trees for it, and less than the bound is left to do.
 pub record Follows (bound : ℕ) (p : Parser) (s : State) : Type 0 where

@@ -2,7 +2,7 @@
 ghost use Rattle.std.specs.Prelude.{◌≡◌, ℕ, ◌∷◌, ◌++◌, [], IfOk, List, OnOk, codes, string_bytes};
 ghost use Rattle.latex2mathml_formulas.specs.{Counts.IsRefusedWithin, Grammar.ReadsFormula, Grammar.Refuses, Openers.opens};
 ghost use Rattle.latex2mathml_formulas.specs.Rendering.{IsFormulaRefusal, IsRendering, math_print};
-ghost use Rattle.latex2mathml_formulas.specs.Steps.{Counted, HasTrees, Holds, IsAppended, trees_of_state};
+ghost use Rattle.latex2mathml_formulas.specs.Steps.{Counted, HasTrees, Holds, IsAppended, StacksWithin, trees_of_state};
 ghost use Rattle.latex2mathml_tokens.specs.{Attributes.display_text, Lexemes.lexeme_tok, Refusal.IfRefused, Tok.Tok};
 ghost use Rattle.latex2mathml_trees.specs.Tree.{Tree};
 
@@ -18,6 +18,7 @@ const ROOM: usize = 1024;
 
 /// Appends the `math` element of the tokens that are left. Each node is written and dropped before the next is read, so
 /// memory for one node is enough.
+#[tactic(auto, using(crate::proofs::Stepping::stacks_within))]
 pub(crate) fn append_math(
     parser: &mut Parser,
     display: DisplayStyle,
@@ -30,6 +31,7 @@ pub(crate) fn append_math(
     ensures within { IfRefused result (IsRefusedWithin parser.old.reader.list parser.new.reader.list) }
     ensures all { OnOk result (parser.new.reader.list ≡ []) }
     ensures counted { Counted 0 parser.old parser.new }
+    ensures stack { StacksWithin parser.old parser.new }
 {
     markup.push_str(opening_tag(display))?;
     'nodes: loop {

@@ -78,7 +78,7 @@ pub fn one_rendering(text: &str, display: DisplayStyle)
 }
 
 /// Each formula has exactly one rendering, which is one `math` element and holds no dollar sign, or exactly one refusal,
-/// which is never for dollar signs.
+/// which is never for dollar signs. In a reading no function has an argument.
 #[tactic(auto, using(crate::proofs::Renderings::renderings_hold))]
 pub fn renderings()
     ensures { RenderingsHold }

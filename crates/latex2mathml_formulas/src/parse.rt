@@ -5,7 +5,7 @@ ghost use Rattle.std.specs.Str.{chars};
 ghost use Rattle.latex2mathml_formulas.specs.{Counts.backslashes, Cutting.slices_of, Frames.awaits, Frames.innermost, Frames.tree_count, Frames.unfit};
 ghost use Rattle.latex2mathml_formulas.specs.Grammar.{Reads, Refused, node as a_node};
 ghost use Rattle.latex2mathml_formulas.specs.{Levels.Leads, Unread.token_list};
-ghost use Rattle.latex2mathml_formulas.specs.Steps.{Counted, GoesOnIn, HasTrees, Holds, IsStep, end_of, level, trees_of_state, state_weight, frame_weight};
+ghost use Rattle.latex2mathml_formulas.specs.Steps.{Counted, GoesOnIn, HasTrees, Holds, IsStep, StacksWithin, last_state, level, trees_of_state, state_weight, frame_weight};
 ghost use Rattle.latex2mathml_tokens.specs.{Lexemes.lexeme_tok, Refusal.MissingParensethis, Refusal.refusal_of, Tok.Tok, Tok.tok};
 
 pub(crate) mod begin;
@@ -86,12 +86,13 @@ impl<'a> Parser<'a> {
     /// Goes on until the node of the formula is read, or the formula is refused. Returns whether the node is read: it is
     /// the last tree then.
     #[inline(always)]
-    #[tactic(auto, using(crate::proofs::Stepping::counted_none))]
+    #[tactic(auto, using(crate::proofs::Stepping::counted_none, crate::proofs::Stepping::stacks_within))]
     pub(crate) fn finish(&mut self, begun: State) -> Result<bool, AllocError>
         requires { HasTrees (trees_of_state begun) self.old }
-        ensures node { (input : List Tok) → Holds input self.old begun → IfOk result (λ read. Holds input self.new (end_of read)) }
-        ensures tree { IfOk result (λ read. HasTrees (trees_of_state (end_of read)) self.new) }
+        ensures node { (input : List Tok) → Holds input self.old begun → IfOk result (λ read. Holds input self.new (last_state read)) }
+        ensures tree { IfOk result (λ read. HasTrees (trees_of_state (last_state read)) self.new) }
         ensures counted { Counted 0 self.old self.new }
+        ensures stack { StacksWithin self.old self.new }
     {
         let mut state = begun;
         'steps: loop {
@@ -113,11 +114,13 @@ impl<'a> Parser<'a> {
     }
 
     #[inline(always)]
+    #[tactic(auto, using(crate::proofs::Stepping::stacks_within))]
     fn step(&mut self, state: State) -> Result<State, AllocError>
         requires going_on { (state ≢ State.End) × (state ≢ State.Refused) }
         requires trees { HasTrees (trees_of_state state) self.old }
         ensures holds { (input : List Tok) → Holds input self.old state → IfOk result (Holds input self.new) }
         ensures step { IsStep 0 (state_weight state (innermost self.old.frames.stack.items)) self.old self.new result }
+        ensures stack { StacksWithin self.old self.new }
     {
         match state {
             State::Next => self.next(),

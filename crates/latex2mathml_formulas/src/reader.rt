@@ -1,6 +1,6 @@
 //! The lexemes of a text, taken one at a time. White space in front of a lexeme is skipped where the lexeme is taken or
 //! looked for.
-ghost use Rattle.std.specs.Prelude.{◌≡◌, ◌≢◌, ◌∷◌, ℕ, [], false, List, IfOk, MatchBool, Some, codes, string_bytes};
+ghost use Rattle.std.specs.Prelude.{◌≡◌, ◌≢◌, ◌∷◌, ℕ, false, List, IfOk, MatchBool, Some, codes, string_bytes};
 ghost use Rattle.std.specs.Str.{chars};
 ghost use Rattle.latex2mathml_formulas.specs.{Counts.backslashes, Cutting.slices_of, Grammar.first};
 ghost use Rattle.latex2mathml_formulas.specs.Marks.{IsSeen, MarkStands, NameStands, rest_of, sign_token};
@@ -59,8 +59,7 @@ impl<'a> Reader<'a> {
         }
     }
 
-    /// Takes the next lexeme and counts it, or returns `EOF` if none is left. All that takes a lexeme calls this, or
-    /// `take_any`.
+    /// Takes the next lexeme and counts it, or returns `EOF` if none is left. Every lexeme is taken here.
     #[inline(always)]
     pub(crate) fn take(&mut self) -> Lexeme<'a>
         ensures { Takes (lexeme_tok result) self.old self.new }
@@ -80,7 +79,7 @@ impl<'a> Reader<'a> {
         self.take_any()
     }
 
-    /// Takes the next lexeme and counts it, whatever it is.
+    /// Takes the next lexeme and counts it, whatever it is. Only `take` calls this.
     #[inline(never)]
     fn take_any(&mut self) -> Lexeme<'a>
         ensures { Takes (lexeme_tok result) self.old self.new }
@@ -179,15 +178,6 @@ impl<'a> Reader<'a> {
     {
         self.skip();
         while let Lexeme::Letter(_, _) = self.take() {}
-    }
-
-    /// Whether no token is left.
-    pub(crate) fn is_at_end(&mut self) -> bool
-        ensures list { self.new.list ≡ self.old.list }
-        ensures end { MatchBool result (self.new.list ≡ []) (self.new.list ≢ []) }
-        ensures counts { GoesOn self.old self.new }
-    {
-        self.first_char().is_none()
     }
 
     /// Returns the number of tokens that were taken.

@@ -1,4 +1,5 @@
-//! Tests of what neither the program nor the library for C can show: faults, streams that fail, and laws.
+//! Tests of what neither the program nor the library for C can show: faults, streams that fail, and laws; and of what the program
+//! calls.
 #![tactic(auto)]
 
 #[cfg(test)]
@@ -9,6 +10,8 @@ mod files;
 mod large;
 #[cfg(test)]
 mod laws;
+#[cfg(test)]
+mod program;
 #[cfg(test)]
 mod reading;
 #[cfg(test)]

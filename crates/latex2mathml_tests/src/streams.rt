@@ -9,11 +9,11 @@ use std::test::Fail;
 
 /// Takes this many bytes per call. After this many calls it takes none, or fails.
 #[derive(Drop)]
-struct Writer {
-    held: Vec<u8>,
-    step: usize,
-    calls_left: usize,
-    fails: bool,
+pub struct Writer {
+    pub held: Vec<u8>,
+    pub step: usize,
+    pub calls_left: usize,
+    pub fails: bool,
 }
 
 impl Write for Writer {

@@ -1,3 +1,6 @@
+mod Bounds
+mod BrokenLines
 mod CachedRenderings
 mod CheckedFormulas
+mod CountedTokens
 mod SecondRuns

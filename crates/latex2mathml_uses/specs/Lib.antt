@@ -1,10 +1,13 @@
+pub mod Budgets
 pub mod Builds
 pub mod Cached
 pub mod Caches
 pub mod Checked
 pub mod Limited
+pub mod Lines
 pub mod Mistakes
 pub mod Puts
+pub mod Read
 pub mod Sections
 pub mod Shown
 pub mod Stored

@@ -1,5 +1,5 @@
 //! Renderings that are kept, so that a repeated formula is not converted again.
-ghost use Rattle.std.specs.Prelude.{◌≡◌, Some, IfOk, IfSome, option_map, string_bytes};
+ghost use Rattle.std.specs.Prelude.{◌≡◌, Some, IfOk, IfSome, IsSome, option_map, string_bytes};
 ghost use Rattle.latex2mathml.specs.Formulas.{IfRefused, IsFormulaRefusal};
 ghost use Rattle.latex2mathml_uses.specs.{Cached.HoldsRenderings, Cached.IsOnlyRendering, Cached.text_at, Caches.IsSound, Caches.held_text};
 
@@ -39,8 +39,8 @@ impl Cache {
         }
     }
 
-    /// Returns the markup of the formula, and keeps it in the cache. On an error, which is the refusal of the formula or out of
-    /// memory, the cache still has only renderings.
+    /// Returns the markup of the formula, and keeps it in the cache. If it is there already, the cache stays as it is. On an
+    /// error, which is the refusal of the formula or out of memory, the cache still has only renderings.
     pub fn markup(
         &mut self,
         alloc: Global,
@@ -53,6 +53,7 @@ impl Cache {
             IsOnlyRendering formula.now display (string_bytes markup)) }
         ensures held { IfOk result (λ markup.
             held_text self.new display formula.now ≡ Some (string_bytes markup)) }
+        ensures found { IsSome (held_text self.old display formula.now) → self.new ≡ self.old }
         ensures refusal { IfRefused result (IsFormulaRefusal formula.now) }
     {
         match display {
@@ -76,6 +77,7 @@ fn look_up(
         IsOnlyRendering formula.now display (string_bytes markup)) }
     ensures held { IfOk result (λ markup.
         text_at map.new formula.now ≡ Some (string_bytes markup)) }
+    ensures found { IsSome (text_at map.old formula.now) → map.new ≡ map.old }
     ensures refusal { IfRefused result (IsFormulaRefusal formula.now) }
 {
     if let Some(markup) = map.get(formula) {

@@ -2,14 +2,20 @@
 //! contracts each one uses.
 #![tactic(auto)]
 
+pub mod budget;
 pub mod build;
 pub mod cache;
 pub mod check;
 pub mod insert;
 pub mod limit;
+pub mod lines;
+pub mod made;
 pub mod page;
 pub mod put;
 pub mod refusal;
+pub mod restyle;
+pub mod site;
 pub mod store;
 pub mod symbol;
+pub mod tokens;
 pub mod wiki;

@@ -1,14 +1,15 @@
 //! The files of the system as a site.
-ghost use Rattle.std.specs.Prelude.{◌≡◌, ◌<◌, ◌^◌, None, IfErr, IfOk, List, map, string_bytes};
+ghost use Rattle.std.specs.Prelude.{◌≡◌, ◌<◌, ◌^◌, None, IfErr, IfOk, List, MatchResult, map, string_bytes};
+ghost use Rattle.std.specs.{Fs.file_type};
 ghost use Rattle.std.specs.Iterator.{Drains, IsFinite, size};
-ghost use Rattle.latex2mathml.specs.{Files.IsReadingFault, Files.IsWritingFault, Entries.names_of, Entries.unread_of};
+ghost use Rattle.latex2mathml.specs.{Files.IsReadingFault, Files.IsWritingFault, Entries.IsKind, Entries.names_of, Entries.unread_of};
 
 use super::site::{Listing, PathKind, Site};
 use crate::error::FileFault;
 use crate::input::{Reading, read_document};
-use crate::stream::{Stream, write_text};
+use crate::stream::{Stream, write_document};
 use std::alloc::{AllocError, Allocator, Global};
-use std::fs::DirEntry;
+use std::fs::{DirEntry, Metadata};
 use std::rt::Files;
 use std::{fs, io};
 
@@ -23,11 +24,7 @@ impl<R: Files + Alloc + Clone + Drop> Site for Disk<'_, R> {
     ghost answers = { λ disk. None };
 
     fn kind_at(&mut self, path: &str) -> PathKind {
-        match fs::metadata(self.rt, path) {
-            Ok(metadata) if metadata.is_dir() => PathKind::Directory,
-            Ok(metadata) if metadata.is_file() => PathKind::File,
-            _ => PathKind::Other,
-        }
+        kind_of(fs::metadata(self.rt, path))
     }
 
     fn list(&mut self, path: &str) -> Result<Option<Listing>, AllocError> {
@@ -42,6 +39,19 @@ impl<R: Files + Alloc + Clone + Drop> Site for Disk<'_, R> {
             Reading::Changed(answer) => write_anew(self.rt, path, answer.as_str()),
             Reading::Unchanged(_) => Ok(()),
         }
+    }
+}
+
+/// What stands at a path of which the system tells this. The path itself is not asked.
+fn kind_of(found: io::Result<Metadata>) -> PathKind
+    ensures { MatchResult found
+        (λ metadata. IsKind (file_type metadata) result)
+        (λ _. result ≡ PathKind.Other) }
+{
+    match found {
+        Ok(metadata) if metadata.is_dir() => PathKind::Directory,
+        Ok(metadata) if metadata.is_file() => PathKind::File,
+        _ => PathKind::Other,
     }
 }
 
@@ -78,12 +88,12 @@ fn read<R: Files>(rt: &R, alloc: Global, path: &str) -> Result<Reading, FileFaul
     read_document(alloc, &mut Stream::new(inner))
 }
 
-/// Empties the file and writes the text to it.
+/// Empties the file and writes the text of a document to it.
 fn write_anew<R: Files>(rt: &R, path: &str, text: &str) -> Result<(), FileFault>
     ensures fault { IfErr result IsWritingFault }
 {
     let Ok(inner) = fs::create(rt, path) else {
         return Err(FileFault::Create);
     };
-    write_text(&mut Stream::new(inner), text)
+    write_document(&mut Stream::new(inner), text)
 }

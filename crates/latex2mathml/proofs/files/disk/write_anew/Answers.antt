@@ -3,5 +3,5 @@ use Rattle.latex2mathml.proofs.files.disk.write_anew.Goals as goal
 
 pub returns : goal.returns
 returns g c = record {
-  fault = writing_fault _ _ _ _ c.write_text.ensures.stopped;
+  fault = writing_fault _ _ _ _ c.write_document.ensures.stopped;
 }

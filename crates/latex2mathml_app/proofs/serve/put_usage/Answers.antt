@@ -1,5 +1,0 @@
-use Rattle.latex2mathml_app.specs.Serving.{Found}
-use Rattle.latex2mathml_app.proofs.serve.put_usage.Goals as goal
-
-pub returns-in-Ok : goal.returns-in-Ok
-returns-in-Ok g c = record { put = (_, Found c.put_line.ensures.put) }
