@@ -53,8 +53,8 @@ var latex2mathml = latex2mathml ?? (() => {
     const ENDS = [ORDINARY, CLOSING, INNER];
     const BEGINS = [ORDINARY, OPERATOR, BINARY, OPENING, INNER, MARK];
     // TeX's spaces between two neighbours, a row for each class of the left one: none, thin, thin, medium and thick.
-    // In scripts only the second of the thin ones is left.
-    const SPACES = ['02340001', '22040001', '33003003', '44004004', '00000000', '02340001', '11011111', '12341011'];
+    // In scripts only the second of the thin ones is left. A hyphen is where no binary sign can be, for want of an operand.
+    const SPACES = ['02340001', '22-40001', '33--3--3', '44-04004', '00-00000', '02340001', '11-11111', '12341011'];
     const WIDTHS = ['0', '0.167em', '0.167em', '0.222em', '0.278em'];
 
     const ROWS = ':is(math, mrow, mstyle, msqrt, mtd)';
