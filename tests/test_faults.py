@@ -301,7 +301,7 @@ class Readings(Streams):
 
     def test_writes(self):
         """A result is written by one call, if the system takes it completely."""
-        for word in ("inline", "document"):
+        for word in ("inline", "block", "document"):
             with open_input(b"x" * 100_000) as source:
                 _, counts = faulty.counts_of([faulty.program(), word], stdin=source)
             self.assertEqual(counts["write"], 1)
