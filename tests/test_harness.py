@@ -35,6 +35,12 @@ class Sample(unittest.TestCase):
     def test_skipped(self):
         self.skipTest("a tool is missing")
 
+    def test_skipped_part(self):
+        for number in range(2):
+            with self.subTest(number):
+                if number:
+                    self.skipTest("a tool is missing")
+
     def test_stops(self):
         with self.subTest("before"):
             pass
@@ -164,15 +170,17 @@ class Counts(Harness):
     def test_each_case_and_each_part_is_counted(self):
         self.add("test_sample.py")
         last, shown = self.run_it("test_sample")
-        self.assertEqual(last, "5 passed, 4 failed", shown)
+        self.assertEqual(last, "6 passed, 4 failed", shown)
         for told in ("AssertionError: 1 != 2 : one is not two", "test_parts [1]", "it stops", "nothing is ready", "a tool is missing"):
             self.assertIn(told, shown)
         self.assertNotIn("a word of no interest", shown)
 
     def test_what_is_skipped_fails_where_nothing_is_to_be(self):
         self.add("test_sample.py")
-        self.assertEqual(self.run_it("test_sample.Sample.test_skipped")[0], "0 passed, 0 failed")
-        self.assertEqual(self.run_it("test_sample.Sample.test_skipped", **{SKIP_NOTHING: "1"})[0], "0 passed, 1 failed")
+        for case, passed in (("test_skipped", 0), ("test_skipped_part", 1)):
+            with self.subTest(case):
+                self.assertEqual(self.run_it(f"test_sample.Sample.{case}")[0], f"{passed} passed, 0 failed")
+                self.assertEqual(self.run_it(f"test_sample.Sample.{case}", **{SKIP_NOTHING: "1"})[0], f"{passed} passed, 1 failed")
 
     def test_a_process_that_ends_before_its_cases(self):
         self.add("test_ends.py")
