@@ -1,5 +1,5 @@
-"""What the tests need of pytest beyond its own words: each `subTest` counts as a case, long modules begin first, and a process that
-ends before its cases fails one of them alone."""
+"""What the tests need of pytest beyond its own words: each `subTest` counts as a case, long modules begin first, and a process
+that ends before its cases fails one of them alone."""
 import json
 import os
 import pathlib
@@ -33,8 +33,8 @@ def report_part(item, case, part, error):
 
 
 class Classes(LoadScopeScheduling):
-    """Each class stays in one process. If that ends too soon, another one tries what is left of the class: xdist would try the case
-    that ended it again and again."""
+    """Each class stays in one process. If that ends too soon, another one tries what is left of the class. xdist would try the
+    case that ended it again and again."""
 
     def remove_node(self, node):
         """Returns the case that was under way in a process that has ended, or None."""
