@@ -165,10 +165,11 @@ class Wheel(Case):
     def test_what_is_opened_is_closed(self):
         """Python would warn of a file that is left for the collector to close, and of one that is read as the locale has it."""
         script = ("import sys\nimport latex2mathml_proved.rendering as it\n"
-                  "it.Renderer().render('x')\nit.Renderer().render('{')\nit.copy_page(sys.argv[1])")
+                  "print(it.Renderer().render('x').markup)\nit.Renderer().render('{')\nit.copy_page(sys.argv[1])")
         folder = self.enterContext(scratch()) / "site"
         options = ["-X", "warn_default_encoding", "-W", "always::ResourceWarning"]
-        self.expect(run_python(environment(), *options, "-c", script, folder), 0, b"", b"")
+        answer = cases.math("inline", b"<mi>x</mi>") + b"\n"
+        self.expect(run_python(environment(), *options, "-c", script, folder), 0, answer, b"")
 
     def test_page_files(self):
         """`python3 -m latex2mathml_proved FOLDER` copies them into a folder, even if it has them already. Alone it says this."""
