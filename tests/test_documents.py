@@ -328,7 +328,7 @@ class Page(Case):
         linked = re.findall(r'(?:href|src)="([^"]*)"', " ".join(*lines))
         self.assertEqual(sorted(linked), ["page/latex2mathml.css", "page/latex2mathml.js"])
         for name in linked:
-            self.assertTrue((ROOT / name).is_file(), name)
+            self.assertTrue((ROOT / name).is_file(), msg=name)
 
     def test_defaults(self):
         """The column of defaults is what each integration takes for an option that is not given."""
