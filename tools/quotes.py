@@ -89,5 +89,5 @@ def sources():
 def public_sources():
     """The sources whose public functions are called from outside: those of the library, of the program, and of the library for C."""
     yield from sources()
-    for path in ("latex2mathml_program/src/job.rt", "latex2mathml_program/src/serve.rt", "latex2mathml_c/src/lib.rt"):
+    for path in ("latex2mathml_program/src/job.rt", "latex2mathml_program/src/serving.rt", "latex2mathml_c/src/lib.rt"):
         yield ROOT / "crates" / path

@@ -2,7 +2,7 @@
 #![tactic(auto)]
 
 mod job;
-mod serve;
+mod serving;
 
 pub use job::{Job, run};
-pub use serve::serve;
+pub use serving::serve;

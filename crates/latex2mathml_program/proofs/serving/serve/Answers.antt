@@ -1,6 +1,6 @@
 use Rattle.std.proofs.Common.{refl, rules}
 use Rattle.latex2mathml_program.specs.Serving.{WrongWords, Ran, Walked}
-use Rattle.latex2mathml_program.proofs.serve.serve.Goals as goal
+use Rattle.latex2mathml_program.proofs.serving.serve.Goals as goal
 
 pub returns-in-Some-clause-served : goal.returns-in-Some-clause-served
 returns-in-Some-clause-served g c =

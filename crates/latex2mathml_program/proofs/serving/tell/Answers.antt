@@ -1,6 +1,6 @@
 use Rattle.std.proofs.KnownBytes.{Keeps-refl}
 use Rattle.latex2mathml_program.proofs.Lines.{none_told, some_told}
-use Rattle.latex2mathml_program.proofs.serve.tell.Goals as goal
+use Rattle.latex2mathml_program.proofs.serving.tell.Goals as goal
 
 pub returns-then-is_empty : goal.returns-then-is_empty
 returns-then-is_empty g c = record {

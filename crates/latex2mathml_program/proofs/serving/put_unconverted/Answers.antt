@@ -1,7 +1,7 @@
 use Rattle.std.proofs.Common.{◌≡◌, ◌∙◌, string_bytes}
 use Rattle.latex2mathml_program.specs.Serving.{unconverted_line}
 use Rattle.latex2mathml_program.proofs.Lines.{put_same}
-use Rattle.latex2mathml_program.proofs.serve.put_unconverted.Goals as goal
+use Rattle.latex2mathml_program.proofs.serving.put_unconverted.Goals as goal
 
 pub returns-in-Ok-clause-put : goal.returns-in-Ok-clause-put
 returns-in-Ok-clause-put g c =

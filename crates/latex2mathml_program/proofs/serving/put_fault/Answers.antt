@@ -1,7 +1,7 @@
 use Rattle.std.proofs.Common.{◌≡◌, ◌∙◌, rules, string_bytes}
 use Rattle.latex2mathml_program.specs.Serving.{fault_line}
 use Rattle.latex2mathml_program.proofs.Lines.{put_same}
-use Rattle.latex2mathml_program.proofs.serve.put_fault.Goals as goal
+use Rattle.latex2mathml_program.proofs.serving.put_fault.Goals as goal
 
 pub returns-in-Ok : goal.returns-in-Ok
 returns-in-Ok g c =

@@ -1,5 +1,5 @@
 use Rattle.latex2mathml_program.proofs.Lines.{can_go_on, put}
-use Rattle.latex2mathml_program.proofs.serve.put_line.Goals as goal
+use Rattle.latex2mathml_program.proofs.serving.put_line.Goals as goal
 
 pub returns : goal.returns
 returns g c = record {

@@ -1,6 +1,6 @@
 use Rattle.std.proofs.Common.{◌≡◌, ◌∷◌, [], rules, arith}
 use Rattle.latex2mathml_program.proofs.Lines.{two}
-use Rattle.latex2mathml_program.proofs.serve.path_asked.Goals as goal
+use Rattle.latex2mathml_program.proofs.serving.path_asked.Goals as goal
 
 pub returns-in-len2-clause-asked : goal.returns-in-len2-clause-asked
 returns-in-len2-clause-asked c =

@@ -2,7 +2,7 @@ use Rattle.std.proofs.Common.{◌≡◌, refl, subst, map, arith, false, true}
 use Rattle.std.proofs.lemmas.List.{take_all}
 use Rattle.latex2mathml_program.specs.Serving.{JoinsSomeOf, AllPut, unconverted_line}
 use Rattle.latex2mathml_program.proofs.Lines.{put_last, put_next}
-use Rattle.latex2mathml_program.proofs.serve.put_all_unconverted.Goals as goal
+use Rattle.latex2mathml_program.proofs.serving.put_all_unconverted.Goals as goal
 
 pub returns-then-not-put_unconverted : goal.returns-then-not-put_unconverted
 returns-then-not-put_unconverted g c =

@@ -1,6 +1,6 @@
 use Rattle.std.proofs.Common.{refl}
 use Rattle.latex2mathml_program.specs.Serving.{NoMemory, WalkEnded}
-use Rattle.latex2mathml_program.proofs.serve.convert.Goals as goal
+use Rattle.latex2mathml_program.proofs.serving.convert.Goals as goal
 
 pub returns-in_default : goal.returns-in_default
 returns-in_default g c = record { told = NoMemory refl c.put_line.ensures.put }

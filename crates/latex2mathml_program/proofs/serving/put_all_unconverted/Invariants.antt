@@ -2,7 +2,7 @@
 use Rattle.std.proofs.Common.{ℕ, List, map, take}
 use Rattle.latex2mathml.specs.Streams.{CanGoOn, Takes}
 use Rattle.latex2mathml_program.specs.Serving.{JoinsSomeOf, unconverted_line}
-use Rattle.latex2mathml_program.proofs.serve.put_all_unconverted.Given as goal
+use Rattle.latex2mathml_program.proofs.serving.put_all_unconverted.Given as goal
 
 abbrev pub invariant-loop-unconverted : goal.invariant-loop-unconverted
 invariant-loop-unconverted g l =
