@@ -24,5 +24,5 @@ pub fn formula(alloc: Global, node: &Node) -> Result<String, AllocError>
 {
     laws::balanced(node);
     laws::joined_markup();
-    format!(in alloc; "<math>{node}</math>")
+    Ok(format!(in alloc; "<math>{node}</math>")?)
 }
