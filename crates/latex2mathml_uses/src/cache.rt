@@ -63,8 +63,7 @@ impl Cache {
     }
 }
 
-/// Returns the markup of the formula: from the map if it is there, and otherwise from a call, whose result is put into the
-/// map.
+/// Returns the markup of the formula: from the map if it is there, and otherwise converted and put into the map.
 fn look_up(
     alloc: Global,
     map: &mut HashMap<String, String>,
@@ -84,6 +83,24 @@ fn look_up(
         let copy = markup.clone()?;
         return Ok(copy);
     }
+    convert_and_keep(alloc, map, formula, display)
+}
+
+/// Converts the formula, and puts its markup into the map.
+fn convert_and_keep(
+    alloc: Global,
+    map: &mut HashMap<String, String>,
+    formula: &str,
+    display: DisplayStyle,
+) -> Result<String, LatexError>
+    requires { HoldsRenderings display map.old }
+    ensures sound { HoldsRenderings display map.new }
+    ensures rendering { IfOk result (λ markup.
+        IsOnlyRendering formula.now display (string_bytes markup)) }
+    ensures held { IfOk result (λ markup.
+        text_at map.new formula.now ≡ Some (string_bytes markup)) }
+    ensures refusal { IfRefused result (IsFormulaRefusal formula.now) }
+{
     let markup = latex_to_mathml(alloc, formula, display)?;
     laws::one_rendering(formula, display);
     let key = String::from_str(alloc, formula)?;

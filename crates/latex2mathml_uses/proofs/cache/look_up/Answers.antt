@@ -1,7 +1,6 @@
 use Rattle.std.proofs.Common.{◌≡◌, Some, rules, string_bytes, subst, sym}
-use Rattle.std.proofs.lemmas.Map.Text.{hash_map_updates_text}
 use Rattle.latex2mathml_uses.specs.Cached.{IsOnlyRendering}
-use Rattle.latex2mathml_uses.proofs.CachedRenderings.{lent, one_more, only_rendering}
+use Rattle.latex2mathml_uses.proofs.CachedRenderings.{lent}
 use Rattle.latex2mathml_uses.proofs.cache.look_up.Goals as goal
 
 pub returns-in-Some-clause-rendering : goal.returns-in-Some-clause-rendering
@@ -9,13 +8,3 @@ returns-in-Some-clause-rendering c =
     let had : IsOnlyRendering c.args.formula.now c.args.display (string_bytes c.in-Some.markup.now) = lent (λ m. IsOnlyRendering c.args.formula.now c.args.display m) (Some c.in-Some.markup) _ c.in-Some.ensures.value (c.requires c.args.formula.now) in
     let same : string_bytes c.in_ok-copy.copy ≡ string_bytes c.in-Some.markup.now = search rules in
     subst (λ m. IsOnlyRendering c.args.formula.now c.args.display m) (sym same) had
-
-pub returns-clause-sound : goal.returns-clause-sound
-returns-clause-sound c =
-    let only = only_rendering c.args.formula.now c.args.display _ c.one_rendering.ensures c.in_ok-markup.ensures.rendering in
-    let sets = hash_map_updates_text (string_bytes c.in_ok-key.key) c.args.map.now c.insert.new.self _ c.in_ok-insert.ensures.updates in
-    let same : string_bytes c.in_ok-copy-2.copy ≡ string_bytes c.in_ok-markup.markup = search rules in
-    one_more c.args.map.now c.insert.new.self c.args.formula.now c.in_ok-copy-2.copy c.args.display c.requires (subst (λ m. IsOnlyRendering c.args.formula.now c.args.display m) (sym same) only) (rw c.in_ok-key.ensures.ok at sets)
-
-pub returns-clause-rendering : goal.returns-clause-rendering
-returns-clause-rendering c = only_rendering c.args.formula.now c.args.display _ c.one_rendering.ensures c.in_ok-markup.ensures.rendering
