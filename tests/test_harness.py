@@ -74,14 +74,19 @@ class Others(unittest.TestCase):
         pass
 ''',
     "test_last.py": '''
-import os
+import os, unittest, pytest
 
 class Ends:
     def pytest_sessionfinish(self):
         os._exit(0)
 
-def test_it(request):
-    request.config.pluginmanager.register(Ends())
+class Last(unittest.TestCase):
+    @pytest.fixture(autouse=True)
+    def end(self, request):
+        request.config.pluginmanager.register(Ends())
+
+    def test_it(self):
+        pass
 ''',
     "test_hangs.py": '''
 import os, pathlib, subprocess, unittest, pytest
@@ -221,8 +226,11 @@ class Counts(Harness):
         self.add("test_hangs.py")
         process = self.folder / "process"
         words = [sys.executable, "-B", "-m", "tests", "test_hangs.Hangs.test_it"]
+        # these tests may run in the background of a shell, which has an interruption ignored
+        how = {"cwd": self.house, "env": self.environment(), "stdout": subprocess.DEVNULL,
+               "preexec_fn": lambda: signal.signal(signal.SIGINT, signal.SIG_DFL)}
         for number in (signal.SIGINT, signal.SIGTERM):
-            with self.subTest(number), subprocess.Popen(words, cwd=self.house, env=self.environment(), stdout=subprocess.DEVNULL) as running:
+            with self.subTest(number), subprocess.Popen(words, **how) as running:
                 self.wait_for(process.exists)
                 self.wait_for(process.read_text)
                 running.send_signal(number)
