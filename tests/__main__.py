@@ -20,10 +20,11 @@ import sys
 import time
 
 from tests import cases
-from tests.support import BUILD_NOTHING, COUNTS, ROOT, RUN, SCREEN, SKIP_NOTHING, processors, scratch
+from tests.support import BUILD_NOTHING, COUNTS, ROOT, RUN, SCREEN, SKIP_NOTHING, kit, processors, scratch
 from tools.progress import Screen, Stopwatch, clock, end_of, follow
 
 OUT = ROOT / "out"
+C_LIBRARY = "latex2mathml_c"
 LAST_LINE = re.compile(r"(\d+) passed, (\d+) failed")
 
 
@@ -74,9 +75,9 @@ def look_at_layout(screen):
     return int(not failed), failed
 
 
-def prove(screen):
+def prove(screen, begun):
     """Runs `rt ci` here. Each line with which it says how far it is stays, and all that it prints is kept in a file."""
-    watch, begun, log = Stopwatch(), time.time(), OUT / "rt-ci.log"
+    watch, log = Stopwatch(), OUT / "rt-ci.log"
     last = None
     screen.say(f"    all that it prints is kept in {log}")
 
@@ -98,10 +99,35 @@ def prove(screen):
     return passed, failed
 
 
-def build_c_library(screen):
-    """`rt ci` proves the static library and keeps nothing of it. The libraries below it are kept."""
-    is_built = not subprocess.run([ROOT / "tools/built", "latex2mathml_c"], stdout=subprocess.DEVNULL).returncode
-    return int(is_built), int(not is_built)
+def build_c_library(screen, begun):
+    """Builds the static library over the libraries that `rt ci` proved and left in `out/rlib`. It keeps nothing of a static library,
+    and `rt lib` would prove the libraries below it once more."""
+    archive = ROOT / f"crates/{C_LIBRARY}/out/lib{C_LIBRARY}.a"
+    archive.parent.mkdir(exist_ok=True)
+    log = OUT / "library-for-c.log"
+    if follow(rattle_words(archive), log, cwd=ROOT / "crates" / C_LIBRARY):
+        screen.say(end_of(log))
+        return 0, 1
+    os.utime(archive, (begun, begun))
+    return 1, 0
+
+
+def rattle_words(archive):
+    """The command that proves and builds the static library."""
+    lines = [line.partition(":")[::2] for line in (ROOT / "crates.txt").read_text(encoding="utf-8").splitlines()]
+    direct = {head.split()[0]: below.split() for head, below in lines if head.strip()}
+    found = list(direct[C_LIBRARY])
+    for name in found:
+        found += [it for it in direct.get(name, []) if it not in found]
+    tools, rlibs = kit(), {name: ROOT / "crates" / name / "out/rlib" for name in found if name in direct}
+    words = [tools / "bin/rattle", "build", "--crate-name", C_LIBRARY, "src/lib.rt", "--crate-type", "staticlib"]
+    for name in ["std", *direct[C_LIBRARY]]:
+        words += ["--extern", f"{name}={rlibs.get(name, tools / 'rlibs')}/{name}.rlib"]
+    for folder in [tools / "rlibs", *rlibs.values()]:
+        words += ["-L", f"dependency={folder}"]
+    words += ["--antt-project", tools / "rattle/logic/antt-project.json", "--logic-built", tools / "logic_built"]
+    words += ["--jobs", str(min(processors(), 4)), "--links", f"{C_LIBRARY}="]
+    return [*words, "--toolchain", tools / "toolchain", "--backend", "llvm", "-o", archive]
 
 
 def run_to_its_end(words):
@@ -162,7 +188,9 @@ def main(words):
         # where a build that a case needs shows its progress, though pytest keeps what cases print
         os.environ[SCREEN] = f"/proc/{os.getpid()}/fd/{os.dup(2)}"
         if words in ([], ["proofs"]):
-            is_well = total.do("layout", look_at_layout) and total.do("rt ci", prove) and total.do("the library for C", build_c_library)
+            begun = time.time()
+            is_well = total.do("layout", look_at_layout) and total.do("rt ci", lambda it: prove(it, begun)) \
+                and total.do("the library for C", lambda it: build_c_library(it, begun))
             if is_well and not words:
                 # from here on, the tests use only what was proved and built
                 os.environ[BUILD_NOTHING] = "1"

@@ -1,6 +1,6 @@
 """`./test` counts each case, shows what failed, ends cases that do not end, and tries nothing over what is not proved.
 
-The house here has a few cases of its own, and other programs in place of `rt` and `tools/built`.
+The house here has a few cases of its own, and other programs in place of `rt` and of the compiler.
 """
 import os
 import shutil
@@ -126,12 +126,22 @@ class Long(unittest.TestCase):
 # `rt fmt` and `rt ci`: it builds a program while a source is edited.
 RT = """#!/bin/sh
 if [ "$1" = fmt ]; then $FMT; exit; fi
+if [ "$1" = doc ]; then echo "$(dirname "$0")/../kit/page"; exit; fi
 [ "$*" = ci ] || exit 2
 [ -z "$BUILDS" ] || { mkdir -p crates/one/out && echo made >crates/one/out/one && sleep 0.05 && touch crates/one/src/lib.rt; }
 echo 'rt: one proved'
 for n in $(seq 100); do echo "line $n"; done
 echo "${SAYS:-3 passed, 0 failed (1 proved)}"
 exit ${STATUS:-0}
+"""
+
+
+# It builds the library for C over all libraries below it.
+RATTLE = """#!/bin/sh
+case "$*" in *dependency=*/one/out/rlib*dependency=*/low/out/rlib*--toolchain*) ;; *) exit 2 ;; esac
+for archive; do :; done
+[ ${LIBRARY:-0} != 0 ] || echo made >"$archive"
+exit ${LIBRARY:-0}
 """
 
 
@@ -143,11 +153,12 @@ class Harness(Case):
                      "tools/__init__.py", "tools/progress.py"):
             (self.house / name).parent.mkdir(parents=True, exist_ok=True)
             shutil.copy(ROOT / name, self.house / name)
-        for name, text in (("crates.txt", "one:\n"), ("HANDLES", ""), ("crates/one/src/lib.rt", "\n")):
+        for name, text in (("crates.txt", "low:\none: low\nlatex2mathml_c staticlib: one\n"), ("HANDLES", ""), ("crates/one/src/lib.rt", "\n"),
+                           ("crates/latex2mathml_c/src/lib.rt", "\n")):
             (self.house / name).parent.mkdir(parents=True, exist_ok=True)
             (self.house / name).write_text(text)
-        for path, text in ((self.folder / "bin/rt", RT), (self.house / "tools/built", "#!/bin/sh\nexit ${LIBRARY:-0}\n")):
-            path.parent.mkdir(exist_ok=True)
+        for path, text in ((self.folder / "bin/rt", RT), (self.folder / "kit/bin/rattle", RATTLE)):
+            path.parent.mkdir(parents=True, exist_ok=True)
             path.write_text(text)
             path.chmod(0o755)
 
@@ -281,7 +292,7 @@ class Whole(Harness):
         for formats, told in (("eval echo >>src/lib.rt", "crates/one/src/lib.rt"), ("false", "one")):
             with self.subTest(formats):
                 last, shown = self.run_it(FMT=formats)
-                self.assertEqual(last, "0 passed, 1 failed")
+                self.assertEqual(last, "0 passed, 2 failed")
                 self.assertIn(f"FAILED: not in the layout of `rt fmt`: {told}\n", shown)
                 self.assertEqual((self.house / "crates/one/src/lib.rt").read_text(), "\n")
                 self.assertNotIn("one proved", shown)
