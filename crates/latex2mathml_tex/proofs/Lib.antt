@@ -1,7 +1,12 @@
 pub mod Found
+pub mod Leading
 pub mod Lookups
+pub mod Names
+pub mod Nexts
 pub mod Parts
 pub mod Runs
+pub mod SignLookups
+pub mod SignTables
 pub mod Starts
 pub mod Taken
 pub mod Texts

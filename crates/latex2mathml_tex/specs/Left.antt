@@ -1,7 +1,28 @@
--- The units that a reader has left.
+-- The units that are left.
+use Rattle.std.specs.Prelude.{ℕ, suc}
 use Rattle.std.specs.Str.{chars}
-use Rattle.latex2mathml_tex_grammar.specs.{Cutting.units_of, Units.Units}
-use Rattle.latex2mathml_tex.specs.declared.reader.Reader.{Reader}
+use Rattle.latex2mathml_tex_grammar.specs.{Cutting.units_of, Refusal.refusal_at, Units.Units}
+use Rattle.latex2mathml_tex_grammar.specs.Units as units
+use Rattle.latex2mathml_tex.specs.Taking.{kind_of, unit_of}
+use Rattle.latex2mathml_tex.specs.{declared.input.Input.Input, declared.reader.Reader.Reader, declared.unit.Next.Next}
+use Rattle.latex2mathml_tex.specs.declared.unit.Next.TheVariants as next
 
+-- .. by a reader
 abbrev pub units_left : Reader → Units
 units_left r = units_of r.place (chars r.rest.now)
+
+-- these units, behind what stands before them
+abbrev pub put_back : Next → Units → Units
+put_back (next.Unit u) l = units.Next (unit_of u) l
+put_back (next.End place) l = units.End place
+put_back (next.Fault fault place) l = units.Stop (refusal_at (kind_of fault) place)
+
+-- .. with the one that is in sight
+abbrev pub units_at : Input → Units
+units_at i = put_back i.next (units_left i.reader)
+
+-- how many there are
+abbrev pub unit_count : Units → ℕ
+unit_count (units.Next u l) = suc (unit_count l)
+unit_count (units.End place) = 0
+unit_count (units.Stop r) = 0

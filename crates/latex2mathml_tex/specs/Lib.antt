@@ -1,5 +1,10 @@
+pub mod Alphabets
+pub mod Delimiters
 pub mod Errors
 pub mod Left
+pub mod Levels
 pub mod Meanings
+pub mod Models
 pub mod Runs
+pub mod Signs
 pub mod Taking

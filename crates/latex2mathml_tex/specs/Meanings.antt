@@ -1,5 +1,6 @@
 -- The meanings of the code's table, as the definitions have them.
-use Rattle.std.specs.Prelude.{ℕ, List, Option, Some, None, option_map}
+use Rattle.std.specs.Prelude.{ℕ, List, option_map}
+use Rattle.latex2mathml_builder.specs.Names.{side_of, size_of, stretch_of}
 use Rattle.latex2mathml_tex_grammar.specs.Meaning as meant
 use Rattle.latex2mathml_tex_grammar.specs.Symbols as symbol
 use Rattle.latex2mathml_tex.specs.declared.meaning.Class.{Class}
@@ -10,14 +11,8 @@ use Rattle.latex2mathml_tex.specs.declared.meaning.Alphabet.{Alphabet}
 use Rattle.latex2mathml_tex.specs.declared.meaning.Alphabet.TheVariants as code_alphabet
 use Rattle.latex2mathml_tex.specs.declared.meaning.Symbol.{Symbol}
 use Rattle.latex2mathml_tex.specs.declared.meaning.Symbol.TheVariants as code_symbol
-use Rattle.latex2mathml_tex.specs.declared.meaning.Side.{Side}
-use Rattle.latex2mathml_tex.specs.declared.meaning.Side.TheVariants as code_side
-use Rattle.latex2mathml_tex.specs.declared.meaning.Width.{Width}
-use Rattle.latex2mathml_tex.specs.declared.meaning.Width.TheVariants as code_width
 use Rattle.latex2mathml_tex.specs.declared.meaning.FractionRule.{FractionRule}
 use Rattle.latex2mathml_tex.specs.declared.meaning.FractionRule.TheVariants as code_fractionrule
-use Rattle.latex2mathml_tex.specs.declared.meaning.Size.{Size}
-use Rattle.latex2mathml_tex.specs.declared.meaning.Size.TheVariants as code_size
 use Rattle.latex2mathml_tex.specs.declared.meaning.LimitPlace.{LimitPlace}
 use Rattle.latex2mathml_tex.specs.declared.meaning.LimitPlace.TheVariants as code_limitplace
 use Rattle.latex2mathml_tex.specs.declared.meaning.Meaning.{Meaning}
@@ -57,27 +52,15 @@ symbol_of (code_symbol.Sign x y) = symbol.Sign (class_of x) y
 symbol_of (code_symbol.BigOperator x) = symbol.BigOperator x
 symbol_of (code_symbol.Integral x) = symbol.Integral x
 
-abbrev pub side_of : Side → meant.Side
-side_of code_side.Above = meant.Above
-side_of code_side.Below = meant.Below
-
-abbrev pub width_of : Width → meant.Width
-width_of code_width.Stretching = meant.Stretching
-width_of code_width.Rigid = meant.Rigid
-
 abbrev pub fraction_rule_of : FractionRule → meant.FractionRule
 fraction_rule_of code_fractionrule.Bar = meant.Bar
 fraction_rule_of code_fractionrule.NoBar = meant.NoBar
 
-abbrev pub size_of : Size → meant.Size
-size_of code_size.Big = meant.Big
-size_of code_size.Bigger = meant.Bigger
-size_of code_size.VeryBig = meant.VeryBig
-size_of code_size.Biggest = meant.Biggest
-
 abbrev pub limit_place_of : LimitPlace → meant.LimitPlace
 limit_place_of code_limitplace.Beside = meant.Beside
 limit_place_of code_limitplace.ByStyle = meant.ByStyle
+limit_place_of code_limitplace.Movable = meant.Movable
+limit_place_of code_limitplace.Stacked = meant.Stacked
 
 abbrev pub meaning_of : Meaning → meant.Meaning
 meaning_of (code_meaning.Shows x) = meant.Shows (symbol_of x)
@@ -87,7 +70,7 @@ meaning_of (code_meaning.Styled x) = meant.Styled (alphabet_of x)
 meaning_of (code_meaning.Words x) = meant.Words (option_map alphabet_of x)
 meaning_of (code_meaning.Fraction x y) = meant.Fraction (fraction_rule_of x) (option_map style_of y)
 meaning_of code_meaning.Root = meant.Root
-meaning_of (code_meaning.Accent x y z) = meant.Accent (side_of x) y (width_of z)
+meaning_of (code_meaning.Accent x y z) = meant.Accent (side_of x) y (stretch_of z)
 meaning_of (code_meaning.Brace x y) = meant.Brace (side_of x) y
 meaning_of (code_meaning.Stack x) = meant.Stack (side_of x)
 meaning_of code_meaning.StackedRelation = meant.StackedRelation

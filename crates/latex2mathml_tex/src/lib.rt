@@ -1,11 +1,16 @@
 //! LaTeX as authors write it, read to elements of MathML.
 //!
-//! The crate `latex2mathml_tex_grammar` defines what each formula means. What is here so far takes the units of a text and
-//! looks commands up.
+//! The crate `latex2mathml_tex_grammar` defines what each formula means. What is here so far takes the units of a text, and
+//! looks commands, characters and delimiters up.
 #![tactic(auto)]
 
+mod alphabets;
+mod atoms;
 pub mod commands;
+mod delimiters;
 pub mod error;
+mod input;
 pub mod meaning;
 mod reader;
+mod signs;
 pub mod unit;

@@ -1,4 +1,5 @@
 //! What the names of commands mean.
+use latex2mathml_builder::attributes::{Side, Size, Stretch};
 
 /// The class of an atom.
 #[derive(Debug, Clone, Copy)]
@@ -50,20 +51,6 @@ pub enum Symbol {
     Integral(char),
 }
 
-/// On which side of its base a mark stands.
-#[derive(Debug, Clone, Copy)]
-pub enum Side {
-    Above,
-    Below,
-}
-
-/// Whether an accent is as wide as its base.
-#[derive(Debug, Clone, Copy)]
-pub enum Width {
-    Stretching,
-    Rigid,
-}
-
 /// Whether a fraction has its bar, or parentheses around it.
 #[derive(Debug, Clone, Copy)]
 pub enum FractionRule {
@@ -71,20 +58,16 @@ pub enum FractionRule {
     NoBar,
 }
 
-/// The size of a delimiter.
-#[derive(Debug, Clone, Copy)]
-pub enum Size {
-    Big,
-    Bigger,
-    VeryBig,
-    Biggest,
-}
-
-/// Where the limits of a function's name stand.
+/// Where the limits of an operator stand.
 #[derive(Debug, Clone, Copy)]
 pub enum LimitPlace {
     Beside,
+    /// In display style above and below it, else beside it.
     ByStyle,
+    /// Above and below it, where the browser moves them beside it in text.
+    Movable,
+    /// Always above and below it.
+    Stacked,
 }
 
 /// What a command means.
@@ -104,7 +87,7 @@ pub enum Meaning {
     Fraction(FractionRule, Option<Style>),
     Root,
     /// A mark on one operand.
-    Accent(Side, char, Width),
+    Accent(Side, char, Stretch),
     /// A brace, which takes scripts as labels.
     Brace(Side, char),
     /// A first operand above or below the second.

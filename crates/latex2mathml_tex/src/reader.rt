@@ -11,7 +11,7 @@ use crate::reader::slices::{Start, front};
 use crate::unit::{Next, Unit};
 
 /// The rest of a text.
-#[derive(Drop)]
+#[derive(Clone, Copy)]
 pub(crate) struct Reader<'a> {
     rest: &'a str,
     place: usize,

@@ -1,15 +1,15 @@
 -- Units have an outcome, whatever they are.
 use Rattle.std.proofs.Common.{ℕ, zero, suc, ◌-◌, ◌<◌, ◌≤◌, ◌≡◌, Bool, true, false, inl, inr, List, [], ◌∷◌, ◌++◌, Option, Some, None, refl, ap, ◌∙◌, arith, codes}
 use Rattle.std.proofs.lemmas.Bool.{cases_Bool}
-use Rattle.latex2mathml_tex_grammar.specs.{Atoms.Atom, Delimiters.delimiter_of, Laws.HasOneOutcome, Makes.Core, Makes.core, Makes.divider, Makes.Scripts, Makes.no_scripts, Meaning.Beside}
+use Rattle.latex2mathml_tex_grammar.specs.{Atoms.Atom, Rows.Row, Rows.Operand, Rows.empty_row, Rows.row_element, Rows.with_atom, Rows.operand_of, Rows.single, Delimiters.delimiter_of, Laws.HasOneOutcome, Makes.Core, Makes.core, Makes.divider, Makes.Scripts, Makes.no_scripts, Meaning.Beside}
 use Rattle.latex2mathml_tex_grammar.specs.Next.{is_space_piece, past_space, next_are, digits_next, digits_here}
-use Rattle.latex2mathml_tex_grammar.specs.Reading.{Outcome, Read, Refused, ReadsRule, rule_gives, rule_refuses, operand_read, operand_refused, core_read, core_refused, core_missing, core_stopped, atoms_read, atoms_refused, words_read, words_refused, units_taken, units_missing, digits_taken, delimiter_taken, delimiter_missing, ReadsOperand, group_operand, digit_operand, other_operand, other_refused, no_operand, operand_at_end, operand_stopped, ReadsScripts, scripts_end, mark_taken, script_read, script_refused, second_script, ReadsAtom, divider_read, divider_refused, on_empty_row, base_read, base_refused, ReadsAtoms, text_ends, never_ended, atoms_stopped, atoms_end, atom_read, later_refused, atom_refused, ReadsWord, word_stands, group_of_words, formula_read, formula_refused, words_in_alphabet, no_word, word_missing, word_at_end, word_stopped, ReadsWords, words_end, words_never_ended, words_stopped, word_read, later_word_refused, word_refused}
+use Rattle.latex2mathml_tex_grammar.specs.Reading.{Outcome, Read, Refused, ReadsRule, rule_gives, rule_refuses, operand_read, operand_refused, core_read, core_refused, core_missing, core_stopped, atoms_read, atoms_refused, words_read, words_refused, units_taken, units_missing, digits_taken, delimiter_taken, delimiter_missing, ReadsOperand, group_operand, group_refused, digit_operand, other_operand, other_refused, no_operand, operand_at_end, operand_stopped, ReadsScripts, scripts_end, mark_taken, script_read, script_refused, second_script, ReadsAtom, divider_read, divider_refused, on_empty_row, base_read, base_refused, ReadsAtoms, text_ends, never_ended, atoms_stopped, atoms_end, atom_read, atom_refused, ReadsWord, word_stands, group_of_words, formula_read, formula_refused, words_in_alphabet, no_word, word_missing, word_at_end, word_stopped, ReadsWords, words_end, words_never_ended, words_stopped, word_read, word_refused}
 use Rattle.latex2mathml_tex_grammar.specs.Refusal.{Refusal}
 use Rattle.latex2mathml_tex_grammar.specs.Rules.{Context, in_context, styled, Ending, WholeText, InBraces, InBrackets, InDollars, InDelimiters, Rule, gives, refuses, reads_operand, reads_core, reads_atoms, reads_words, takes_if, takes_digits, takes_delimiter, rule, a_digit}
 use Rattle.latex2mathml_tex_grammar.specs.Starts.{Mark, start_of_mark, is_command, step_of, AtomStart, DividerStart, ScriptStart, RuleStart, OperandStart, NoStart, GroupStart, DigitStart, OtherStart, atom_start, operand_start, mark_of, Step, GoesOn, TakesOperand, Twice, step_of_mark, step_next, empty_base, ends, unended, is_close}
 use Rattle.latex2mathml_tex_grammar.specs.Symbols.{InText, InScript, Alphabet}
 use Rattle.latex2mathml_tex_grammar.specs.Units.{Piece, Space, Open, Close, Command, Character, Unit, Units, Next, End, Stop}
-use Rattle.latex2mathml_tex_grammar.specs.Words.{Word, Formula, WordRule, IsWord, BeginsGroup, EndsGroup, BeginsFormula, TakesWords, NoWord, word_rule}
+use Rattle.latex2mathml_tex_grammar.specs.Words.{Words, no_words, Formula, with_word, WordRule, IsWord, BeginsGroup, EndsGroup, BeginsFormula, TakesWords, NoWord, word_rule}
 use Rattle.latex2mathml_tex_grammar.proofs.Unique.{one_atoms}
 
 -- how many units there are
@@ -92,25 +92,28 @@ find_next (test ∷ tests) l = elim (sees l) [
 -- there is an outcome for fewer than k units
 record HasOutcomes (k : ℕ) : Type 0 where
   of_rule : (r : Rule) (l : Units) → size l < k → Comes Core (ReadsRule r l) (size l)
-  of_operand : (place : ℕ) (c : Context) (l : Units) → size l < k → Comes (List Atom) (ReadsOperand place c l) (size l)
+  of_operand : (place : ℕ) (c : Context) (l : Units) → size l < k → Comes Operand (ReadsOperand place c l) (size l)
   of_scripts : (c : Context) (base : Atom) (scripts : Scripts) (l : Units) → size l < k → Comes Atom (ReadsScripts c base scripts l) (size l)
-  of_atoms : (ending : Ending) (c : Context) (l : Units) → size l < k → Comes (List Atom) (ReadsAtoms ending c l) (size l)
+  of_atoms : (ending : Ending) (c : Context) (row : Row) (l : Units) → size l < k → Comes Row (ReadsAtoms ending c row l) (size l)
   -- what is a part of words is taken
-  of_word : (place : ℕ) (a : Option Alphabet) (l : Units) → size l < k → Comes (List Word) (ReadsWord place a l) (size l - 1)
-  of_words : (place : ℕ) (a : Option Alphabet) (l : Units) → size l < k → Comes (List Word) (ReadsWords place a l) (size l)
+  of_word : (place : ℕ) (a : Option Alphabet) (ws : Words) (l : Units) → size l < k → Comes Words (ReadsWord place a ws l) (size l - 1)
+  of_words : (place : ℕ) (a : Option Alphabet) (ws : Words) (l : Units) → size l < k → Comes Words (ReadsWords place a ws l) (size l)
 
 -- With one unit more
 
-begun_operand : (k : ℕ) → HasOutcomes k → (place : ℕ) (c : Context) (l m : Units) (u : Unit) → past_space l ≡ Next u m → size m < size l → size l < suc k → (start : OperandStart) → operand_start u.piece ≡ start → Comes (List Atom) (ReadsOperand place c l) (size l)
+begun_operand : (k : ℕ) → HasOutcomes k → (place : ℕ) (c : Context) (l m : Units) (u : Unit) → past_space l ≡ Next u m → size m < size l → size l < suc k → (start : OperandStart) → operand_start u.piece ≡ start → Comes Operand (ReadsOperand place c l) (size l)
 begun_operand k has place c l m u p less h NoStart s = is_refused _ (no_operand p s)
-begun_operand k has place c l m u p less h GroupStart s = with_outcome (has.of_atoms (InBraces u.place) c m (omega arith)) (omega arith) (λ o. group_operand p s)
+begun_operand k has place c l m u p less h GroupStart s = elim (has.of_atoms (InBraces u.place) c empty_row m (omega arith)) [
+  | comes_to row n fits d ↦ comes_to (operand_of row) n (omega arith) (group_operand p s d)
+  | is_refused r d ↦ is_refused r (group_refused p s d)
+]
 begun_operand k has place c l m u p less h (DigitStart digit) s = comes_to _ m (omega arith) (digit_operand p s)
 begun_operand k has place c l m u p less h OtherStart s = elim (has.of_rule (rule u.place c u.piece) m (omega arith)) [
-  | comes_to x n fits d ↦ comes_to (x.atom ∷ []) n (omega arith) (other_operand p s d)
+  | comes_to x n fits d ↦ comes_to (single c.style x.atom) n (omega arith) (other_operand p s d)
   | is_refused r d ↦ is_refused r (other_refused p s d)
 ]
 
-operand_total : (k : ℕ) → HasOutcomes k → (place : ℕ) (c : Context) (l : Units) → size l < suc k → Comes (List Atom) (ReadsOperand place c l) (size l)
+operand_total : (k : ℕ) → HasOutcomes k → (place : ℕ) (c : Context) (l : Units) → size l < suc k → Comes Operand (ReadsOperand place c l) (size l)
 operand_total k has place c l h = elim (sees l) [
   | sees_unit u m p less ↦ begun_operand k has place c l m u p less h (operand_start u.piece) refl
   | sees_end at p ↦ is_refused _ (operand_at_end p)
@@ -121,7 +124,7 @@ operand_total k has place c l h = elim (sees l) [
 stepped : (k : ℕ) → HasOutcomes k → (c : Context) (base : Atom) (scripts : Scripts) (l m : Units) (u : Unit) → past_space l ≡ Next u m → size m < k → (step : Step) → step_of_mark scripts (mark_of u.piece) ≡ Some step → Comes Atom (ReadsScripts c base scripts l) (size m)
 stepped k has c base scripts l m u p h (GoesOn more) s = with_outcome (has.of_scripts c base more m h) (omega arith) (λ o. mark_taken p s)
 stepped k has c base scripts l m u p h (TakesOperand f) s =
-    after (λ xs n. ReadsScripts c base (f xs) n) (has.of_operand u.place (styled c InScript) m h) (omega arith) (λ xs n fits. has.of_scripts c base (f xs) n (omega arith)) (λ xs n o. script_read p s) (λ r. script_refused p s)
+    after (λ x n. ReadsScripts c base (f x.element) n) (has.of_operand u.place (styled c InScript) m h) (omega arith) (λ x n fits. has.of_scripts c base (f x.element) n (omega arith)) (λ x n o. script_read p s) (λ r. script_refused p s)
 stepped k has c base scripts l m u p h (Twice kind) s = is_refused _ (second_script p s)
 
 marked : (k : ℕ) → HasOutcomes k → (c : Context) (base : Atom) (scripts : Scripts) (l m : Units) (u : Unit) → past_space l ≡ Next u m → size m < size l → size l < suc k → (step : Option Step) → step_of_mark scripts (mark_of u.piece) ≡ step → Comes Atom (ReadsScripts c base scripts l) (size l)
@@ -172,60 +175,54 @@ begun_atom k has ending c u l h ScriptStart s =
     with_outcome (stepped k has c empty_base (no_scripts Beside) (Next u l) l u stays h _ step) (omega arith) (λ o. on_empty_row s)
 
 -- an atom that has an outcome, and then the atoms after it
-atom_total : (k : ℕ) → HasOutcomes k → (ending : Ending) (c : Context) (l m : Units) (u : Unit) → past_space l ≡ Next u m → size m < size l → size l < suc k → ends ending u.piece ≡ false → Comes (List Atom) (ReadsAtoms ending c l) (size l)
-atom_total k has ending c l m u p less h s = elim (begun_atom k has ending c u m (omega arith) (atom_start ending u.piece) refl) [
+atom_total : (k : ℕ) → HasOutcomes k → (ending : Ending) (c : Context) (row : Row) (l m : Units) (u : Unit) → past_space l ≡ Next u m → size m < size l → size l < suc k → ends ending u.piece ≡ false → Comes Row (ReadsAtoms ending c row l) (size l)
+atom_total k has ending c row l m u p less h s = elim (begun_atom k has ending c u m (omega arith) (atom_start ending u.piece) refl) [
   | is_refused r d ↦ is_refused r (atom_refused p s d)
-  | comes_to x n fits d ↦ elim (has.of_atoms ending c n (omega arith)) [
-    | comes_to xs rest fewer ds ↦ comes_to (x ∷ xs) rest (omega arith) (atom_read p s d ds)
-    | is_refused r ds ↦ is_refused r (later_refused p s d ds)
-  ]
+  | comes_to x n fits d ↦ with_outcome (has.of_atoms ending c (with_atom c.style row x) n (omega arith)) (omega arith) (λ o. atom_read p s d)
 ]
 
-ended_total : (ending : Ending) (c : Context) (l : Units) (at : ℕ) → past_space l ≡ End at → (refusal : Option Refusal) → unended ending ≡ refusal → Comes (List Atom) (ReadsAtoms ending c l) (size l)
-ended_total ending c l at p None e = comes_to [] (End at) (omega arith) (text_ends p e)
-ended_total ending c l at p (Some r) e = is_refused r (never_ended p e)
+ended_total : (ending : Ending) (c : Context) (row : Row) (l : Units) (at : ℕ) → past_space l ≡ End at → (refusal : Option Refusal) → unended ending ≡ refusal → Comes Row (ReadsAtoms ending c row l) (size l)
+ended_total ending c row l at p None e = comes_to row (End at) (omega arith) (text_ends p e)
+ended_total ending c row l at p (Some r) e = is_refused r (never_ended p e)
 
-atoms_total : (k : ℕ) → HasOutcomes k → (ending : Ending) (c : Context) (l : Units) → size l < suc k → Comes (List Atom) (ReadsAtoms ending c l) (size l)
-atoms_total k has ending c l h = elim (sees l) [
-  | sees_end at p ↦ ended_total ending c l at p (unended ending) refl
+atoms_total : (k : ℕ) → HasOutcomes k → (ending : Ending) (c : Context) (row : Row) (l : Units) → size l < suc k → Comes Row (ReadsAtoms ending c row l) (size l)
+atoms_total k has ending c row l h = elim (sees l) [
+  | sees_end at p ↦ ended_total ending c row l at p (unended ending) refl
   | sees_stop r p ↦ is_refused r (atoms_stopped p)
   | sees_unit u m p less ↦ elim (cases_Bool (ends ending u.piece)) [
-    | inl s ↦ comes_to [] m (omega arith) (atoms_end p s)
-    | inr s ↦ atom_total k has ending c l m u p less h s
+    | inl s ↦ comes_to row m (omega arith) (atoms_end p s)
+    | inr s ↦ atom_total k has ending c row l m u p less h s
   ]
 ]
 
-begun_word : (k : ℕ) → HasOutcomes k → (place : ℕ) (a : Option Alphabet) (u : Unit) (l : Units) → size l < k → (r : WordRule) → word_rule a u.piece ≡ r → Comes (List Word) (ReadsWord place a (Next u l)) (size l)
-begun_word k has place a u l h (IsWord w) s = comes_to (w ∷ []) l (omega arith) (word_stands s)
-begun_word k has place a u l h BeginsGroup s = with_outcome (has.of_words u.place a l h) (omega arith) (λ o. group_of_words s)
-begun_word k has place a u l h EndsGroup s = is_refused _ (word_missing s)
-begun_word k has place a u l h BeginsFormula s = elim (has.of_atoms (InDollars u.place) (in_context InText None) l h) [
-  | comes_to xs m fits d ↦ comes_to (Formula xs ∷ []) m fits (formula_read s d)
+begun_word : (k : ℕ) → HasOutcomes k → (place : ℕ) (a : Option Alphabet) (ws : Words) (u : Unit) (l : Units) → size l < k → (r : WordRule) → word_rule a u.piece ≡ r → Comes Words (ReadsWord place a ws (Next u l)) (size l)
+begun_word k has place a ws u l h (IsWord w) s = comes_to (with_word ws w) l (omega arith) (word_stands s)
+begun_word k has place a ws u l h BeginsGroup s = with_outcome (has.of_words u.place a ws l h) (omega arith) (λ o. group_of_words s)
+begun_word k has place a ws u l h EndsGroup s = is_refused _ (word_missing s)
+begun_word k has place a ws u l h BeginsFormula s = elim (has.of_atoms (InDollars u.place) (in_context InText None) empty_row l h) [
+  | comes_to row m fits d ↦ comes_to (with_word ws (Formula (row_element row.elements))) m fits (formula_read s d)
   | is_refused r d ↦ is_refused r (formula_refused s d)
 ]
-begun_word k has place a u l h (TakesWords b) s =
-    let less = size-past_space l in with_outcome (has.of_word u.place b (past_space l) (omega arith)) (omega arith) (λ o. words_in_alphabet s)
-begun_word k has place a u l h (NoWord kind) s = is_refused _ (no_word s)
+begun_word k has place a ws u l h (TakesWords b) s =
+    let less = size-past_space l in with_outcome (has.of_word u.place b ws (past_space l) (omega arith)) (omega arith) (λ o. words_in_alphabet s)
+begun_word k has place a ws u l h (NoWord kind) s = is_refused _ (no_word s)
 
-word_total : (k : ℕ) → HasOutcomes k → (place : ℕ) (a : Option Alphabet) (l : Units) → size l < suc k → Comes (List Word) (ReadsWord place a l) (size l - 1)
-word_total k has place a (Next u l) h = with_outcome (begun_word k has place a u l (omega arith) (word_rule a u.piece) refl) (omega arith) (λ o d. d)
-word_total k has place a (End at) h = is_refused _ word_at_end
-word_total k has place a (Stop r) h = is_refused r word_stopped
+word_total : (k : ℕ) → HasOutcomes k → (place : ℕ) (a : Option Alphabet) (ws : Words) (l : Units) → size l < suc k → Comes Words (ReadsWord place a ws l) (size l - 1)
+word_total k has place a ws (Next u l) h = with_outcome (begun_word k has place a ws u l (omega arith) (word_rule a u.piece) refl) (omega arith) (λ o d. d)
+word_total k has place a ws (End at) h = is_refused _ word_at_end
+word_total k has place a ws (Stop r) h = is_refused r word_stopped
 
 -- a part of words that has an outcome, and then the words after it
-word_after : (k : ℕ) → HasOutcomes k → (place : ℕ) (a : Option Alphabet) (u : Unit) (l : Units) → size l < k → is_close u.piece ≡ false → Comes (List Word) (ReadsWord place a (Next u l)) (size l) → Comes (List Word) (ReadsWords place a (Next u l)) (size (Next u l))
-word_after k has place a u l h s (is_refused r d) = is_refused r (word_refused s d)
-word_after k has place a u l h s (comes_to ws m fits d) = elim (has.of_words place a m (omega arith)) [
-  | comes_to vs rest fewer ds ↦ comes_to (ws ++ vs) rest (omega arith) (word_read s d ds)
-  | is_refused r ds ↦ is_refused r (later_word_refused s d ds)
-]
+word_after : (k : ℕ) → HasOutcomes k → (place : ℕ) (a : Option Alphabet) (ws : Words) (u : Unit) (l : Units) → size l < k → is_close u.piece ≡ false → Comes Words (ReadsWord place a ws (Next u l)) (size l) → Comes Words (ReadsWords place a ws (Next u l)) (size (Next u l))
+word_after k has place a ws u l h s (is_refused r d) = is_refused r (word_refused s d)
+word_after k has place a ws u l h s (comes_to vs m fits d) = with_outcome (has.of_words place a vs m (omega arith)) (omega arith) (λ o. word_read s d)
 
-words_total : (k : ℕ) → HasOutcomes k → (place : ℕ) (a : Option Alphabet) (l : Units) → size l < suc k → Comes (List Word) (ReadsWords place a l) (size l)
-words_total k has place a (End at) h = is_refused _ words_never_ended
-words_total k has place a (Stop r) h = is_refused r words_stopped
-words_total k has place a (Next u l) h = elim (cases_Bool (is_close u.piece)) [
-  | inl s ↦ comes_to [] l (omega arith) (words_end s)
-  | inr s ↦ word_after k has place a u l (omega arith) s (begun_word k has place a u l (omega arith) (word_rule a u.piece) refl)
+words_total : (k : ℕ) → HasOutcomes k → (place : ℕ) (a : Option Alphabet) (ws : Words) (l : Units) → size l < suc k → Comes Words (ReadsWords place a ws l) (size l)
+words_total k has place a ws (End at) h = is_refused _ words_never_ended
+words_total k has place a ws (Stop r) h = is_refused r words_stopped
+words_total k has place a ws (Next u l) h = elim (cases_Bool (is_close u.piece)) [
+  | inl s ↦ comes_to ws l (omega arith) (words_end s)
+  | inr s ↦ word_after k has place a ws u l (omega arith) s (begun_word k has place a ws u l (omega arith) (word_rule a u.piece) refl)
 ]
 
 -- so a rule has an outcome
@@ -252,9 +249,9 @@ rule_total k has (reads_operand place c then) l h =
     after (λ xs m. ReadsRule (then xs) m) (operand_total k has place c l h) (omega arith) (λ xs m fits. rule_total k has (then xs) m (omega arith)) (λ xs m o. operand_read) (λ r. operand_refused)
 rule_total k has (reads_core place c then) l h = after_core k has place c then l h (λ x m fits. rule_total k has (then x) m (omega arith))
 rule_total k has (reads_atoms ending c then) l h =
-    after (λ xs m. ReadsRule (then xs) m) (atoms_total k has ending c l h) (omega arith) (λ xs m fits. rule_total k has (then xs) m (omega arith)) (λ xs m o. atoms_read) (λ r. atoms_refused)
+    after (λ xs m. ReadsRule (then xs) m) (atoms_total k has ending c empty_row l h) (omega arith) (λ xs m fits. rule_total k has (then xs) m (omega arith)) (λ xs m o. atoms_read) (λ r. atoms_refused)
 rule_total k has (reads_words place a then) l h =
-    let less = size-past_space l in after (λ ws m. ReadsRule (then ws) m) (word_total k has place a (past_space l) (omega arith)) (omega arith) (λ ws m fits. rule_total k has (then ws) m (omega arith)) (λ ws m o. words_read) (λ r. words_refused)
+    let less = size-past_space l in after (λ ws m. ReadsRule (then ws) m) (word_total k has place a no_words (past_space l) (omega arith)) (omega arith) (λ ws m fits. rule_total k has (then ws) m (omega arith)) (λ ws m o. words_read) (λ r. words_refused)
 rule_total k has (takes_if tests then otherwise) l h =
     after_tests l tests then otherwise (find_next tests l) (λ texts m fits. rule_total k has (then texts) m (omega arith)) (rule_total k has otherwise l h)
 rule_total k has (takes_digits then) l h =
@@ -267,9 +264,9 @@ outcomes zero = record {
   of_rule = λ r l h. absurd (omega arith);
   of_operand = λ place c l h. absurd (omega arith);
   of_scripts = λ c base scripts l h. absurd (omega arith);
-  of_atoms = λ ending c l h. absurd (omega arith);
-  of_word = λ place a l h. absurd (omega arith);
-  of_words = λ place a l h. absurd (omega arith);
+  of_atoms = λ ending c row l h. absurd (omega arith);
+  of_word = λ place a ws l h. absurd (omega arith);
+  of_words = λ place a ws l h. absurd (omega arith);
 }
 outcomes (suc k) = record {
   of_rule = rule_total k (outcomes k);
@@ -285,8 +282,8 @@ found_outcome (comes_to x m fits d) = (Read x m, d)
 found_outcome (is_refused r d) = (Refused r, d)
 
 -- the law
-pub has_one_outcome : (ending : Ending) (c : Context) (l : Units) → HasOneOutcome ending c l
-has_one_outcome ending c l = record {
-  some = found_outcome ((outcomes (suc (size l))).of_atoms ending c l (omega arith));
+pub has_one_outcome : (ending : Ending) (c : Context) (row : Row) (l : Units) → HasOneOutcome ending c row l
+has_one_outcome ending c row l = record {
+  some = found_outcome ((outcomes (suc (size l))).of_atoms ending c row l (omega arith));
   one = λ o p d e. one_atoms d e;
 }

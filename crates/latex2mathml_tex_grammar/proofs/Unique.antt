@@ -1,9 +1,10 @@
 -- Two outcomes of the same units are one.
 use Rattle.std.proofs.Common.{◌≡◌, ℕ, List, Option, Some, None, refl, ap, subst}
-use Rattle.latex2mathml_tex_grammar.specs.{Atoms.Atom, Makes.Core, Makes.Scripts, Makes.no_scripts}
-use Rattle.latex2mathml_tex_grammar.specs.Reading.{Outcome, Read, Refused, ReadsRule, rule_gives, rule_refuses, operand_read, operand_refused, core_read, core_refused, core_missing, core_stopped, atoms_read, atoms_refused, words_read, words_refused, units_taken, units_missing, digits_taken, delimiter_taken, delimiter_missing, ReadsOperand, group_operand, digit_operand, other_operand, other_refused, no_operand, operand_at_end, operand_stopped, ReadsScripts, scripts_end, mark_taken, script_read, script_refused, second_script, ReadsAtom, divider_read, divider_refused, on_empty_row, base_read, base_refused, ReadsAtoms, text_ends, never_ended, atoms_stopped, atoms_end, atom_read, later_refused, atom_refused, ReadsWord, word_stands, group_of_words, formula_read, formula_refused, words_in_alphabet, no_word, word_missing, word_at_end, word_stopped, ReadsWords, words_end, words_never_ended, words_stopped, word_read, later_word_refused, word_refused}
+use Rattle.latex2mathml_elements.specs.Element.{Element}
+use Rattle.latex2mathml_tex_grammar.specs.{Atoms.Atom, Makes.Core, Makes.Scripts, Makes.no_scripts, Rows.Row, Rows.Operand, Rows.empty_row, Rows.with_atom}
+use Rattle.latex2mathml_tex_grammar.specs.Reading.{Outcome, Read, Refused, ReadsRule, rule_gives, rule_refuses, operand_read, operand_refused, core_read, core_refused, core_missing, core_stopped, atoms_read, atoms_refused, words_read, words_refused, units_taken, units_missing, digits_taken, delimiter_taken, delimiter_missing, ReadsOperand, group_operand, group_refused, digit_operand, other_operand, other_refused, no_operand, operand_at_end, operand_stopped, ReadsScripts, scripts_end, mark_taken, script_read, script_refused, second_script, ReadsAtom, divider_read, divider_refused, on_empty_row, base_read, base_refused, ReadsAtoms, text_ends, never_ended, atoms_stopped, atoms_end, atom_read, atom_refused, ReadsWord, word_stands, group_of_words, formula_read, formula_refused, words_in_alphabet, no_word, word_missing, word_at_end, word_stopped, ReadsWords, words_end, words_never_ended, words_stopped, word_read, word_refused}
 use Rattle.latex2mathml_tex_grammar.specs.Rules.{Context, Ending, InBraces, Rule, rule}
-use Rattle.latex2mathml_tex_grammar.specs.{Starts.step_next, Starts.step_of_mark, Starts.mark_of, Starts.Step, Starts.GoesOn, Starts.TakesOperand, Starts.Twice, Refusal.Kind, Refusal.refusal_at, Symbols.Alphabet, Words.Word, Words.WordRule, Words.TakesWords}
+use Rattle.latex2mathml_tex_grammar.specs.{Starts.step_next, Starts.step_of_mark, Starts.mark_of, Starts.Step, Starts.GoesOn, Starts.TakesOperand, Starts.Twice, Refusal.Kind, Refusal.refusal_at, Symbols.Alphabet, Words.Words, Words.WordRule, Words.TakesWords}
 use Rattle.latex2mathml_tex_grammar.specs.Units.{Unit, Units, Next}
 
 -- what holds of the unit that stands next, and of the units after it, holds whichever way it was found
@@ -32,10 +33,10 @@ moved_some {A} P {found} {x} {y} {m} {n} p q d =
 core_is : (c : Context) {w m n : Units} {u v : Unit} {o : Outcome Core} → w ≡ Next u m → w ≡ Next v n → ReadsRule (rule v.place c v.piece) n o → ReadsRule (rule u.place c u.piece) m o
 core_is c {o = o} p q e = next_is (λ v n. ReadsRule (rule v.place c v.piece) n o) p q e
 
-group_is : {c : Context} {w m n : Units} {u v : Unit} {o : Outcome (List Atom)} → w ≡ Next u m → w ≡ Next v n → ReadsAtoms (InBraces v.place) c n o → ReadsAtoms (InBraces u.place) c m o
-group_is {c} {o = o} p q e = next_is (λ v n. ReadsAtoms (InBraces v.place) c n o) p q e
+group_is : {c : Context} {w m n : Units} {u v : Unit} {o : Outcome Row} → w ≡ Next u m → w ≡ Next v n → ReadsAtoms (InBraces v.place) c empty_row n o → ReadsAtoms (InBraces u.place) c empty_row m o
+group_is {c} {o = o} p q e = next_is (λ v n. ReadsAtoms (InBraces v.place) c empty_row n o) p q e
 
-operand_is : {c : Context} {w m n : Units} {u v : Unit} {o : Outcome (List Atom)} → w ≡ Next u m → w ≡ Next v n → ReadsOperand v.place c n o → ReadsOperand u.place c m o
+operand_is : {c : Context} {w m n : Units} {u v : Unit} {o : Outcome Operand} → w ≡ Next u m → w ≡ Next v n → ReadsOperand v.place c n o → ReadsOperand u.place c m o
 operand_is {c} {o = o} p q e = next_is (λ v n. ReadsOperand v.place c n o) p q e
 
 atom_is : {ending : Ending} {c : Context} {w m n : Units} {u v : Unit} {o : Outcome Atom} → w ≡ Next u m → w ≡ Next v n → ReadsAtom ending c v n o → ReadsAtom ending c u m o
@@ -52,11 +53,11 @@ taken_moved then {o = o} p q d = moved_some (λ x m. ReadsRule (then x) m o) p q
 base_moved : {c : Context} {x y : Core} {m n : Units} {o : Outcome Atom} → Read x m ≡ Read y n → ReadsScripts c y.atom (no_scripts y.limits) n o → ReadsScripts c x.atom (no_scripts x.limits) m o
 base_moved {c} {o = o} e d = moved (λ x m. ReadsScripts c x.atom (no_scripts x.limits) m o) e d
 
-atoms_moved : {ending : Ending} {c : Context} {x y : Atom} {m n : Units} {o : Outcome (List Atom)} → Read x m ≡ Read y n → ReadsAtoms ending c n o → ReadsAtoms ending c m o
-atoms_moved {ending} {c} {o = o} e d = moved (λ x m. ReadsAtoms ending c m o) e d
+atoms_moved : {ending : Ending} {c : Context} (row : Row) {x y : Atom} {m n : Units} {o : Outcome Row} → Read x m ≡ Read y n → ReadsAtoms ending c (with_atom c.style row y) n o → ReadsAtoms ending c (with_atom c.style row x) m o
+atoms_moved {ending} {c} row {o = o} e d = moved (λ x m. ReadsAtoms ending c (with_atom c.style row x) m o) e d
 
-words_moved : {place : ℕ} {a : Option Alphabet} {x y : List Word} {m n : Units} {o : Outcome (List Word)} → Read x m ≡ Read y n → ReadsWords place a n o → ReadsWords place a m o
-words_moved {place} {a} {o = o} e d = moved (λ x m. ReadsWords place a m o) e d
+words_moved : {place : ℕ} {a : Option Alphabet} {ws vs : Words} {m n : Units} {o : Outcome Words} → Read ws m ≡ Read vs n → ReadsWords place a vs n o → ReadsWords place a ws m o
+words_moved {place} {a} {o = o} e d = moved (λ ws m. ReadsWords place a ws m o) e d
 
 -- the step of the mark that stands next is one
 
@@ -69,7 +70,7 @@ goes_on step P {m = m} {n = n} {a = a} {b = b} p q s t e =
     let rest : n ≡ m = cc in
     subst (λ x. P x m) same (subst (λ k. P b k) rest e)
 
-same_operand_step : (step : Unit → Option Step) (P : (List Atom → Scripts) → Type 0) {w m n : Units} {u v : Unit} {f g : List Atom → Scripts} → w ≡ Next u m → w ≡ Next v n → step u ≡ Some (TakesOperand f) → step v ≡ Some (TakesOperand g) → P g → P f
+same_operand_step : (step : Unit → Option Step) (P : (Element → Scripts) → Type 0) {w m n : Units} {u v : Unit} {f g : Element → Scripts} → w ≡ Next u m → w ≡ Next v n → step u ≡ Some (TakesOperand f) → step v ≡ Some (TakesOperand g) → P g → P f
 same_operand_step step P {f = f} {g = g} p q s t e = (let same : g ≡ f = cc (one_step step p q s t) in subst P same e)
 
 same_second : (step : Unit → Option Step) {w m n : Units} {u v : Unit} {a b : Kind} → w ≡ Next u m → w ≡ Next v n → step u ≡ Some (Twice a) → step v ≡ Some (Twice b) → refusal_at a u.place ≡ refusal_at b v.place
@@ -85,15 +86,15 @@ ended_there scripts p s t = cc (ap (step_next scripts) p)
 same_alphabet : (P : Option Alphabet → Type 0) {r : WordRule} {a b : Option Alphabet} → r ≡ TakesWords a → r ≡ TakesWords b → P b → P a
 same_alphabet P {r} {a} {b} s t e = (let same : b ≡ a = cc in subst P same e)
 
-word_is : {place : ℕ} {r : WordRule} {a b : Option Alphabet} {l : Units} {o : Outcome (List Word)} → r ≡ TakesWords a → r ≡ TakesWords b → ReadsWord place b l o → ReadsWord place a l o
-word_is {place} {l = l} {o = o} s t e = same_alphabet (λ a. ReadsWord place a l o) s t e
+word_is : {place : ℕ} {r : WordRule} {a b : Option Alphabet} {ws : Words} {l : Units} {o : Outcome Words} → r ≡ TakesWords a → r ≡ TakesWords b → ReadsWord place b ws l o → ReadsWord place a ws l o
+word_is {place} {ws = ws} {l = l} {o = o} s t e = same_alphabet (λ a. ReadsWord place a ws l o) s t e
 
 scripts_go_on : (step : Unit → Option Step) {c : Context} {base : Atom} {w m n : Units} {u v : Unit} {a b : Scripts} {o : Outcome Atom} → w ≡ Next u m → w ≡ Next v n → step u ≡ Some (GoesOn a) → step v ≡ Some (GoesOn b) → ReadsScripts c base b n o → ReadsScripts c base a m o
 scripts_go_on step {c} {base} {o = o} p q s t e = goes_on step (λ x n. ReadsScripts c base x n o) p q s t e
 
-script_moved : (step : Unit → Option Step) {c : Context} {base : Atom} {w m n k j : Units} {u v : Unit} {f g : List Atom → Scripts} {xs ys : List Atom} {o : Outcome Atom} → w ≡ Next u m → w ≡ Next v n → step u ≡ Some (TakesOperand f) → step v ≡ Some (TakesOperand g) → Read xs k ≡ Read ys j → ReadsScripts c base (g ys) j o → ReadsScripts c base (f xs) k o
-script_moved step {c} {base} {j = j} {f = f} {ys = ys} {o = o} p q s t e d =
-    moved (λ xs k. ReadsScripts c base (f xs) k o) e (same_operand_step step (λ h. ReadsScripts c base (h ys) j o) p q s t d)
+script_moved : (step : Unit → Option Step) {c : Context} {base : Atom} {w m n k j : Units} {u v : Unit} {f g : Element → Scripts} {x y : Operand} {o : Outcome Atom} → w ≡ Next u m → w ≡ Next v n → step u ≡ Some (TakesOperand f) → step v ≡ Some (TakesOperand g) → Read x k ≡ Read y j → ReadsScripts c base (g y.element) j o → ReadsScripts c base (f x.element) k o
+script_moved step {c} {base} {j = j} {f = f} {y = y} {o = o} p q s t e d =
+    moved (λ x k. ReadsScripts c base (f x.element) k o) e (same_operand_step step (λ h. ReadsScripts c base (h y.element) j o) p q s t d)
 
 mutual
   -- a rule comes to one outcome
@@ -139,19 +140,29 @@ mutual
   one_rule (delimiter_missing p) (delimiter_missing q) = refl
 
   -- an operand comes to one outcome
-  pub one_operand : {place : ℕ} {c : Context} {l : Units} {o p : Outcome (List Atom)} → ReadsOperand place c l o → ReadsOperand place c l p → o ≡ p
-  one_operand (group_operand {c = c} p s d) (group_operand q t e) = one_atoms d (group_is p q e)
+  pub one_operand : {place : ℕ} {c : Context} {l : Units} {o p : Outcome Operand} → ReadsOperand place c l o → ReadsOperand place c l p → o ≡ p
+  one_operand (group_operand {c = c} p s d) (group_operand q t e) = cc (one_atoms d (group_is p q e))
+  one_operand (group_operand {c = c} p s d) (group_refused q t e) = cc (one_atoms d (group_is p q e))
+  one_operand (group_refused {c = c} p s d) (group_operand q t e) = cc (one_atoms d (group_is p q e))
+  one_operand (group_refused {c = c} p s d) (group_refused q t e) = cc (one_atoms d (group_is p q e))
   one_operand (other_operand {c = c} p s d) (other_operand q t e) = cc (one_rule d (core_is c p q e))
   one_operand (other_operand {c = c} p s d) (other_refused q t e) = cc (one_rule d (core_is c p q e))
   one_operand (other_refused {c = c} p s d) (other_operand q t e) = cc (one_rule d (core_is c p q e))
   one_operand (other_refused {c = c} p s d) (other_refused q t e) = cc (one_rule d (core_is c p q e))
   one_operand (group_operand p s d) (digit_operand q t) = cc
+  one_operand (group_refused p s d) (digit_operand q t) = cc
   one_operand (group_operand p s d) (other_operand q t e) = cc
+  one_operand (group_refused p s d) (other_operand q t e) = cc
   one_operand (group_operand p s d) (other_refused q t e) = cc
+  one_operand (group_refused p s d) (other_refused q t e) = cc
   one_operand (group_operand p s d) (no_operand q t) = cc
+  one_operand (group_refused p s d) (no_operand q t) = cc
   one_operand (group_operand p s d) (operand_at_end q) = cc
+  one_operand (group_refused p s d) (operand_at_end q) = cc
   one_operand (group_operand p s d) (operand_stopped q) = cc
+  one_operand (group_refused p s d) (operand_stopped q) = cc
   one_operand (digit_operand p s) (group_operand q t e) = cc
+  one_operand (digit_operand p s) (group_refused q t e) = cc
   one_operand (digit_operand p s) (digit_operand q t) = cc
   one_operand (digit_operand p s) (other_operand q t e) = cc
   one_operand (digit_operand p s) (other_refused q t e) = cc
@@ -159,16 +170,19 @@ mutual
   one_operand (digit_operand p s) (operand_at_end q) = cc
   one_operand (digit_operand p s) (operand_stopped q) = cc
   one_operand (other_operand p s d) (group_operand q t e) = cc
+  one_operand (other_operand p s d) (group_refused q t e) = cc
   one_operand (other_operand p s d) (digit_operand q t) = cc
   one_operand (other_operand p s d) (no_operand q t) = cc
   one_operand (other_operand p s d) (operand_at_end q) = cc
   one_operand (other_operand p s d) (operand_stopped q) = cc
   one_operand (other_refused p s d) (group_operand q t e) = cc
+  one_operand (other_refused p s d) (group_refused q t e) = cc
   one_operand (other_refused p s d) (digit_operand q t) = cc
   one_operand (other_refused p s d) (no_operand q t) = cc
   one_operand (other_refused p s d) (operand_at_end q) = cc
   one_operand (other_refused p s d) (operand_stopped q) = cc
   one_operand (no_operand p s) (group_operand q t e) = cc
+  one_operand (no_operand p s) (group_refused q t e) = cc
   one_operand (no_operand p s) (digit_operand q t) = cc
   one_operand (no_operand p s) (other_operand q t e) = cc
   one_operand (no_operand p s) (other_refused q t e) = cc
@@ -176,6 +190,7 @@ mutual
   one_operand (no_operand p s) (operand_at_end q) = cc
   one_operand (no_operand p s) (operand_stopped q) = cc
   one_operand (operand_at_end p) (group_operand q t e) = cc
+  one_operand (operand_at_end p) (group_refused q t e) = cc
   one_operand (operand_at_end p) (digit_operand q t) = cc
   one_operand (operand_at_end p) (other_operand q t e) = cc
   one_operand (operand_at_end p) (other_refused q t e) = cc
@@ -183,6 +198,7 @@ mutual
   one_operand (operand_at_end p) (operand_at_end q) = cc
   one_operand (operand_at_end p) (operand_stopped q) = cc
   one_operand (operand_stopped p) (group_operand q t e) = cc
+  one_operand (operand_stopped p) (group_refused q t e) = cc
   one_operand (operand_stopped p) (digit_operand q t) = cc
   one_operand (operand_stopped p) (other_operand q t e) = cc
   one_operand (operand_stopped p) (other_refused q t e) = cc
@@ -247,59 +263,46 @@ mutual
   one_atom (base_refused s d) (on_empty_row t e) = cc
 
   -- atoms side by side come to one outcome
-  pub one_atoms : {ending : Ending} {c : Context} {l : Units} {o p : Outcome (List Atom)} → ReadsAtoms ending c l o → ReadsAtoms ending c l p → o ≡ p
-  one_atoms (atom_read {ending = ending} {c = c} p s d ds) (atom_read q t e es) = cc (one_atom d (atom_is p q e), one_atoms ds (atoms_moved (one_atom d (atom_is p q e)) es))
-  one_atoms (atom_read {ending = ending} {c = c} p s d ds) (later_refused q t e es) = cc (one_atoms ds (atoms_moved (one_atom d (atom_is p q e)) es))
-  one_atoms (later_refused {ending = ending} {c = c} p s d ds) (atom_read q t e es) = cc (one_atoms ds (atoms_moved (one_atom d (atom_is p q e)) es))
-  one_atoms (later_refused {ending = ending} {c = c} p s d ds) (later_refused q t e es) = one_atoms ds (atoms_moved (one_atom d (atom_is p q e)) es)
+  pub one_atoms : {ending : Ending} {c : Context} {row : Row} {l : Units} {o p : Outcome Row} → ReadsAtoms ending c row l o → ReadsAtoms ending c row l p → o ≡ p
+  one_atoms (atom_read {ending = ending} {c = c} {row = row} p s d ds) (atom_read q t e es) = one_atoms ds (atoms_moved row (one_atom d (atom_is p q e)) es)
   one_atoms (atom_read {ending = ending} {c = c} p s d ds) (atom_refused q t e) = cc (one_atom d (atom_is p q e))
-  one_atoms (later_refused {ending = ending} {c = c} p s d ds) (atom_refused q t e) = cc (one_atom d (atom_is p q e))
   one_atoms (atom_refused {ending = ending} {c = c} p s d) (atom_read q t e es) = cc (one_atom d (atom_is p q e))
-  one_atoms (atom_refused {ending = ending} {c = c} p s d) (later_refused q t e es) = cc (one_atom d (atom_is p q e))
   one_atoms (atom_refused {ending = ending} {c = c} p s d) (atom_refused q t e) = cc (one_atom d (atom_is p q e))
   one_atoms (text_ends p s) (text_ends q t) = cc
   one_atoms (text_ends p s) (never_ended q t) = cc
   one_atoms (text_ends p s) (atoms_stopped q) = cc
   one_atoms (text_ends p s) (atoms_end q t) = cc
   one_atoms (text_ends p s) (atom_read q t e es) = cc
-  one_atoms (text_ends p s) (later_refused q t e es) = cc
   one_atoms (text_ends p s) (atom_refused q t e) = cc
   one_atoms (never_ended p s) (text_ends q t) = cc
   one_atoms (never_ended p s) (never_ended q t) = cc
   one_atoms (never_ended p s) (atoms_stopped q) = cc
   one_atoms (never_ended p s) (atoms_end q t) = cc
   one_atoms (never_ended p s) (atom_read q t e es) = cc
-  one_atoms (never_ended p s) (later_refused q t e es) = cc
   one_atoms (never_ended p s) (atom_refused q t e) = cc
   one_atoms (atoms_stopped p) (text_ends q t) = cc
   one_atoms (atoms_stopped p) (never_ended q t) = cc
   one_atoms (atoms_stopped p) (atoms_stopped q) = cc
   one_atoms (atoms_stopped p) (atoms_end q t) = cc
   one_atoms (atoms_stopped p) (atom_read q t e es) = cc
-  one_atoms (atoms_stopped p) (later_refused q t e es) = cc
   one_atoms (atoms_stopped p) (atom_refused q t e) = cc
   one_atoms (atoms_end p s) (text_ends q t) = cc
   one_atoms (atoms_end p s) (never_ended q t) = cc
   one_atoms (atoms_end p s) (atoms_stopped q) = cc
   one_atoms (atoms_end p s) (atoms_end q t) = cc
   one_atoms (atoms_end p s) (atom_read q t e es) = cc
-  one_atoms (atoms_end p s) (later_refused q t e es) = cc
   one_atoms (atoms_end p s) (atom_refused q t e) = cc
   one_atoms (atom_read p s d ds) (text_ends q t) = cc
   one_atoms (atom_read p s d ds) (never_ended q t) = cc
   one_atoms (atom_read p s d ds) (atoms_stopped q) = cc
   one_atoms (atom_read p s d ds) (atoms_end q t) = cc
-  one_atoms (later_refused p s d ds) (text_ends q t) = cc
-  one_atoms (later_refused p s d ds) (never_ended q t) = cc
-  one_atoms (later_refused p s d ds) (atoms_stopped q) = cc
-  one_atoms (later_refused p s d ds) (atoms_end q t) = cc
   one_atoms (atom_refused p s d) (text_ends q t) = cc
   one_atoms (atom_refused p s d) (never_ended q t) = cc
   one_atoms (atom_refused p s d) (atoms_stopped q) = cc
   one_atoms (atom_refused p s d) (atoms_end q t) = cc
 
   -- a part of words comes to one outcome
-  one_word : {place : ℕ} {a : Option Alphabet} {l : Units} {o p : Outcome (List Word)} → ReadsWord place a l o → ReadsWord place a l p → o ≡ p
+  one_word : {place : ℕ} {a : Option Alphabet} {ws : Words} {l : Units} {o p : Outcome Words} → ReadsWord place a ws l o → ReadsWord place a ws l p → o ≡ p
   one_word word_at_end word_at_end = refl
   one_word word_stopped word_stopped = refl
   one_word (group_of_words s d) (group_of_words t e) = one_words d e
@@ -353,22 +356,15 @@ mutual
   one_word (word_missing s) (word_missing t) = cc
 
   -- words side by side come to one outcome
-  one_words : {place : ℕ} {a : Option Alphabet} {l : Units} {o p : Outcome (List Word)} → ReadsWords place a l o → ReadsWords place a l p → o ≡ p
+  one_words : {place : ℕ} {a : Option Alphabet} {ws : Words} {l : Units} {o p : Outcome Words} → ReadsWords place a ws l o → ReadsWords place a ws l p → o ≡ p
   one_words words_never_ended words_never_ended = refl
   one_words words_stopped words_stopped = refl
   one_words (words_end s) (words_end t) = refl
-  one_words (word_read {place = place} {a = a} s d ds) (word_read t e es) = cc (one_word d e, one_words ds (words_moved (one_word d e) es))
-  one_words (word_read {place = place} {a = a} s d ds) (later_word_refused t e es) = cc (one_words ds (words_moved (one_word d e) es))
-  one_words (later_word_refused {place = place} {a = a} s d ds) (word_read t e es) = cc (one_words ds (words_moved (one_word d e) es))
-  one_words (later_word_refused {place = place} {a = a} s d ds) (later_word_refused t e es) = one_words ds (words_moved (one_word d e) es)
+  one_words (word_read {place = place} {a = a} s d ds) (word_read t e es) = one_words ds (words_moved (one_word d e) es)
   one_words (word_read s d ds) (word_refused t e) = cc (one_word d e)
   one_words (word_refused s d) (word_read t e es) = cc (one_word d e)
-  one_words (later_word_refused s d ds) (word_refused t e) = cc (one_word d e)
-  one_words (word_refused s d) (later_word_refused t e es) = cc (one_word d e)
   one_words (word_refused s d) (word_refused t e) = cc (one_word d e)
   one_words (words_end s) (word_read t e es) = cc
-  one_words (words_end s) (later_word_refused t e es) = cc
   one_words (words_end s) (word_refused t e) = cc
   one_words (word_read s d ds) (words_end t) = cc
-  one_words (later_word_refused s d ds) (words_end t) = cc
   one_words (word_refused s d) (words_end t) = cc

@@ -3,7 +3,8 @@
 use Rattle.std.specs.Prelude.{ℕ, pos, negsuc, List, [], ◌∷◌, Some, None, codes}
 use Rattle.latex2mathml_tex_grammar.specs.Meaning.{Meaning, Shows, FunctionName, Spacing, Styled, Words, Fraction, Root, Accent, Brace, Stack, StackedRelation, OperatorName, Negation, Slash, Middle, Right, NoLimits, Classed, words_apart}
 use Rattle.latex2mathml_tex_grammar.specs.Symbols.{Letter, UprightLetter, Sign, BigOperator, Integral, Ordinary, Operator, Binary, Relation, Opening, Closing, Punctuation, Inner, Upright, Italic, Bold, BoldItalic, DoubleStruck, Fraktur, Calligraphic, SansSerif, Monospace, InText}
-use Rattle.latex2mathml_tex_grammar.specs.Meaning.{Above, Below, Stretching, Rigid, Beside, ByStyle, Bar, NoBar}
+use Rattle.latex2mathml_elements.specs.Attributes.{Above, Below, Stretching, Rigid}
+use Rattle.latex2mathml_tex_grammar.specs.Meaning.{Beside, ByStyle, Bar, NoBar}
 
 unfoldable pub commands_from_m : List (List ℕ × Meaning)
 commands_from_m =

@@ -3,7 +3,8 @@
 use Rattle.std.specs.Prelude.{ℕ, pos, negsuc, List, [], ◌∷◌, Some, None, codes}
 use Rattle.latex2mathml_tex_grammar.specs.Meaning.{Meaning, Shows, FunctionName, Spacing, Styled, Words, Fraction, Accent, Sized, Left, Limits, words_apart}
 use Rattle.latex2mathml_tex_grammar.specs.Symbols.{Letter, UprightLetter, Sign, BigOperator, Integral, Ordinary, Binary, Relation, Opening, Closing, Punctuation, Inner, Italic, Bold, BoldItalic, DoubleStruck, Fraktur, InDisplay}
-use Rattle.latex2mathml_tex_grammar.specs.Meaning.{Above, Rigid, Beside, ByStyle, Bar, NoBar, Big, Bigger, VeryBig, Biggest}
+use Rattle.latex2mathml_elements.specs.Attributes.{Above, Rigid, Big, Bigger, VeryBig, Biggest}
+use Rattle.latex2mathml_tex_grammar.specs.Meaning.{Beside, ByStyle, Bar, NoBar}
 
 unfoldable pub commands_up_to_l : List (List ℕ × Meaning)
 commands_up_to_l =

@@ -2,7 +2,7 @@
 use Rattle.std.specs.Prelude.{◌≡◌, ◌⊎◌, ℕ, List, IsTrue}
 use Rattle.latex2mathml_tex_grammar.specs.{Commands.command_entries, Signs.sign_entries, Sorted.ascending, Sorted.ascending_numbers}
 use Rattle.latex2mathml_tex_grammar.specs.{Formulas.IsReading, Formulas.IsRefusal, Refusal.Refusal, Symbols.Style}
-use Rattle.latex2mathml_tex_grammar.specs.{Atoms.Atom, Reading.Outcome, Reading.ReadsAtoms, Rules.Context, Rules.Ending}
+use Rattle.latex2mathml_tex_grammar.specs.{Reading.Outcome, Reading.ReadsAtoms, Rows.Row, Rules.Context, Rules.Ending}
 use Rattle.latex2mathml_tex_grammar.specs.Units.{Units, HasUnits}
 
 -- the text has exactly one list of units, which ends with the text or with the refusal of what is no unit
@@ -15,24 +15,24 @@ pub record AreTablesSorted : Type 0 where
   pub commands : IsTrue (ascending command_entries)
   pub signs : IsTrue (ascending_numbers sign_entries)
 
--- units in a context come to exactly one outcome: a reading, or a refusal
-pub record HasOneOutcome (ending : Ending) (c : Context) (l : Units) : Type 0 where
-  pub some : (o : Outcome (List Atom)) × ReadsAtoms ending c l o
-  pub one : (o p : Outcome (List Atom)) → ReadsAtoms ending c l o → ReadsAtoms ending c l p → o ≡ p
+-- units in a context come to exactly one outcome behind a row: a longer row, or a refusal
+pub record HasOneOutcome (ending : Ending) (c : Context) (row : Row) (l : Units) : Type 0 where
+  pub some : (o : Outcome Row) × ReadsAtoms ending c row l o
+  pub one : (o p : Outcome Row) → ReadsAtoms ending c row l o → ReadsAtoms ending c row l p → o ≡ p
 
 abbrev pub HaveOneOutcome : Type 0
-HaveOneOutcome = (ending : Ending) (c : Context) (l : Units) → HasOneOutcome ending c l
+HaveOneOutcome = (ending : Ending) (c : Context) (row : Row) (l : Units) → HasOneOutcome ending c row l
 
 -- the text has exactly one reading in this style, or exactly one refusal
 pub record HasOneReading (text : List ℕ) (style : Style) : Type 0 where
   -- it has a reading or a refusal
-  pub some : ((xs : List Atom) × IsReading text style xs) ⊎ ((r : Refusal) × IsRefusal text style r)
-  -- two readings are the same atoms
-  pub one_reading : (xs ys : List Atom) → IsReading text style xs → IsReading text style ys → xs ≡ ys
+  pub some : ((row : Row) × IsReading text style row) ⊎ ((r : Refusal) × IsRefusal text style r)
+  -- two readings are the same row
+  pub one_reading : (row other : Row) → IsReading text style row → IsReading text style other → row ≡ other
   -- two refusals are the same refusal
   pub one_refusal : (r q : Refusal) → IsRefusal text style r → IsRefusal text style q → r ≡ q
   -- what has a reading is not refused
-  pub never_both : (xs : List Atom) (r : Refusal) → IsReading text style xs → IsRefusal text style r → ⊥
+  pub never_both : (row : Row) (r : Refusal) → IsReading text style row → IsRefusal text style r → ⊥
 
 abbrev pub HaveOneReading : Type 0
 HaveOneReading = (text : List ℕ) (style : Style) → HasOneReading text style

@@ -5,7 +5,6 @@ pub mod CommandsFromM
 pub mod CommandsUpToL
 pub mod Cutting
 pub mod Delimiters
-pub mod Element
 pub mod Examples
 pub mod Formulas
 pub mod Laws
@@ -14,6 +13,7 @@ pub mod Meaning
 pub mod Next
 pub mod Reading
 pub mod Refusal
+pub mod Rows
 pub mod Rules
 pub mod Signs
 pub mod Sorted

@@ -1,10 +1,12 @@
 -- The atoms of each construct.
 use Rattle.std.specs.Prelude.{ℕ, zero, suc, ◌==◌, ◌||◌, ℤ, Bool, true, false, List, [], ◌∷◌, ◌++◌, map, Option, Some, None, codes, if◌then◌else◌}
 use Rattle.std.specs.{Str.encode_utf8_all}
-use Rattle.latex2mathml_tex_grammar.specs.{Alphabets.in_alphabet, Atoms.Atom, Atoms.Kind, Atoms.SignOf, Atoms.PlusOrMinus, Atoms.Plain, Atoms.Letters, Atoms.FunctionWord, Atoms.Blank, Atoms.Divider, Atoms.atom, Atoms.elements_of, Atoms.row_of, Atoms.any_high}
-use Rattle.latex2mathml_tex_grammar.specs.Element.{Mi, Mn, Mo, Mspace, Mrow, Msub, Msup, Msubsup, Munder, Mover, Munderover, Mfrac, Msqrt, Mroot, Mstyle, Attribute, VariantNormal, StretchyFalse, StretchyTrue, FormPrefix, FormPostfix, NoSpaceBefore, NoSpaceAfter, SomeSpaceBefore, SomeSpaceAfter, Separator, Fence, Symmetric, SizeAtLeast, SizeAtMost, AccentAbove, AccentBelow, DisplayStyleTrue, DisplayStyleFalse, ScriptLevelZero, NoThickness, LimitsStay, WidthOf, Element, leaf, node, children, row}
-use Rattle.latex2mathml_tex_grammar.specs.Meaning.{Side, Above, Below, Width, Stretching, Rigid, FractionRule, Bar, NoBar, Size, LimitPlace, Beside, ByStyle, Movable, Stacked}
-use Rattle.latex2mathml_tex_grammar.specs.Symbols.{Class, Ordinary, Operator, Binary, Relation, Opening, Closing, Punctuation, Inner, Style, InDisplay, InScript, Alphabet, Upright, Symbol, Letter, UprightLetter, Sign, BigOperator, Integral}
+use Rattle.latex2mathml_elements.specs.Attributes.{Attributes, Side, Above, Below, Form, Prefix, Postfix, Stretch, Stretching, Rigid, NoSpace, Narrow, Size, plain}
+use Rattle.latex2mathml_elements.specs.Element.{Mi, Mn, Mo, Mrow, Msqrt, Mstyle, Mfrac, Mroot, Msub, Msup, Munder, Mover, Msubsup, Munderover, Element, token, space, container, pair, triple, children}
+use Rattle.latex2mathml_tex_grammar.specs.{Alphabets.in_alphabet, Rows.Row, Rows.Operand, Rows.row_element}
+use Rattle.latex2mathml_tex_grammar.specs.Atoms.{Atom, Kind, SignOf, PlusOrMinus, Plain, UprightLetters, FunctionWord, Blank, Divider, atom}
+use Rattle.latex2mathml_tex_grammar.specs.Meaning.{FractionRule, Bar, NoBar, LimitPlace, Beside, ByStyle, Movable, Stacked}
+use Rattle.latex2mathml_tex_grammar.specs.Symbols.{Class, Ordinary, Operator, Binary, Relation, Opening, Closing, Punctuation, Inner, Style, InDisplay, Alphabet, Upright, Symbol, Letter, UprightLetter, Sign, BigOperator, Integral}
 
 -- an atom, and where its limits stand
 pub record Core : Type 0 where
@@ -17,24 +19,24 @@ core x = record { atom = x; limits = Beside }
 abbrev pub operator : LimitPlace → Atom → Core
 operator limits x = record { atom = x; limits = limits }
 
-abbrev pub no_space : List Attribute
-no_space = NoSpaceBefore ∷ NoSpaceAfter ∷ []
-
 abbrev pub text : ℕ → List ℕ
 text c = encode_utf8_all (c ∷ [])
 
--- Letters and signs.
+-- Letters and signs
+
+abbrev pub upright : Attributes
+upright = record plain { upright = true }
 
 -- a letter that is italic by itself
 abbrev pub letter : Option Alphabet → ℕ → Atom
-letter (Some Upright) c = atom (Letters (text c)) false (leaf Mi (VariantNormal ∷ []) (text c))
-letter (Some alphabet) c = atom (Plain Ordinary) false (leaf Mi [] (text (in_alphabet alphabet c)))
-letter None c = atom (Plain Ordinary) false (leaf Mi [] (text c))
+letter (Some Upright) c = atom UprightLetters false (token Mi upright (text c))
+letter (Some alphabet) c = atom (Plain Ordinary) false (token Mi plain (text (in_alphabet alphabet c)))
+letter None c = atom (Plain Ordinary) false (token Mi plain (text c))
 
 -- a letter that is upright by itself
 abbrev pub upright_letter : Option Alphabet → ℕ → Atom
 upright_letter (Some alphabet) c = letter (Some alphabet) c
-upright_letter None c = atom (Plain Ordinary) false (leaf Mi (VariantNormal ∷ []) (text c))
+upright_letter None c = atom (Plain Ordinary) false (token Mi upright (text c))
 
 -- the digits of a number in an alphabet
 abbrev pub digits_in : Option Alphabet → List ℕ → List ℕ
@@ -42,7 +44,7 @@ digits_in None digits = digits
 digits_in (Some alphabet) digits = encode_utf8_all (map (in_alphabet alphabet) digits)
 
 abbrev pub number : Option Alphabet → List ℕ → Atom
-number alphabet digits = atom (Plain Ordinary) false (leaf Mn [] (digits_in alphabet digits))
+number alphabet digits = atom (Plain Ordinary) false (token Mn plain (digits_in alphabet digits))
 
 -- the signs that MathML stretches, but TeX does not
 abbrev pub stretches : ℕ → Bool
@@ -53,16 +55,16 @@ stretches c = c == 0x7C || c == 0x2223 || c == 0x2225  -- | ∣ ∥
     || c == 0x21D0 || c == 0x21D1 || c == 0x21D2 || c == 0x21D3 || c == 0x21D4 || c == 0x21D5  -- ⇐ ⇑ ⇒ ⇓ ⇔ ⇕
     || c == 0x27F5 || c == 0x27F6 || c == 0x27F7 || c == 0x27F8 || c == 0x27F9 || c == 0x27FA || c == 0x27FC  -- ⟵ ⟶ ⟷ ⟸ ⟹ ⟺ ⟼
 
-abbrev pub rigid : ℕ → List Attribute
-rigid c = if stretches c then StretchyFalse ∷ [] else []
+abbrev pub rigid : ℕ → Attributes
+rigid c = if stretches c then record plain { stretch = Some Rigid } else plain
 
-abbrev pub sign_attributes : Class → ℕ → List Attribute
-sign_attributes Ordinary c = NoSpaceBefore ∷ NoSpaceAfter ∷ StretchyFalse ∷ []
-sign_attributes Opening c = FormPrefix ∷ StretchyFalse ∷ []
-sign_attributes Closing c = FormPostfix ∷ StretchyFalse ∷ []
-sign_attributes Punctuation c = Separator ∷ []
-sign_attributes Inner c = no_space
-sign_attributes Operator c = []
+abbrev pub sign_attributes : Class → ℕ → Attributes
+sign_attributes Ordinary c = record plain { space = Some NoSpace; stretch = Some Rigid }
+sign_attributes Opening c = record plain { form = Some Prefix; stretch = Some Rigid }
+sign_attributes Closing c = record plain { form = Some Postfix; stretch = Some Rigid }
+sign_attributes Punctuation c = record plain { separator = true }
+sign_attributes Inner c = record plain { space = Some NoSpace }
+sign_attributes Operator c = plain
 sign_attributes Binary c = rigid c
 sign_attributes Relation c = rigid c
 
@@ -75,152 +77,129 @@ sign_kind Binary c = if is_plus_or_minus c then PlusOrMinus else SignOf Binary
 sign_kind class c = SignOf class
 
 abbrev pub sign : Class → ℕ → Atom
-sign class c = atom (sign_kind class c) false (leaf Mo (sign_attributes class c) (text c))
+sign class c = atom (sign_kind class c) false (token Mo (sign_attributes class c) (text c))
 
 -- a relation whose sign is this text
 abbrev pub relation : List ℕ → Atom
-relation sign_text = atom (SignOf Relation) false (leaf Mo [] sign_text)
+relation sign_text = atom (SignOf Relation) false (token Mo plain sign_text)
 
 abbrev pub symbol : Option Alphabet → Symbol → Core
 symbol alphabet (Letter c) = core (letter alphabet c)
 symbol alphabet (UprightLetter c) = core (upright_letter alphabet c)
 symbol alphabet (Sign class c) = core (sign class c)
-symbol alphabet (BigOperator c) = operator Movable (atom (Plain Operator) true (leaf Mo [] (text c)))
-symbol alphabet (Integral c) = core (atom (Plain Operator) true (leaf Mo [] (text c)))
+symbol alphabet (BigOperator c) = operator Movable (atom (Plain Operator) true (token Mo plain (text c)))
+symbol alphabet (Integral c) = core (atom (Plain Operator) true (token Mo plain (text c)))
 
 abbrev pub function_name : LimitPlace → List ℕ → Core
-function_name limits name = operator limits (atom FunctionWord false (leaf Mi [] name))
+function_name limits name = operator limits (atom FunctionWord false (token Mi plain name))
 
 abbrev pub spacing : ℤ → Atom
-spacing width = atom Blank false (leaf Mspace (WidthOf width ∷ []) [])
+spacing width = atom Blank false (space width)
 
--- Groups and classes.
+-- a stroke through a token, U+0338; what is no token has none
+abbrev pub struck : Element → Option Element
+struck (token t a sign_text) = Some (token t a (sign_text ++ text 0x0338))
+struck x = None
 
-abbrev pub group : Style → List Atom → Atom
-group style xs = atom (Plain Ordinary) (any_high xs) (row_of style xs)
+-- Groups and classes
 
-abbrev pub classed : Class → Style → List Atom → Core
-classed Operator style xs = operator ByStyle (atom (Plain Operator) (any_high xs) (row_of style xs))
-classed class style xs = core (atom (Plain class) (any_high xs) (row_of style xs))
+abbrev pub group : Operand → Atom
+group x = atom (Plain Ordinary) x.high x.element
 
-abbrev pub operator_name : LimitPlace → Style → List Atom → Core
-operator_name limits style xs = operator limits (atom FunctionWord (any_high xs) (row_of style xs))
+abbrev pub classed : Class → Operand → Core
+classed Operator x = operator ByStyle (atom (Plain Operator) x.high x.element)
+classed class x = core (atom (Plain class) x.high x.element)
 
--- the class that a mark above or below leaves: that of one sign that is a binary operator or a relation
-abbrev pub class_of_kind : Kind → Class
-class_of_kind (SignOf Binary) = Binary
-class_of_kind (SignOf Relation) = Relation
-class_of_kind PlusOrMinus = Binary
-class_of_kind (Plain Binary) = Binary
-class_of_kind (Plain Relation) = Relation
-class_of_kind kind = Ordinary
+abbrev pub operator_name : LimitPlace → Operand → Core
+operator_name limits x = operator limits (atom FunctionWord x.high x.element)
 
-abbrev pub class_of_base : List Atom → Class
-class_of_base (x ∷ []) = class_of_kind x.kind
-class_of_base xs = Ordinary
+-- Marks above and below
 
--- Marks above and below.
+abbrev pub on_side : Side → Attributes → Element → Element → Element
+on_side Above a base mark = pair Mover a base mark
+on_side Below a base mark = pair Munder a base mark
 
-abbrev pub on_side : Side → List Attribute → Element → Element → Element
-on_side Above attributes base mark = node Mover attributes (children (base ∷ mark ∷ []))
-on_side Below attributes base mark = node Munder attributes (children (base ∷ mark ∷ []))
+abbrev pub accent : Side → ℕ → Stretch → Element → Core
+accent side mark width x =
+    core (atom (Plain Ordinary) true (on_side side (record plain { accent = Some side }) x (token Mo (record plain { stretch = Some width }) (text mark))))
 
-abbrev pub width_attribute : Width → Attribute
-width_attribute Stretching = StretchyTrue
-width_attribute Rigid = StretchyFalse
+abbrev pub brace : Side → ℕ → Element → Core
+brace side mark x =
+    operator Stacked (atom (Plain Operator) true (on_side side plain x (token Mo (record plain { stretch = Some Stretching }) (text mark))))
 
-abbrev pub accent_attribute : Side → Attribute
-accent_attribute Above = AccentAbove
-accent_attribute Below = AccentBelow
+abbrev pub stack : Side → Class → Element → Element → Core
+stack side class mark base = core (atom (Plain class) true (on_side side plain base mark))
 
-abbrev pub accent : Side → ℕ → Width → Style → List Atom → Core
-accent side mark width style xs =
-    core (atom (Plain Ordinary) true (on_side side (accent_attribute side ∷ []) (row_of style xs) (leaf Mo (width_attribute width ∷ []) (text mark))))
+-- Fractions, roots, delimiters
 
-abbrev pub brace : Side → ℕ → Style → List Atom → Core
-brace side mark style xs =
-    operator Stacked (atom (Plain Operator) true (on_side side [] (row_of style xs) (leaf Mo (StretchyTrue ∷ []) (text mark))))
-
-abbrev pub stack : Side → Class → Style → List Atom → List Atom → Core
-stack side class style mark base = core (atom (Plain class) true (on_side side [] (row_of style base) (row_of InScript mark)))
-
--- Fractions, roots, delimiters.
-
-abbrev pub display_attribute : Style → Attribute
-display_attribute InDisplay = DisplayStyleTrue
-display_attribute style = DisplayStyleFalse
+abbrev pub is_display : Style → Bool
+is_display InDisplay = true
+is_display style = false
 
 -- an element in a style of its own, where it has one
 abbrev pub in_style : Option Style → Element → Element
 in_style None x = x
-in_style (Some style) x = node Mstyle (display_attribute style ∷ ScriptLevelZero ∷ []) (children (x ∷ []))
+in_style (Some style) x = container Mstyle (record plain { display = Some (is_display style) }) (children (x ∷ []))
 
-abbrev pub delimiter : Bool → Attribute → List ℕ → Element
-delimiter true form sign_text = leaf Mo (StretchyTrue ∷ form ∷ []) sign_text
-delimiter false form sign_text = leaf Mo (StretchyFalse ∷ form ∷ []) sign_text
+abbrev pub stretch_if : Bool → Stretch
+stretch_if true = Stretching
+stretch_if false = Rigid
 
--- elements between delimiters, which stretch around what is higher than a letter
+abbrev pub delimiter : Bool → Form → List ℕ → Element
+delimiter high form sign_text = token Mo (record plain { form = Some form; stretch = Some (stretch_if high) }) sign_text
+
+-- an element between delimiters, which stretch around what is higher than a letter
 abbrev pub fenced : Bool → List ℕ → List ℕ → Element → Element
 fenced high opening closing inside =
-    node Mrow [] (children (delimiter high FormPrefix opening ∷ inside ∷ delimiter high FormPostfix closing ∷ []))
+    container Mrow plain (children (delimiter high Prefix opening ∷ inside ∷ delimiter high Postfix closing ∷ []))
 
--- a fraction whose parts have this style
-abbrev pub fraction_element : FractionRule → Style → List Atom → List Atom → Element
-fraction_element Bar style above below = node Mfrac [] (children (row_of style above ∷ row_of style below ∷ []))
-fraction_element NoBar style above below =
-    fenced true (codes "(") (codes ")") (node Mfrac (NoThickness ∷ []) (children (row_of style above ∷ row_of style below ∷ [])))
+abbrev pub fraction_element : FractionRule → Element → Element → Element
+fraction_element Bar above below = pair Mfrac plain above below
+fraction_element NoBar above below =
+    fenced true (codes "(") (codes ")") (pair Mfrac (record plain { no_line = true }) above below)
 
-abbrev pub fraction : FractionRule → Option Style → Style → List Atom → List Atom → Core
-fraction rule own style above below = core (atom (Plain Inner) true (in_style own (fraction_element rule style above below)))
+abbrev pub fraction : FractionRule → Option Style → Element → Element → Core
+fraction rule own above below = core (atom (Plain Inner) true (in_style own (fraction_element rule above below)))
 
-abbrev pub square_root : Style → List Atom → Core
-square_root style xs = core (atom (Plain Ordinary) true (node Msqrt [] (children (row_of style xs ∷ []))))
+abbrev pub square_root : Element → Core
+square_root x = core (atom (Plain Ordinary) true (container Msqrt plain (children (x ∷ []))))
 
-abbrev pub root : Style → List Atom → List Atom → Core
-root style degree xs = core (atom (Plain Ordinary) true (node Mroot [] (children (row_of style xs ∷ row_of InScript degree ∷ []))))
-
-abbrev pub divider_element : Bool → List ℕ → Element
-divider_element true sign_text = leaf Mo (StretchyTrue ∷ Fence ∷ SomeSpaceBefore ∷ SomeSpaceAfter ∷ []) sign_text
-divider_element false sign_text = leaf Mo (StretchyFalse ∷ Fence ∷ SomeSpaceBefore ∷ SomeSpaceAfter ∷ []) sign_text
+abbrev pub root : Element → Element → Core
+root degree x = core (atom (Plain Ordinary) true (pair Mroot plain x degree))
 
 -- a delimiter within others
 abbrev pub divider : List ℕ → Atom
-divider sign_text = atom (Divider sign_text) false (divider_element true sign_text)
+divider sign_text = atom Divider false (token Mo (record plain { stretch = Some Stretching; fence = true; space = Some Narrow }) sign_text)
 
 -- it does not stretch where nothing beside it is high
-abbrev pub lowered_kind : Kind → Atom → Atom
-lowered_kind (Divider sign_text) x = atom (Divider sign_text) false (divider_element false sign_text)
-lowered_kind kind x = x
+abbrev pub lowered_divider : Element → Element
+lowered_divider (token t a sign_text) = token t (if a.fence then record a { stretch = Some Rigid } else a) sign_text
+lowered_divider x = x
 
-abbrev pub lowered : Bool → List Atom → List Atom
+abbrev pub lowered : Bool → List Element → List Element
 lowered true xs = xs
-lowered false xs = map (λ x. lowered_kind x.kind x) xs
+lowered false xs = map lowered_divider xs
 
-abbrev pub between_delimiters : Style → List ℕ → List ℕ → List Atom → Core
-between_delimiters style opening closing xs =
-    core (atom (Plain Inner) (any_high xs) (fenced (any_high xs) opening closing (row_of style (lowered (any_high xs) xs))))
+abbrev pub between_delimiters : List ℕ → List ℕ → Row → Core
+between_delimiters opening closing row =
+    core (atom (Plain Inner) row.high (fenced row.high opening closing (row_element (lowered row.high row.elements))))
 
-abbrev pub form_attributes : Class → List Attribute
-form_attributes Opening = FormPrefix ∷ []
-form_attributes Closing = FormPostfix ∷ []
-form_attributes class = []
+abbrev pub form_of : Class → Option Form
+form_of Opening = Some Prefix
+form_of Closing = Some Postfix
+form_of class = None
 
 abbrev pub sized : Size → Class → List ℕ → Core
 sized size class sign_text =
-    core (atom (Plain class) true (leaf Mo (form_attributes class ++ (StretchyTrue ∷ Symmetric ∷ SizeAtLeast size ∷ SizeAtMost size ∷ no_space)) sign_text))
+    core (atom (Plain class) true (token Mo (record plain { form = form_of class; stretch = Some Stretching; size = Some size; space = Some NoSpace }) sign_text))
 
--- a stroke through a leaf, U+0338; what is no leaf has none
-abbrev pub struck : Element → Option Element
-struck (leaf tag attributes leaf_text) = Some (leaf tag attributes (leaf_text ++ text 0x0338))
-struck (node tag attributes inside) = None
-
--- Scripts.
+-- Scripts
 
 -- what stands after an atom: primes, scripts, and where its limits are to stand
 pub record Scripts : Type 0 where
   pub primes : ℕ
-  pub below : Option (List Atom)
-  pub above : Option (List Atom)
+  pub below : Option Element
+  pub above : Option Element
   pub limits : LimitPlace
 
 abbrev pub no_scripts : LimitPlace → Scripts
@@ -229,22 +208,22 @@ no_scripts limits = record { primes = 0; below = None; above = None; limits = li
 -- so many primes as one text
 abbrev pub primes_text : ℕ → List ℕ
 primes_text zero = []
-primes_text (suc n) = text 0x2032 ++ primes_text n
+primes_text (suc n) = primes_text n ++ text 0x2032
 
 abbrev pub prime_mark : ℕ → Element
 prime_mark primes =
-    leaf Mo no_space (if primes == 2 then text 0x2033 else if primes == 3 then text 0x2034 else if primes == 4 then text 0x2057 else primes_text primes)
+    token Mo (record plain { space = Some NoSpace }) (if primes == 2 then text 0x2033 else if primes == 3 then text 0x2034 else if primes == 4 then text 0x2057 else primes_text primes)
 
--- the elements above: the primes stand before the superscript
-abbrev pub superscript : ℕ → Option (List Atom) → Option Element
+-- a superscript behind the primes that stand before it
+abbrev pub behind_primes : ℕ → Element → Element
+behind_primes zero x = x
+behind_primes (suc n) x = row_element (x ∷ prime_mark (suc n) ∷ [])
+
+-- the element above
+abbrev pub superscript : ℕ → Option Element → Option Element
+superscript primes (Some x) = Some x
 superscript zero None = None
-superscript zero (Some xs) = Some (row_of InScript xs)
 superscript (suc n) None = Some (prime_mark (suc n))
-superscript (suc n) (Some xs) = Some (row (prime_mark (suc n) ∷ elements_of InScript xs))
-
-abbrev pub subscript : Option (List Atom) → Option Element
-subscript None = None
-subscript (Some xs) = Some (row_of InScript xs)
 
 -- whether scripts stand below and above
 abbrev pub are_stacked : Style → LimitPlace → Bool
@@ -256,24 +235,28 @@ are_stacked style Stacked = true
 
 -- a base whose limits the browser is not to move
 abbrev pub fixed_base : LimitPlace → Element → Element
-fixed_base Stacked (leaf Mo attributes sign_text) = leaf Mo (attributes ++ LimitsStay ∷ []) sign_text
+fixed_base Stacked (token Mo a sign_text) = token Mo (record a { limits_stay = true }) sign_text
 fixed_base limits x = x
 
 abbrev pub with_scripts : Bool → Element → Option Element → Option Element → Element
 with_scripts stacked base None None = base
-with_scripts true base (Some below) None = node Munder [] (children (base ∷ below ∷ []))
-with_scripts true base None (Some above) = node Mover [] (children (base ∷ above ∷ []))
-with_scripts true base (Some below) (Some above) = node Munderover [] (children (base ∷ below ∷ above ∷ []))
-with_scripts false base (Some below) None = node Msub [] (children (base ∷ below ∷ []))
-with_scripts false base None (Some above) = node Msup [] (children (base ∷ above ∷ []))
-with_scripts false base (Some below) (Some above) = node Msubsup [] (children (base ∷ below ∷ above ∷ []))
+with_scripts true base (Some below) None = pair Munder plain base below
+with_scripts true base None (Some above) = pair Mover plain base above
+with_scripts true base (Some below) (Some above) = triple Munderover plain base below above
+with_scripts false base (Some below) None = pair Msub plain base below
+with_scripts false base None (Some above) = pair Msup plain base above
+with_scripts false base (Some below) (Some above) = triple Msubsup plain base below above
 
--- what an atom with scripts is to its neighbours
+-- what an atom that is changed is to its neighbours: letters are no part of a word
+abbrev pub no_letters : Kind → Kind
+no_letters UprightLetters = Plain Ordinary
+no_letters kind = kind
+
+-- and with scripts a sign is no `mo` of its own
 abbrev pub scripted_kind : Kind → Kind
 scripted_kind (SignOf class) = Plain class
 scripted_kind PlusOrMinus = Plain Binary
-scripted_kind (Letters letters) = Plain Ordinary
-scripted_kind kind = kind
+scripted_kind kind = no_letters kind
 
 abbrev pub scripted_atom : Style → Atom → Scripts → Option Element → Option Element → Atom
 scripted_atom style base scripts None None = base
@@ -282,4 +265,4 @@ scripted_atom style base scripts below above =
 
 -- an atom with what stands after it
 abbrev pub scripted : Style → Atom → Scripts → Atom
-scripted style base scripts = scripted_atom style base scripts (subscript scripts.below) (superscript scripts.primes scripts.above)
+scripted style base scripts = scripted_atom style base scripts scripts.below (superscript scripts.primes scripts.above)

@@ -1,28 +1,12 @@
 -- What the name of a command means.
 use Rattle.std.specs.Prelude.{ℕ, ℤ, List, ◌∷◌, ◌++◌, Option}
+use Rattle.latex2mathml_elements.specs.Attributes.{Side, Stretch, Size}
 use Rattle.latex2mathml_tex_grammar.specs.Symbols.{Class, Style, Alphabet, Symbol}
-
--- on which side of its base a mark stands
-pub data Side : Type 0 where
-  Above : Side
-  Below : Side
-
--- whether an accent is as wide as its base
-pub data Width : Type 0 where
-  Stretching : Width
-  Rigid : Width
 
 -- whether a fraction has its bar, or parentheses around it
 pub data FractionRule : Type 0 where
   Bar : FractionRule
   NoBar : FractionRule
-
--- the size of a delimiter
-pub data Size : Type 0 where
-  Big : Size
-  Bigger : Size
-  VeryBig : Size
-  Biggest : Size
 
 -- where the limits of an operator stand: beside it; in display style above and below it; above and below it, where the
 -- browser moves them beside it in text; always above and below it
@@ -47,7 +31,7 @@ pub data Meaning : Type 0 where
   Fraction : FractionRule → Option Style → Meaning
   Root : Meaning
   -- a mark on one operand
-  Accent : Side → ℕ → Width → Meaning
+  Accent : Side → ℕ → Stretch → Meaning
   -- a brace, which takes scripts as labels
   Brace : Side → ℕ → Meaning
   -- a first operand above or below the second

@@ -13,7 +13,7 @@ past_space (Next u us) = if is_space_piece u.piece then past_space us else Next 
 past_space (End place) = End place
 past_space (Stop refusal) = Stop refusal
 
--- the place where these units begin
+-- the refusal of this kind where these units begin; what is no unit there is refused first
 abbrev pub refusal_here : Kind → Units → Refusal
 refusal_here kind (Next u us) = refusal_at kind u.place
 refusal_here kind (End place) = refusal_at kind place

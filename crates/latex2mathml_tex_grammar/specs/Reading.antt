@@ -1,7 +1,8 @@
 -- Reading: what units come to, atoms or a refusal. The table of rules says what each unit begins; the relations here say
 -- how rules are read, and they are the same for every rule. White space in formulas is nothing.
-use Rattle.std.specs.Prelude.{◌≡◌, ℕ, IsTrue, IsFalse, List, [], ◌∷◌, ◌++◌, Option, Some, None}
-use Rattle.latex2mathml_tex_grammar.specs.{Atoms.Atom, Delimiters.delimiter_of}
+use Rattle.std.specs.Prelude.{◌≡◌, ℕ, IsTrue, IsFalse, List, [], ◌∷◌, Option, Some, None}
+use Rattle.latex2mathml_elements.specs.Element.{Element}
+use Rattle.latex2mathml_tex_grammar.specs.{Atoms.Atom, Delimiters.delimiter_of, Rows.Row, Rows.empty_row, Rows.row_element, Rows.with_atom, Rows.Operand, Rows.operand_of, Rows.single}
 use Rattle.latex2mathml_tex_grammar.specs.Makes.{Core, core, number, divider, Scripts, no_scripts, scripted}
 use Rattle.latex2mathml_tex_grammar.specs.{Meaning.Beside, Next.past_space, Next.next_are, Next.digits_next, Next.refusal_here}
 use Rattle.latex2mathml_tex_grammar.specs.Refusal.{Kind, MissingArgument, UnclosedBrace, MissingDelimiter, Refusal, refusal_at}
@@ -9,7 +10,7 @@ use Rattle.latex2mathml_tex_grammar.specs.Rules.{Context, in_context, styled, En
 use Rattle.latex2mathml_tex_grammar.specs.Starts.{DividerStart, ScriptStart, RuleStart, NoStart, GroupStart, DigitStart, OtherStart, atom_start, operand_start, mark_of, GoesOn, TakesOperand, Twice, step_of_mark, step_next, empty_base, ends, unended, is_close}
 use Rattle.latex2mathml_tex_grammar.specs.Symbols.{InText, InScript, Alphabet}
 use Rattle.latex2mathml_tex_grammar.specs.Units.{Piece, Unit, Units, Next, End, Stop}
-use Rattle.latex2mathml_tex_grammar.specs.Words.{Word, Formula, IsWord, BeginsGroup, EndsGroup, BeginsFormula, TakesWords, NoWord, word_rule}
+use Rattle.latex2mathml_tex_grammar.specs.Words.{Word, Formula, Words, no_words, with_word, IsWord, BeginsGroup, EndsGroup, BeginsFormula, TakesWords, NoWord, word_rule}
 
 -- what was read, with the units that are left, or the refusal
 pub data Outcome (A : Type 0) : Type 0 where
@@ -26,11 +27,11 @@ mutual
     rule_refuses : {r : Refusal} {l : Units}
         → ReadsRule (refuses r) l (Refused r)
     -- the operand is read, and what follows it stands after
-    operand_read : {place : ℕ} {c : Context} {then : List Atom → Rule} {l m : Units} {xs : List Atom} {o : Outcome Core}
-        → ReadsOperand place c l (Read xs m)
-        → ReadsRule (then xs) m o
+    operand_read : {place : ℕ} {c : Context} {then : Operand → Rule} {l m : Units} {x : Operand} {o : Outcome Core}
+        → ReadsOperand place c l (Read x m)
+        → ReadsRule (then x) m o
         → ReadsRule (reads_operand place c then) l o
-    operand_refused : {place : ℕ} {c : Context} {then : List Atom → Rule} {l : Units} {r : Refusal}
+    operand_refused : {place : ℕ} {c : Context} {then : Operand → Rule} {l : Units} {r : Refusal}
         → ReadsOperand place c l (Refused r)
         → ReadsRule (reads_operand place c then) l (Refused r)
     -- an atom without scripts is read, and what follows it stands after
@@ -50,20 +51,20 @@ mutual
         → past_space l ≡ Stop r
         → ReadsRule (reads_core place c then) l (Refused r)
     -- the atoms are read up to their ending, and what follows them stands after
-    atoms_read : {ending : Ending} {c : Context} {then : List Atom → Rule} {l m : Units} {xs : List Atom} {o : Outcome Core}
-        → ReadsAtoms ending c l (Read xs m)
-        → ReadsRule (then xs) m o
+    atoms_read : {ending : Ending} {c : Context} {then : Row → Rule} {l m : Units} {row : Row} {o : Outcome Core}
+        → ReadsAtoms ending c empty_row l (Read row m)
+        → ReadsRule (then row) m o
         → ReadsRule (reads_atoms ending c then) l o
-    atoms_refused : {ending : Ending} {c : Context} {then : List Atom → Rule} {l : Units} {r : Refusal}
-        → ReadsAtoms ending c l (Refused r)
+    atoms_refused : {ending : Ending} {c : Context} {then : Row → Rule} {l : Units} {r : Refusal}
+        → ReadsAtoms ending c empty_row l (Refused r)
         → ReadsRule (reads_atoms ending c then) l (Refused r)
     -- the words are read, and what follows them stands after. White space before them is nothing.
-    words_read : {place : ℕ} {a : Option Alphabet} {then : List Word → Rule} {l m : Units} {ws : List Word} {o : Outcome Core}
-        → ReadsWord place a (past_space l) (Read ws m)
+    words_read : {place : ℕ} {a : Option Alphabet} {then : Words → Rule} {l m : Units} {ws : Words} {o : Outcome Core}
+        → ReadsWord place a no_words (past_space l) (Read ws m)
         → ReadsRule (then ws) m o
         → ReadsRule (reads_words place a then) l o
-    words_refused : {place : ℕ} {a : Option Alphabet} {then : List Word → Rule} {l : Units} {r : Refusal}
-        → ReadsWord place a (past_space l) (Refused r)
+    words_refused : {place : ℕ} {a : Option Alphabet} {then : Words → Rule} {l : Units} {r : Refusal}
+        → ReadsWord place a no_words (past_space l) (Refused r)
         → ReadsRule (reads_words place a then) l (Refused r)
     -- the units stand next, and the first rule goes on after them
     units_taken : {tests : List (Piece → Option (List ℕ))} {then : List ℕ → Rule} {otherwise : Rule} {l m : Units} {texts : List ℕ} {o : Outcome Core}
@@ -89,21 +90,26 @@ mutual
         → ReadsRule (takes_delimiter then) l (Refused (refusal_here MissingDelimiter (past_space l)))
 
   -- what an operand comes to, where this place takes it: a group, one digit, or an atom without scripts
-  pub data ReadsOperand : ℕ → Context → Units → Outcome (List Atom) → Type 0 where
-    group_operand : {place : ℕ} {c : Context} {l m : Units} {u : Unit} {o : Outcome (List Atom)}
+  pub data ReadsOperand : ℕ → Context → Units → Outcome Operand → Type 0 where
+    group_operand : {place : ℕ} {c : Context} {l m n : Units} {u : Unit} {row : Row}
         → past_space l ≡ Next u m
         → operand_start u.piece ≡ GroupStart
-        → ReadsAtoms (InBraces u.place) c m o
-        → ReadsOperand place c l o
+        → ReadsAtoms (InBraces u.place) c empty_row m (Read row n)
+        → ReadsOperand place c l (Read (operand_of row) n)
+    group_refused : {place : ℕ} {c : Context} {l m : Units} {u : Unit} {r : Refusal}
+        → past_space l ≡ Next u m
+        → operand_start u.piece ≡ GroupStart
+        → ReadsAtoms (InBraces u.place) c empty_row m (Refused r)
+        → ReadsOperand place c l (Refused r)
     digit_operand : {place : ℕ} {c : Context} {l m : Units} {u : Unit} {digit : List ℕ}
         → past_space l ≡ Next u m
         → operand_start u.piece ≡ DigitStart digit
-        → ReadsOperand place c l (Read (number c.alphabet digit ∷ []) m)
+        → ReadsOperand place c l (Read (single c.style (number c.alphabet digit)) m)
     other_operand : {place : ℕ} {c : Context} {l m n : Units} {u : Unit} {x : Core}
         → past_space l ≡ Next u m
         → operand_start u.piece ≡ OtherStart
         → ReadsRule (rule u.place c u.piece) m (Read x n)
-        → ReadsOperand place c l (Read (x.atom ∷ []) n)
+        → ReadsOperand place c l (Read (single c.style x.atom) n)
     other_refused : {place : ℕ} {c : Context} {l m : Units} {u : Unit} {r : Refusal}
         → past_space l ≡ Next u m
         → operand_start u.piece ≡ OtherStart
@@ -133,13 +139,13 @@ mutual
         → ReadsScripts c base more m o
         → ReadsScripts c base scripts l o
     -- a mark with its operand, and those after it
-    script_read : {c : Context} {base : Atom} {scripts : Scripts} {with_operand : List Atom → Scripts} {l m n : Units} {u : Unit} {xs : List Atom} {o : Outcome Atom}
+    script_read : {c : Context} {base : Atom} {scripts : Scripts} {with_operand : Element → Scripts} {l m n : Units} {u : Unit} {x : Operand} {o : Outcome Atom}
         → past_space l ≡ Next u m
         → step_of_mark scripts (mark_of u.piece) ≡ Some (TakesOperand with_operand)
-        → ReadsOperand u.place (styled c InScript) m (Read xs n)
-        → ReadsScripts c base (with_operand xs) n o
+        → ReadsOperand u.place (styled c InScript) m (Read x n)
+        → ReadsScripts c base (with_operand x.element) n o
         → ReadsScripts c base scripts l o
-    script_refused : {c : Context} {base : Atom} {scripts : Scripts} {with_operand : List Atom → Scripts} {l m : Units} {u : Unit} {r : Refusal}
+    script_refused : {c : Context} {base : Atom} {scripts : Scripts} {with_operand : Element → Scripts} {l m : Units} {u : Unit} {r : Refusal}
         → past_space l ≡ Next u m
         → step_of_mark scripts (mark_of u.piece) ≡ Some (TakesOperand with_operand)
         → ReadsOperand u.place (styled c InScript) m (Refused r)
@@ -174,96 +180,85 @@ mutual
         → ReadsRule (rule u.place c u.piece) l (Refused r)
         → ReadsAtom ending c u l (Refused r)
 
-  -- what atoms side by side come to, up to their ending, which is taken
-  pub data ReadsAtoms : Ending → Context → Units → Outcome (List Atom) → Type 0 where
+  -- what a row comes to with the atoms that stand here, up to their ending, which is taken
+  pub data ReadsAtoms : Ending → Context → Row → Units → Outcome Row → Type 0 where
     -- a formula that is the whole text ends with it
-    text_ends : {ending : Ending} {c : Context} {l : Units} {at : ℕ}
+    text_ends : {ending : Ending} {c : Context} {row : Row} {l : Units} {at : ℕ}
         → past_space l ≡ End at
         → unended ending ≡ None
-        → ReadsAtoms ending c l (Read [] (End at))
-    never_ended : {ending : Ending} {c : Context} {l : Units} {at : ℕ} {r : Refusal}
+        → ReadsAtoms ending c row l (Read row (End at))
+    never_ended : {ending : Ending} {c : Context} {row : Row} {l : Units} {at : ℕ} {r : Refusal}
         → past_space l ≡ End at
         → unended ending ≡ Some r
-        → ReadsAtoms ending c l (Refused r)
-    atoms_stopped : {ending : Ending} {c : Context} {l : Units} {r : Refusal}
+        → ReadsAtoms ending c row l (Refused r)
+    atoms_stopped : {ending : Ending} {c : Context} {row : Row} {l : Units} {r : Refusal}
         → past_space l ≡ Stop r
-        → ReadsAtoms ending c l (Refused r)
-    atoms_end : {ending : Ending} {c : Context} {l m : Units} {u : Unit}
+        → ReadsAtoms ending c row l (Refused r)
+    atoms_end : {ending : Ending} {c : Context} {row : Row} {l m : Units} {u : Unit}
         → past_space l ≡ Next u m
         → IsTrue (ends ending u.piece)
-        → ReadsAtoms ending c l (Read [] m)
+        → ReadsAtoms ending c row l (Read row m)
     -- an atom, and the atoms after it
-    atom_read : {ending : Ending} {c : Context} {l m n rest : Units} {u : Unit} {x : Atom} {xs : List Atom}
+    atom_read : {ending : Ending} {c : Context} {row : Row} {l m n : Units} {u : Unit} {x : Atom} {o : Outcome Row}
         → past_space l ≡ Next u m
         → IsFalse (ends ending u.piece)
         → ReadsAtom ending c u m (Read x n)
-        → ReadsAtoms ending c n (Read xs rest)
-        → ReadsAtoms ending c l (Read (x ∷ xs) rest)
-    later_refused : {ending : Ending} {c : Context} {l m n : Units} {u : Unit} {x : Atom} {r : Refusal}
-        → past_space l ≡ Next u m
-        → IsFalse (ends ending u.piece)
-        → ReadsAtom ending c u m (Read x n)
-        → ReadsAtoms ending c n (Refused r)
-        → ReadsAtoms ending c l (Refused r)
-    atom_refused : {ending : Ending} {c : Context} {l m : Units} {u : Unit} {r : Refusal}
+        → ReadsAtoms ending c (with_atom c.style row x) n o
+        → ReadsAtoms ending c row l o
+    atom_refused : {ending : Ending} {c : Context} {row : Row} {l m : Units} {u : Unit} {r : Refusal}
         → past_space l ≡ Next u m
         → IsFalse (ends ending u.piece)
         → ReadsAtom ending c u m (Refused r)
-        → ReadsAtoms ending c l (Refused r)
+        → ReadsAtoms ending c row l (Refused r)
 
-  -- what one part of words comes to, in an alphabet, where this place takes it. White space counts.
-  pub data ReadsWord : ℕ → Option Alphabet → Units → Outcome (List Word) → Type 0 where
-    word_stands : {place : ℕ} {a : Option Alphabet} {l : Units} {u : Unit} {w : Word}
+  -- what words come to with one part after them, in an alphabet, where this place takes it. White space counts.
+  pub data ReadsWord : ℕ → Option Alphabet → Words → Units → Outcome Words → Type 0 where
+    word_stands : {place : ℕ} {a : Option Alphabet} {ws : Words} {l : Units} {u : Unit} {w : Word}
         → word_rule a u.piece ≡ IsWord w
-        → ReadsWord place a (Next u l) (Read (w ∷ []) l)
-    group_of_words : {place : ℕ} {a : Option Alphabet} {l : Units} {u : Unit} {o : Outcome (List Word)}
+        → ReadsWord place a ws (Next u l) (Read (with_word ws w) l)
+    group_of_words : {place : ℕ} {a : Option Alphabet} {ws : Words} {l : Units} {u : Unit} {o : Outcome Words}
         → word_rule a u.piece ≡ BeginsGroup
-        → ReadsWords u.place a l o
-        → ReadsWord place a (Next u l) o
-    formula_read : {place : ℕ} {a : Option Alphabet} {l m : Units} {u : Unit} {xs : List Atom}
+        → ReadsWords u.place a ws l o
+        → ReadsWord place a ws (Next u l) o
+    formula_read : {place : ℕ} {a : Option Alphabet} {ws : Words} {l m : Units} {u : Unit} {row : Row}
         → word_rule a u.piece ≡ BeginsFormula
-        → ReadsAtoms (InDollars u.place) (in_context InText None) l (Read xs m)
-        → ReadsWord place a (Next u l) (Read (Formula xs ∷ []) m)
-    formula_refused : {place : ℕ} {a : Option Alphabet} {l : Units} {u : Unit} {r : Refusal}
+        → ReadsAtoms (InDollars u.place) (in_context InText None) empty_row l (Read row m)
+        → ReadsWord place a ws (Next u l) (Read (with_word ws (Formula (row_element row.elements))) m)
+    formula_refused : {place : ℕ} {a : Option Alphabet} {ws : Words} {l : Units} {u : Unit} {r : Refusal}
         → word_rule a u.piece ≡ BeginsFormula
-        → ReadsAtoms (InDollars u.place) (in_context InText None) l (Refused r)
-        → ReadsWord place a (Next u l) (Refused r)
-    words_in_alphabet : {place : ℕ} {a b : Option Alphabet} {l : Units} {u : Unit} {o : Outcome (List Word)}
+        → ReadsAtoms (InDollars u.place) (in_context InText None) empty_row l (Refused r)
+        → ReadsWord place a ws (Next u l) (Refused r)
+    words_in_alphabet : {place : ℕ} {a b : Option Alphabet} {ws : Words} {l : Units} {u : Unit} {o : Outcome Words}
         → word_rule a u.piece ≡ TakesWords b
-        → ReadsWord u.place b (past_space l) o
-        → ReadsWord place a (Next u l) o
-    no_word : {place : ℕ} {a : Option Alphabet} {l : Units} {u : Unit} {kind : Kind}
+        → ReadsWord u.place b ws (past_space l) o
+        → ReadsWord place a ws (Next u l) o
+    no_word : {place : ℕ} {a : Option Alphabet} {ws : Words} {l : Units} {u : Unit} {kind : Kind}
         → word_rule a u.piece ≡ NoWord kind
-        → ReadsWord place a (Next u l) (Refused (refusal_at kind u.place))
-    word_missing : {place : ℕ} {a : Option Alphabet} {l : Units} {u : Unit}
+        → ReadsWord place a ws (Next u l) (Refused (refusal_at kind u.place))
+    word_missing : {place : ℕ} {a : Option Alphabet} {ws : Words} {l : Units} {u : Unit}
         → word_rule a u.piece ≡ EndsGroup
-        → ReadsWord place a (Next u l) (Refused (refusal_at MissingArgument place))
-    word_at_end : {place at : ℕ} {a : Option Alphabet}
-        → ReadsWord place a (End at) (Refused (refusal_at MissingArgument place))
-    word_stopped : {place : ℕ} {a : Option Alphabet} {r : Refusal}
-        → ReadsWord place a (Stop r) (Refused r)
+        → ReadsWord place a ws (Next u l) (Refused (refusal_at MissingArgument place))
+    word_at_end : {place at : ℕ} {a : Option Alphabet} {ws : Words}
+        → ReadsWord place a ws (End at) (Refused (refusal_at MissingArgument place))
+    word_stopped : {place : ℕ} {a : Option Alphabet} {ws : Words} {r : Refusal}
+        → ReadsWord place a ws (Stop r) (Refused r)
 
-  -- what words side by side come to, up to their brace, which is taken, where they begin at this place
-  pub data ReadsWords : ℕ → Option Alphabet → Units → Outcome (List Word) → Type 0 where
-    words_end : {place : ℕ} {a : Option Alphabet} {l : Units} {u : Unit}
+  -- what words come to with those that stand here, up to their brace, which is taken, where they begin at this place
+  pub data ReadsWords : ℕ → Option Alphabet → Words → Units → Outcome Words → Type 0 where
+    words_end : {place : ℕ} {a : Option Alphabet} {ws : Words} {l : Units} {u : Unit}
         → IsTrue (is_close u.piece)
-        → ReadsWords place a (Next u l) (Read [] l)
-    words_never_ended : {place at : ℕ} {a : Option Alphabet}
-        → ReadsWords place a (End at) (Refused (refusal_at UnclosedBrace place))
-    words_stopped : {place : ℕ} {a : Option Alphabet} {r : Refusal}
-        → ReadsWords place a (Stop r) (Refused r)
+        → ReadsWords place a ws (Next u l) (Read ws l)
+    words_never_ended : {place at : ℕ} {a : Option Alphabet} {ws : Words}
+        → ReadsWords place a ws (End at) (Refused (refusal_at UnclosedBrace place))
+    words_stopped : {place : ℕ} {a : Option Alphabet} {ws : Words} {r : Refusal}
+        → ReadsWords place a ws (Stop r) (Refused r)
     -- a part, and the words after it
-    word_read : {place : ℕ} {a : Option Alphabet} {l m rest : Units} {u : Unit} {ws vs : List Word}
+    word_read : {place : ℕ} {a : Option Alphabet} {ws vs : Words} {l m : Units} {u : Unit} {o : Outcome Words}
         → IsFalse (is_close u.piece)
-        → ReadsWord place a (Next u l) (Read ws m)
-        → ReadsWords place a m (Read vs rest)
-        → ReadsWords place a (Next u l) (Read (ws ++ vs) rest)
-    later_word_refused : {place : ℕ} {a : Option Alphabet} {l m : Units} {u : Unit} {ws : List Word} {r : Refusal}
+        → ReadsWord place a ws (Next u l) (Read vs m)
+        → ReadsWords place a vs m o
+        → ReadsWords place a ws (Next u l) o
+    word_refused : {place : ℕ} {a : Option Alphabet} {ws : Words} {l : Units} {u : Unit} {r : Refusal}
         → IsFalse (is_close u.piece)
-        → ReadsWord place a (Next u l) (Read ws m)
-        → ReadsWords place a m (Refused r)
-        → ReadsWords place a (Next u l) (Refused r)
-    word_refused : {place : ℕ} {a : Option Alphabet} {l : Units} {u : Unit} {r : Refusal}
-        → IsFalse (is_close u.piece)
-        → ReadsWord place a (Next u l) (Refused r)
-        → ReadsWords place a (Next u l) (Refused r)
+        → ReadsWord place a ws (Next u l) (Refused r)
+        → ReadsWords place a ws (Next u l) (Refused r)

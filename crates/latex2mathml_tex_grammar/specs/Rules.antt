@@ -2,14 +2,14 @@
 -- an atom or a refusal.
 use Rattle.std.specs.Prelude.{ℕ, pos, ◌==◌, ◌||◌, Bool, true, false, List, [], ◌∷◌, ◌++◌, codes, Option, Some, None, if◌then◌else◌}
 use Rattle.std.specs.{Char.is_ascii_alphabetic, Char.is_ascii_digit, Str.byte, Str.bytes_eq}
-use Rattle.latex2mathml_tex_grammar.specs.{Atoms.Atom, Atoms.Plain, Atoms.atom, Atoms.row_of, Commands.meaning_of, Commands.symbol_of, Delimiters.negated_of}
-use Rattle.latex2mathml_tex_grammar.specs.Makes.{Core, core, letter, upright_letter, number, relation, symbol, function_name, spacing, group, classed, operator_name, class_of_base, accent, brace, stack, fraction, square_root, root, between_delimiters, sized, struck}
-use Rattle.latex2mathml_tex_grammar.specs.Element.{Element}
-use Rattle.latex2mathml_tex_grammar.specs.Meaning.{Meaning, Shows, FunctionName, Spacing, Styled, Words, Fraction, Root, Accent, Brace, Stack, StackedRelation, OperatorName, Negation, Slash, Sized, Left, Middle, Right, Limits, NoLimits, Classed, Above, Beside, ByStyle, FractionRule}
+use Rattle.latex2mathml_elements.specs.{Attributes.Above, Element.Element}
+use Rattle.latex2mathml_tex_grammar.specs.{Atoms.Plain, Atoms.atom, Commands.meaning_of, Commands.symbol_of, Delimiters.negated_of, Rows.Row, Rows.Operand, Rows.operand_of, Rows.row_element}
+use Rattle.latex2mathml_tex_grammar.specs.Makes.{Core, core, letter, upright_letter, number, relation, symbol, function_name, spacing, group, classed, no_letters, operator_name, accent, brace, stack, fraction, square_root, root, between_delimiters, sized, struck}
+use Rattle.latex2mathml_tex_grammar.specs.Meaning.{Meaning, Shows, FunctionName, Spacing, Styled, Words as TakesWordsIn, Fraction, Root, Accent, Brace, Stack, StackedRelation, OperatorName, Negation, Slash, Sized, Left, Middle, Right, Limits, NoLimits, Classed, Beside, ByStyle, FractionRule}
 use Rattle.latex2mathml_tex_grammar.specs.Refusal.{UnknownCommand, MissingArgument, UnopenedBrace, RightWithoutLeft, MiddleWithoutLeft, LimitsWithoutOperator, NothingToNegate, OutsideTable, MisplacedCharacter, Refusal, refusal_at}
 use Rattle.latex2mathml_tex_grammar.specs.Symbols.{Style, InScript, smaller, Alphabet, Upright, Ordinary, Relation, Symbol}
 use Rattle.latex2mathml_tex_grammar.specs.Units.{Piece, Space, Open, Close, Command, Character}
-use Rattle.latex2mathml_tex_grammar.specs.Words.{Word, words_atom}
+use Rattle.latex2mathml_tex_grammar.specs.Words.{Words, words_atom}
 
 -- in what a unit is read: the style, and the alphabet of letters and digits, where there is one
 pub record Context : Type 0 where
@@ -37,13 +37,13 @@ pub data Rule : Type 0 where
   -- nothing more is read, and the formula is refused
   refuses : Refusal → Rule
   -- an operand in a context, and what follows it. The place is of what takes it.
-  reads_operand : ℕ → Context → (List Atom → Rule) → Rule
+  reads_operand : ℕ → Context → (Operand → Rule) → Rule
   -- an atom without scripts, and what follows it
   reads_core : ℕ → Context → (Core → Rule) → Rule
   -- atoms up to an ending, which is taken, and what follows it
-  reads_atoms : Ending → Context → (List Atom → Rule) → Rule
+  reads_atoms : Ending → Context → (Row → Rule) → Rule
   -- an operand of words
-  reads_words : ℕ → Option Alphabet → (List Word → Rule) → Rule
+  reads_words : ℕ → Option Alphabet → (Words → Rule) → Rule
   -- where units that pass these tests stand next, they are taken and the first rule follows, otherwise the second
   takes_if : List (Piece → Option (List ℕ)) → (List ℕ → Rule) → Rule → Rule
   -- the longest run of digits is taken
@@ -67,11 +67,11 @@ a_character d piece = None
 
 -- Rules of one operand and of two
 
-abbrev pub of_one : ℕ → Context → (List Atom → Core) → Rule
-of_one place c whole = reads_operand place c (λ xs. gives (whole xs))
+abbrev pub of_one : ℕ → Context → (Operand → Core) → Rule
+of_one place c whole = reads_operand place c (λ x. gives (whole x))
 
-abbrev pub of_two : ℕ → Context → Context → (List Atom → List Atom → Core) → Rule
-of_two place c d whole = reads_operand place c (λ xs. of_one place d (whole xs))
+abbrev pub of_two : ℕ → Context → Context → (Operand → Operand → Core) → Rule
+of_two place c d whole = reads_operand place c (λ x. of_one place d (whole x))
 
 -- Numbers: digits, and a point between digits
 
@@ -111,58 +111,58 @@ own_style (Some own) style = own
 
 abbrev pub a_fraction : ℕ → Context → FractionRule → Option Style → Rule
 a_fraction place c rule own =
-    let part = styled c (smaller (own_style own c.style)) in of_two place part part (fraction rule own part.style)
+    let part = styled c (smaller (own_style own c.style)) in of_two place part part (λ above below. fraction rule own above.element below.element)
 
 -- a root, whose degree stands in square brackets
 abbrev pub a_root : ℕ → Context → Rule
 a_root place c =
     takes_if (a_character (byte "[") ∷ [])
-    (λ bracket. reads_atoms (InBrackets place) (styled c InScript) (λ degree. of_one place c (root c.style degree)))
-    (of_one place c (square_root c.style))
+    (λ bracket. reads_atoms (InBrackets place) (styled c InScript) (λ degree. of_one place c (λ x. root (row_element degree.elements) x.element)))
+    (of_one place c (λ x. square_root x.element))
 
 -- the name of an operator, in upright letters; with a star it has limits
 abbrev pub an_operator_name : ℕ → Context → Rule
 an_operator_name place c =
     let upright = in_context c.style (Some Upright) in
-    takes_if (a_character (byte "*") ∷ []) (λ star. of_one place upright (operator_name ByStyle c.style)) (of_one place upright (operator_name Beside c.style))
+    takes_if (a_character (byte "*") ∷ []) (λ star. of_one place upright (operator_name ByStyle)) (of_one place upright (operator_name Beside))
 
 -- an atom with a stroke through it, where it is a leaf
 abbrev pub struck_atom : ℕ → Core → Option Element → Rule
 struck_atom place x None = refuses (refusal_at NothingToNegate place)
-struck_atom place x (Some element) = gives (core (atom x.atom.kind x.atom.high element))
+struck_atom place x (Some element) = gives (core (atom (no_letters x.atom.kind) x.atom.high element))
 
 abbrev pub a_negation : ℕ → Context → Rule
 a_negation place c =
     takes_if (negated_of ∷ []) (λ sign_text. gives (core (relation sign_text))) (reads_core place c (λ x. struck_atom place x (struck x.atom.element)))
 
 -- an operand with a stroke through it, where it is a leaf
-abbrev pub slashed : Style → List Atom → Option Element → Core
-slashed style xs None = core (group style xs)
-slashed style xs (Some element) = core (atom (Plain Ordinary) false element)
+abbrev pub slashed : Operand → Option Element → Core
+slashed x None = core (group x)
+slashed x (Some element) = core (atom (Plain Ordinary) false element)
 
 -- the rule of a command with this meaning, at this place
 abbrev pub meaning_rule : ℕ → Context → Meaning → Rule
 meaning_rule place c (Shows s) = gives (symbol c.alphabet s)
 meaning_rule place c (FunctionName limits name) = gives (function_name limits name)
 meaning_rule place c (Spacing width) = gives (core (spacing width))
-meaning_rule place c (Styled alphabet) = of_one place (in_context c.style (Some alphabet)) (λ xs. core (group c.style xs))
-meaning_rule place c (Words alphabet) = reads_words place alphabet (λ ws. gives (core (words_atom ws)))
+meaning_rule place c (Styled alphabet) = of_one place (in_context c.style (Some alphabet)) (λ x. core (group x))
+meaning_rule place c (TakesWordsIn alphabet) = reads_words place alphabet (λ ws. gives (core (words_atom ws)))
 meaning_rule place c (Fraction rule own) = a_fraction place c rule own
 meaning_rule place c Root = a_root place c
-meaning_rule place c (Accent side mark width) = of_one place c (accent side mark width c.style)
-meaning_rule place c (Brace side mark) = of_one place c (brace side mark c.style)
-meaning_rule place c (Stack side) = of_two place (styled c InScript) c (λ mark base. stack side (class_of_base base) c.style mark base)
-meaning_rule place c StackedRelation = of_two place (styled c InScript) c (stack Above Relation c.style)
+meaning_rule place c (Accent side mark width) = of_one place c (λ x. accent side mark width x.element)
+meaning_rule place c (Brace side mark) = of_one place c (λ x. brace side mark x.element)
+meaning_rule place c (Stack side) = of_two place (styled c InScript) c (λ mark base. stack side base.class mark.element base.element)
+meaning_rule place c StackedRelation = of_two place (styled c InScript) c (λ mark base. stack Above Relation mark.element base.element)
 meaning_rule place c OperatorName = an_operator_name place c
 meaning_rule place c Negation = a_negation place c
-meaning_rule place c Slash = of_one place c (λ xs. slashed c.style xs (struck (row_of c.style xs)))
+meaning_rule place c Slash = of_one place c (λ x. slashed x (struck x.element))
 meaning_rule place c (Sized size class) = takes_delimiter (λ sign_text. gives (sized size class sign_text))
-meaning_rule place c Left = takes_delimiter (λ opening. reads_atoms (InDelimiters place) c (λ xs. takes_delimiter (λ closing. gives (between_delimiters c.style opening closing xs))))
+meaning_rule place c Left = takes_delimiter (λ opening. reads_atoms (InDelimiters place) c (λ row. takes_delimiter (λ closing. gives (between_delimiters opening closing row))))
 meaning_rule place c Middle = refuses (refusal_at MiddleWithoutLeft place)
 meaning_rule place c Right = refuses (refusal_at RightWithoutLeft place)
 meaning_rule place c Limits = refuses (refusal_at LimitsWithoutOperator place)
 meaning_rule place c NoLimits = refuses (refusal_at LimitsWithoutOperator place)
-meaning_rule place c (Classed class) = of_one place c (classed class c.style)
+meaning_rule place c (Classed class) = of_one place c (classed class)
 
 abbrev pub command_rule : ℕ → Context → List ℕ → Option Meaning → Rule
 command_rule place c name (Some meaning) = meaning_rule place c meaning
@@ -170,7 +170,7 @@ command_rule place c name None = if bytes_eq name (codes "\\") then refuses (ref
 
 -- the rule of a unit that begins an atom
 abbrev pub rule : ℕ → Context → Piece → Rule
-rule place c Open = reads_atoms (InBraces place) c (λ xs. gives (core (group c.style xs)))
+rule place c Open = reads_atoms (InBraces place) c (λ row. gives (core (group (operand_of row))))
 rule place c Close = refuses (refusal_at UnopenedBrace place)
 rule place c (Character character) = character_rule c character place
 rule place c (Command name) = command_rule place c name (meaning_of name)

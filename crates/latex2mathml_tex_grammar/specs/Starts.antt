@@ -1,11 +1,12 @@
 -- How atoms, operands and scripts begin and end: what each unit is to them.
 use Rattle.std.specs.Prelude.{ℕ, suc, ◌==◌, ◌||◌, Bool, true, false, List, [], codes, Option, Some, None, if◌then◌else◌}
 use Rattle.std.specs.{Str.byte, Str.bytes_eq}
-use Rattle.latex2mathml_tex_grammar.specs.{Atoms.Atom, Atoms.Plain, Atoms.atom, Atoms.row_of, Makes.Scripts, Rules.a_digit}
+use Rattle.latex2mathml_elements.specs.Element.{Element}
+use Rattle.latex2mathml_tex_grammar.specs.{Atoms.Atom, Atoms.Plain, Atoms.atom, Makes.Scripts, Makes.behind_primes, Rows.row_element, Rules.a_digit}
 use Rattle.latex2mathml_tex_grammar.specs.Meaning.{LimitPlace, Beside, Stacked}
 use Rattle.latex2mathml_tex_grammar.specs.Refusal.{Kind, UnclosedBrace, UnclosedBracket, UnclosedDollar, LeftWithoutRight, SecondSubscript, SecondSuperscript, Refusal, refusal_at}
 use Rattle.latex2mathml_tex_grammar.specs.Rules.{Ending, WholeText, InBraces, InBrackets, InDollars, InDelimiters}
-use Rattle.latex2mathml_tex_grammar.specs.Symbols.{InText, Ordinary}
+use Rattle.latex2mathml_tex_grammar.specs.Symbols.{Ordinary}
 use Rattle.latex2mathml_tex_grammar.specs.Units.{Piece, Open, Close, Command, Character, Units, Next, End, Stop}
 
 -- What ends atoms side by side
@@ -114,16 +115,16 @@ operand_start piece =
 -- what a mark does after an atom with these scripts
 pub data Step : Type 0 where
   GoesOn : Scripts → Step
-  TakesOperand : (List Atom → Scripts) → Step
+  TakesOperand : (Element → Scripts) → Step
   Twice : Kind → Step
 
-abbrev pub step_of : Scripts → Option (List Atom) → Option (List Atom) → Mark → Step
-step_of scripts below (Some xs) Prime = Twice SecondSuperscript
+abbrev pub step_of : Scripts → Option Element → Option Element → Mark → Step
+step_of scripts below (Some x) Prime = Twice SecondSuperscript
 step_of scripts below None Prime = GoesOn (record scripts { primes = suc scripts.primes })
-step_of scripts (Some xs) above Below = Twice SecondSubscript
-step_of scripts None above Below = TakesOperand (λ xs. record scripts { below = Some xs })
-step_of scripts below (Some xs) Above = Twice SecondSuperscript
-step_of scripts below None Above = TakesOperand (λ xs. record scripts { above = Some xs })
+step_of scripts (Some x) above Below = Twice SecondSubscript
+step_of scripts None above Below = TakesOperand (λ x. record scripts { below = Some x })
+step_of scripts below (Some x) Above = Twice SecondSuperscript
+step_of scripts below None Above = TakesOperand (λ x. record scripts { above = Some (behind_primes scripts.primes x) })
 step_of scripts below above (LimitsAt place) = GoesOn (record scripts { limits = place })
 
 -- the step of the unit that stands next, where it is a mark
@@ -138,4 +139,4 @@ step_next scripts (Stop refusal) = None
 
 -- the row that scripts stand on where no atom is before them
 abbrev pub empty_base : Atom
-empty_base = atom (Plain Ordinary) false (row_of InText [])
+empty_base = atom (Plain Ordinary) false (row_element [])

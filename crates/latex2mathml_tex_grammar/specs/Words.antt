@@ -1,17 +1,17 @@
 -- Words: what stands in `\text` and its like, character by character.
-use Rattle.std.specs.Prelude.{ℕ, ◌==◌, ◌||◌, Bool, false, List, [], ◌∷◌, ◌++◌, Option, Some, None, codes, if◌then◌else◌}
+use Rattle.std.specs.Prelude.{ℕ, ◌==◌, ◌||◌, Bool, true, false, List, [], ◌∷◌, ◌++◌, Option, Some, None, codes, if◌then◌else◌}
 use Rattle.std.specs.{Str.byte, Str.bytes_eq}
-use Rattle.latex2mathml_tex_grammar.specs.{Alphabets.in_alphabet, Atoms.Atom, Atoms.Plain, Atoms.atom, Atoms.elements_of, Commands.meaning_of, Makes.symbol, Makes.text}
-use Rattle.latex2mathml_tex_grammar.specs.Element.{Element, leaf, Mtext, row}
-use Rattle.latex2mathml_tex_grammar.specs.Meaning.{Meaning, Shows, Spacing, Words}
+use Rattle.latex2mathml_elements.specs.{Attributes.plain, Element.Element, Element.Mtext, Element.token}
+use Rattle.latex2mathml_tex_grammar.specs.{Alphabets.in_alphabet, Atoms.Atom, Atoms.Plain, Atoms.atom, Commands.meaning_of, Makes.symbol, Makes.text, Rows.row_element, Rows.single}
+use Rattle.latex2mathml_tex_grammar.specs.Meaning.{Meaning, Shows, Spacing, Words as TakesWordsIn}
 use Rattle.latex2mathml_tex_grammar.specs.Refusal.{Kind, CommandInWords, CharacterInWords, UnknownCommand}
 use Rattle.latex2mathml_tex_grammar.specs.Symbols.{Alphabet, Ordinary, InText}
 use Rattle.latex2mathml_tex_grammar.specs.Units.{Piece, Space, Open, Close, Command, Character}
 
--- a part of words: a text, or a formula
+-- a part of words: a text, or the element of a formula
 pub data Word : Type 0 where
   Shown : List ℕ → Word
-  Formula : List Atom → Word
+  Formula : Element → Word
 
 -- what a unit is in words
 pub data WordRule : Type 0 where
@@ -49,10 +49,10 @@ is_escape name = bytes_eq name (codes "%") || bytes_eq name (codes "_") || bytes
 
 abbrev pub meaning_rule : List ℕ → Option Meaning → WordRule
 meaning_rule name (Some (Spacing width)) = IsWord word_space
-meaning_rule name (Some (Shows sign)) = IsWord (Formula ((symbol None sign).atom ∷ []))
-meaning_rule name (Some (Words alphabet)) = TakesWords alphabet
+meaning_rule name (Some (Shows sign)) = IsWord (Formula (single InText (symbol None sign).atom).element)
+meaning_rule name (Some (TakesWordsIn alphabet)) = TakesWords alphabet
 meaning_rule name (Some meaning) = NoWord (CommandInWords name)
-meaning_rule name None = NoWord (UnknownCommand name)
+meaning_rule name None = if bytes_eq name (codes "\\") then NoWord (CommandInWords name) else NoWord (UnknownCommand name)
 
 -- what a unit is in words of this alphabet
 abbrev pub word_rule : Option Alphabet → Piece → WordRule
@@ -62,20 +62,27 @@ word_rule alphabet Close = EndsGroup
 word_rule alphabet (Character c) = character_rule alphabet c
 word_rule alphabet (Command name) = if is_escape name then IsWord (Shown name) else meaning_rule name (meaning_of name)
 
--- a part of words before the elements of others: texts side by side are one
-abbrev pub before_elements : Word → List Element → List Element
-before_elements (Shown a) (leaf Mtext attributes b ∷ xs) = leaf Mtext attributes (a ++ b) ∷ xs
-before_elements (Shown a) xs = leaf Mtext [] a ∷ xs
-before_elements (Formula atoms) xs = elements_of InText atoms ++ xs
+-- Words so far: their elements, the last one first, and whether the last one is a text.
+pub record Words : Type 0 where
+  pub elements : List Element
+  pub ends_in_text : Bool
 
-abbrev pub elements_of_words : List Word → List Element
-elements_of_words [] = []
-elements_of_words (w ∷ ws) = before_elements w (elements_of_words ws)
+abbrev pub no_words : Words
+no_words = record { elements = []; ends_in_text = false }
+
+-- a text behind a text makes it longer
+abbrev pub with_text : Bool → List ℕ → List Element → List Element
+with_text true more (token t a before ∷ xs) = token t a (before ++ more) ∷ xs
+with_text ends_in_text more xs = token Mtext plain more ∷ xs
+
+abbrev pub with_word : Words → Word → Words
+with_word ws (Shown more) = record { elements = with_text ws.ends_in_text more ws.elements; ends_in_text = true }
+with_word ws (Formula x) = record { elements = x ∷ ws.elements; ends_in_text = false }
 
 -- words as one element; no words are an empty text
-abbrev pub words_row : List Element → Element
-words_row [] = leaf Mtext [] []
-words_row xs = row xs
+abbrev pub words_element : List Element → Element
+words_element [] = token Mtext plain []
+words_element xs = row_element xs
 
-abbrev pub words_atom : List Word → Atom
-words_atom ws = atom (Plain Ordinary) false (words_row (elements_of_words ws))
+abbrev pub words_atom : Words → Atom
+words_atom ws = atom (Plain Ordinary) false (words_element ws.elements)

@@ -3,9 +3,8 @@ ghost use Rattle.std.specs.Prelude.{◌≡◌, map};
 ghost use Rattle.latex2mathml_tex_grammar.specs.CommandsUpToL.{commands_up_to_l};
 ghost use Rattle.latex2mathml_tex.specs.Meanings.{entry_of};
 
-use crate::meaning::{
-    Alphabet, Class, Entry, FractionRule, LimitPlace, Meaning, Side, Size, Style, Symbol, Width,
-};
+use crate::meaning::{Alphabet, Class, Entry, FractionRule, LimitPlace, Meaning, Style, Symbol};
+use latex2mathml_builder::attributes::{Side, Size, Stretch};
 
 /// The entries.
 #[tactic(auto, unfolding(latex2mathml_tex_grammar::specs::CommandsUpToL::commands_up_to_l))]
@@ -107,7 +106,7 @@ static ENTRIES: [Entry; 388] = [
     Entry { name: "Zeta", meaning: Meaning::Shows(Symbol::UprightLetter('Ζ')) },
     Entry { name: "_", meaning: Meaning::Shows(Symbol::Sign(Class::Ordinary, '_')) },
     Entry { name: "a", meaning: Meaning::Shows(Symbol::UprightLetter('å')) },
-    Entry { name: "acute", meaning: Meaning::Accent(Side::Above, '´', Width::Rigid) },
+    Entry { name: "acute", meaning: Meaning::Accent(Side::Above, '´', Stretch::Rigid) },
     Entry { name: "ae", meaning: Meaning::Shows(Symbol::UprightLetter('æ')) },
     Entry { name: "aleph", meaning: Meaning::Shows(Symbol::UprightLetter('ℵ')) },
     Entry { name: "alpha", meaning: Meaning::Shows(Symbol::Letter('α')) },
@@ -132,7 +131,7 @@ static ENTRIES: [Entry; 388] = [
     Entry { name: "backsim", meaning: Meaning::Shows(Symbol::Sign(Class::Relation, '∽')) },
     Entry { name: "backsimeq", meaning: Meaning::Shows(Symbol::Sign(Class::Relation, '⋍')) },
     Entry { name: "backslash", meaning: Meaning::Shows(Symbol::Sign(Class::Ordinary, '\\')) },
-    Entry { name: "bar", meaning: Meaning::Accent(Side::Above, '¯', Width::Rigid) },
+    Entry { name: "bar", meaning: Meaning::Accent(Side::Above, '¯', Stretch::Rigid) },
     Entry { name: "barwedge", meaning: Meaning::Shows(Symbol::Sign(Class::Binary, '⊼')) },
     Entry { name: "because", meaning: Meaning::Shows(Symbol::Sign(Class::Relation, '∵')) },
     Entry { name: "beta", meaning: Meaning::Shows(Symbol::Letter('β')) },
@@ -179,7 +178,7 @@ static ENTRIES: [Entry; 388] = [
     Entry { name: "boxplus", meaning: Meaning::Shows(Symbol::Sign(Class::Binary, '⊞')) },
     Entry { name: "boxslash", meaning: Meaning::Shows(Symbol::Sign(Class::Relation, '⧄')) },
     Entry { name: "boxtimes", meaning: Meaning::Shows(Symbol::Sign(Class::Binary, '⊠')) },
-    Entry { name: "breve", meaning: Meaning::Accent(Side::Above, '˘', Width::Rigid) },
+    Entry { name: "breve", meaning: Meaning::Accent(Side::Above, '˘', Stretch::Rigid) },
     Entry { name: "bullet", meaning: Meaning::Shows(Symbol::Sign(Class::Binary, '∙')) },
     Entry { name: "bumpeq", meaning: Meaning::Shows(Symbol::Sign(Class::Relation, '≏')) },
     Entry { name: "cap", meaning: Meaning::Shows(Symbol::Sign(Class::Binary, '∩')) },
@@ -189,7 +188,7 @@ static ENTRIES: [Entry; 388] = [
     Entry { name: "centerdot", meaning: Meaning::Shows(Symbol::Sign(Class::Binary, '∙')) },
     Entry { name: "cfrac", meaning: Meaning::Fraction(FractionRule::Bar, Some(Style::InDisplay)) },
     Entry { name: "ch", meaning: Meaning::FunctionName(LimitPlace::Beside, "ch") },
-    Entry { name: "check", meaning: Meaning::Accent(Side::Above, 'ˇ', Width::Rigid) },
+    Entry { name: "check", meaning: Meaning::Accent(Side::Above, 'ˇ', Stretch::Rigid) },
     Entry { name: "checkmark", meaning: Meaning::Shows(Symbol::Sign(Class::Ordinary, '✓')) },
     Entry { name: "chi", meaning: Meaning::Shows(Symbol::Letter('χ')) },
     Entry { name: "circ", meaning: Meaning::Shows(Symbol::Sign(Class::Binary, '∘')) },
@@ -233,8 +232,8 @@ static ENTRIES: [Entry; 388] = [
     Entry { name: "dbinom", meaning: Meaning::Fraction(FractionRule::NoBar, Some(Style::InDisplay)) },
     Entry { name: "ddag", meaning: Meaning::Shows(Symbol::Sign(Class::Ordinary, '‡')) },
     Entry { name: "ddagger", meaning: Meaning::Shows(Symbol::Sign(Class::Binary, '‡')) },
-    Entry { name: "dddot", meaning: Meaning::Accent(Side::Above, '\u{20DB}', Width::Rigid) },
-    Entry { name: "ddot", meaning: Meaning::Accent(Side::Above, '¨', Width::Rigid) },
+    Entry { name: "dddot", meaning: Meaning::Accent(Side::Above, '\u{20DB}', Stretch::Rigid) },
+    Entry { name: "ddot", meaning: Meaning::Accent(Side::Above, '¨', Stretch::Rigid) },
     Entry { name: "ddots", meaning: Meaning::Shows(Symbol::Sign(Class::Inner, '⋱')) },
     Entry { name: "deg", meaning: Meaning::FunctionName(LimitPlace::Beside, "deg") },
     Entry { name: "degree", meaning: Meaning::Shows(Symbol::Sign(Class::Ordinary, '°')) },
@@ -251,7 +250,7 @@ static ENTRIES: [Entry; 388] = [
     Entry { name: "div", meaning: Meaning::Shows(Symbol::Sign(Class::Binary, '÷')) },
     Entry { name: "divideontimes", meaning: Meaning::Shows(Symbol::Sign(Class::Binary, '⋇')) },
     Entry { name: "dj", meaning: Meaning::Shows(Symbol::UprightLetter('đ')) },
-    Entry { name: "dot", meaning: Meaning::Accent(Side::Above, '˙', Width::Rigid) },
+    Entry { name: "dot", meaning: Meaning::Accent(Side::Above, '˙', Stretch::Rigid) },
     Entry { name: "doteq", meaning: Meaning::Shows(Symbol::Sign(Class::Relation, '≐')) },
     Entry { name: "doteqdot", meaning: Meaning::Shows(Symbol::Sign(Class::Relation, '≑')) },
     Entry { name: "dotplus", meaning: Meaning::Shows(Symbol::Sign(Class::Binary, '∔')) },
@@ -303,7 +302,7 @@ static ENTRIES: [Entry; 388] = [
     Entry { name: "gneq", meaning: Meaning::Shows(Symbol::Sign(Class::Relation, '⪈')) },
     Entry { name: "gneqq", meaning: Meaning::Shows(Symbol::Sign(Class::Relation, '≩')) },
     Entry { name: "gnsim", meaning: Meaning::Shows(Symbol::Sign(Class::Relation, '⋧')) },
-    Entry { name: "grave", meaning: Meaning::Accent(Side::Above, '`', Width::Rigid) },
+    Entry { name: "grave", meaning: Meaning::Accent(Side::Above, '`', Stretch::Rigid) },
     Entry { name: "gt", meaning: Meaning::Shows(Symbol::Sign(Class::Relation, '>')) },
     Entry { name: "gtrapprox", meaning: Meaning::Shows(Symbol::Sign(Class::Relation, '⪆')) },
     Entry { name: "gtrdot", meaning: Meaning::Shows(Symbol::Sign(Class::Binary, '⋗')) },
@@ -311,7 +310,7 @@ static ENTRIES: [Entry; 388] = [
     Entry { name: "gtreqqless", meaning: Meaning::Shows(Symbol::Sign(Class::Relation, '⪌')) },
     Entry { name: "gtrless", meaning: Meaning::Shows(Symbol::Sign(Class::Relation, '≷')) },
     Entry { name: "gtrsim", meaning: Meaning::Shows(Symbol::Sign(Class::Relation, '≳')) },
-    Entry { name: "hat", meaning: Meaning::Accent(Side::Above, 'ˆ', Width::Rigid) },
+    Entry { name: "hat", meaning: Meaning::Accent(Side::Above, 'ˆ', Stretch::Rigid) },
     Entry { name: "hbar", meaning: Meaning::Shows(Symbol::Letter('ℏ')) },
     Entry { name: "hbox", meaning: Meaning::Words(None) },
     Entry { name: "heartsuit", meaning: Meaning::Shows(Symbol::Sign(Class::Ordinary, '♡')) },

@@ -3,9 +3,8 @@ ghost use Rattle.std.specs.Prelude.{◌≡◌, map};
 ghost use Rattle.latex2mathml_tex_grammar.specs.CommandsFromM.{commands_from_m};
 ghost use Rattle.latex2mathml_tex.specs.Meanings.{entry_of};
 
-use crate::meaning::{
-    Alphabet, Class, Entry, FractionRule, LimitPlace, Meaning, Side, Style, Symbol, Width,
-};
+use crate::meaning::{Alphabet, Class, Entry, FractionRule, LimitPlace, Meaning, Style, Symbol};
+use latex2mathml_builder::attributes::{Side, Stretch};
 
 /// The entries.
 #[tactic(auto, unfolding(latex2mathml_tex_grammar::specs::CommandsFromM::commands_from_m))]
@@ -38,7 +37,7 @@ static ENTRIES: [Entry; 309] = [
     Entry { name: "mathord", meaning: Meaning::Classed(Class::Ordinary) },
     Entry { name: "mathpunct", meaning: Meaning::Classed(Class::Punctuation) },
     Entry { name: "mathrel", meaning: Meaning::Classed(Class::Relation) },
-    Entry { name: "mathring", meaning: Meaning::Accent(Side::Above, '˚', Width::Rigid) },
+    Entry { name: "mathring", meaning: Meaning::Accent(Side::Above, '˚', Stretch::Rigid) },
     Entry { name: "mathrm", meaning: Meaning::Styled(Alphabet::Upright) },
     Entry { name: "mathscr", meaning: Meaning::Styled(Alphabet::Calligraphic) },
     Entry { name: "mathsf", meaning: Meaning::Styled(Alphabet::SansSerif) },
@@ -122,11 +121,11 @@ static ENTRIES: [Entry; 309] = [
     Entry { name: "otimes", meaning: Meaning::Shows(Symbol::Sign(Class::Binary, '⊗')) },
     Entry { name: "overbrace", meaning: Meaning::Brace(Side::Above, '⏞') },
     Entry { name: "overbracket", meaning: Meaning::Brace(Side::Above, '⎴') },
-    Entry { name: "overleftarrow", meaning: Meaning::Accent(Side::Above, '←', Width::Stretching) },
-    Entry { name: "overleftrightarrow", meaning: Meaning::Accent(Side::Above, '↔', Width::Stretching) },
-    Entry { name: "overline", meaning: Meaning::Accent(Side::Above, '‾', Width::Stretching) },
+    Entry { name: "overleftarrow", meaning: Meaning::Accent(Side::Above, '←', Stretch::Stretching) },
+    Entry { name: "overleftrightarrow", meaning: Meaning::Accent(Side::Above, '↔', Stretch::Stretching) },
+    Entry { name: "overline", meaning: Meaning::Accent(Side::Above, '‾', Stretch::Stretching) },
     Entry { name: "overparen", meaning: Meaning::Brace(Side::Above, '⏜') },
-    Entry { name: "overrightarrow", meaning: Meaning::Accent(Side::Above, '→', Width::Stretching) },
+    Entry { name: "overrightarrow", meaning: Meaning::Accent(Side::Above, '→', Stretch::Stretching) },
     Entry { name: "overset", meaning: Meaning::Stack(Side::Above) },
     Entry { name: "owns", meaning: Meaning::Shows(Symbol::Sign(Class::Relation, '∋')) },
     Entry { name: "parallel", meaning: Meaning::Shows(Symbol::Sign(Class::Relation, '∥')) },
@@ -262,7 +261,7 @@ static ENTRIES: [Entry; 309] = [
     Entry { name: "thicksim", meaning: Meaning::Shows(Symbol::Sign(Class::Relation, '∼')) },
     Entry { name: "thickspace", meaning: Meaning::Spacing(5) },
     Entry { name: "thinspace", meaning: Meaning::Spacing(3) },
-    Entry { name: "tilde", meaning: Meaning::Accent(Side::Above, '˜', Width::Rigid) },
+    Entry { name: "tilde", meaning: Meaning::Accent(Side::Above, '˜', Stretch::Rigid) },
     Entry { name: "times", meaning: Meaning::Shows(Symbol::Sign(Class::Binary, '×')) },
     Entry { name: "to", meaning: Meaning::Shows(Symbol::Sign(Class::Relation, '→')) },
     Entry { name: "top", meaning: Meaning::Shows(Symbol::Sign(Class::Ordinary, '⊤')) },
@@ -276,13 +275,13 @@ static ENTRIES: [Entry; 309] = [
     Entry { name: "twoheadleftarrow", meaning: Meaning::Shows(Symbol::Sign(Class::Relation, '↞')) },
     Entry { name: "twoheadrightarrow", meaning: Meaning::Shows(Symbol::Sign(Class::Relation, '↠')) },
     Entry { name: "ulcorner", meaning: Meaning::Shows(Symbol::Sign(Class::Opening, '┌')) },
-    Entry { name: "underbar", meaning: Meaning::Accent(Side::Below, '\u{332}', Width::Stretching) },
+    Entry { name: "underbar", meaning: Meaning::Accent(Side::Below, '\u{332}', Stretch::Stretching) },
     Entry { name: "underbrace", meaning: Meaning::Brace(Side::Below, '⏟') },
     Entry { name: "underbracket", meaning: Meaning::Brace(Side::Below, '⎵') },
-    Entry { name: "underleftarrow", meaning: Meaning::Accent(Side::Below, '←', Width::Stretching) },
-    Entry { name: "underline", meaning: Meaning::Accent(Side::Below, '\u{332}', Width::Stretching) },
+    Entry { name: "underleftarrow", meaning: Meaning::Accent(Side::Below, '←', Stretch::Stretching) },
+    Entry { name: "underline", meaning: Meaning::Accent(Side::Below, '\u{332}', Stretch::Stretching) },
     Entry { name: "underparen", meaning: Meaning::Brace(Side::Below, '⏝') },
-    Entry { name: "underrightarrow", meaning: Meaning::Accent(Side::Below, '→', Width::Stretching) },
+    Entry { name: "underrightarrow", meaning: Meaning::Accent(Side::Below, '→', Stretch::Stretching) },
     Entry { name: "underset", meaning: Meaning::Stack(Side::Below) },
     Entry { name: "unlhd", meaning: Meaning::Shows(Symbol::Sign(Class::Binary, '⊴')) },
     Entry { name: "unrhd", meaning: Meaning::Shows(Symbol::Sign(Class::Binary, '⊵')) },
@@ -311,15 +310,15 @@ static ENTRIES: [Entry; 309] = [
     Entry { name: "varvdots", meaning: Meaning::Shows(Symbol::Sign(Class::Ordinary, '⋮')) },
     Entry { name: "vdash", meaning: Meaning::Shows(Symbol::Sign(Class::Relation, '⊢')) },
     Entry { name: "vdots", meaning: Meaning::Shows(Symbol::Sign(Class::Relation, '⋮')) },
-    Entry { name: "vec", meaning: Meaning::Accent(Side::Above, '\u{20D7}', Width::Stretching) },
+    Entry { name: "vec", meaning: Meaning::Accent(Side::Above, '\u{20D7}', Stretch::Stretching) },
     Entry { name: "vee", meaning: Meaning::Shows(Symbol::Sign(Class::Binary, '∨')) },
     Entry { name: "veebar", meaning: Meaning::Shows(Symbol::Sign(Class::Binary, '⊻')) },
     Entry { name: "venus", meaning: Meaning::Shows(Symbol::Sign(Class::Ordinary, '♀')) },
     Entry { name: "vert", meaning: Meaning::Shows(Symbol::Sign(Class::Ordinary, '∣')) },
     Entry { name: "wedge", meaning: Meaning::Shows(Symbol::Sign(Class::Binary, '∧')) },
-    Entry { name: "widecheck", meaning: Meaning::Accent(Side::Above, 'ˇ', Width::Stretching) },
-    Entry { name: "widehat", meaning: Meaning::Accent(Side::Above, '\u{302}', Width::Stretching) },
-    Entry { name: "widetilde", meaning: Meaning::Accent(Side::Above, '~', Width::Stretching) },
+    Entry { name: "widecheck", meaning: Meaning::Accent(Side::Above, 'ˇ', Stretch::Stretching) },
+    Entry { name: "widehat", meaning: Meaning::Accent(Side::Above, '\u{302}', Stretch::Stretching) },
+    Entry { name: "widetilde", meaning: Meaning::Accent(Side::Above, '~', Stretch::Stretching) },
     Entry { name: "wr", meaning: Meaning::Shows(Symbol::Sign(Class::Binary, '≀')) },
     Entry { name: "xi", meaning: Meaning::Shows(Symbol::Letter('ξ')) },
     Entry { name: "yen", meaning: Meaning::Shows(Symbol::Sign(Class::Ordinary, '¥')) },

@@ -1,0 +1,33 @@
+-- Parts that are no tokens are elements without a text of their own.
+use Rattle.std.proofs.Common.{◌≡◌, ℕ, Bool, true, false, List, [], ◌∷◌, None, refl}
+use Rattle.latex2mathml_elements.specs.{Attributes.Attributes, Element.Element, Element.Pair, Element.Triple}
+use Rattle.latex2mathml_builder.specs.{Names.attributes_of, Names.pair_of, Names.triple_of}
+use Rattle.latex2mathml_builder.specs.Stacks.{pair_with, token_of_element, triple_with, with_attributes}
+use Rattle.latex2mathml_builder.specs.declared.{attributes.Attributes.Attributes as OwnAttributes, part.Part.Part, tag.Token.Token}
+use Rattle.latex2mathml_builder.specs.declared.part.Part.TheVariants as part
+use Rattle.latex2mathml_builder.proofs.Sound.{element}
+
+abbrev HasNoText : Element → Type 0
+HasNoText x = (token_of_element x ≡ None) × ((b : Attributes) → x ≡ with_attributes b x)
+
+pair_has_none : (p : Pair) (a : Attributes) (xs : List Element) → HasNoText (pair_with p a xs)
+pair_has_none p a [] = (refl, λ b. refl)
+pair_has_none p a (x ∷ []) = (refl, λ b. refl)
+pair_has_none p a (x ∷ y ∷ xs) = (refl, λ b. refl)
+
+triple_has_none : (t : Triple) (a : Attributes) (is_exchanged : Bool) (xs : List Element) → HasNoText (triple_with t a is_exchanged xs)
+triple_has_none t a false [] = (refl, λ b. refl)
+triple_has_none t a true [] = (refl, λ b. refl)
+triple_has_none t a false (x ∷ []) = (refl, λ b. refl)
+triple_has_none t a true (x ∷ []) = (refl, λ b. refl)
+triple_has_none t a false (x ∷ y ∷ []) = (refl, λ b. refl)
+triple_has_none t a true (x ∷ y ∷ []) = (refl, λ b. refl)
+triple_has_none t a false (x ∷ y ∷ z ∷ xs) = (refl, λ b. refl)
+triple_has_none t a true (x ∷ y ∷ z ∷ xs) = (refl, λ b. refl)
+
+pub has_none : (texts : List ℕ) (settled : List Part) (p : Part) → ((t : Token) (a : OwnAttributes) (start end : ℕ) → p ≡ part.Token t a start end → ⊥) → HasNoText (element texts settled p)
+has_none texts settled (part.Token t a start end) h = absurd (h t a start end refl)
+has_none texts settled (part.Space width) h = (refl, λ b. refl)
+has_none texts settled (part.Container c a first count) h = (refl, λ b. refl)
+has_none texts settled (part.Pair p a first) h = pair_has_none (pair_of p) (attributes_of a) _
+has_none texts settled (part.Triple t a first is_exchanged) h = triple_has_none (triple_of t) (attributes_of a) is_exchanged _

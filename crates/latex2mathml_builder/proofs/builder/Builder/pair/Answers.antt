@@ -1,0 +1,14 @@
+use Rattle.std.proofs.Common.{◌≡◌, ◌∷◌, ◌∙◌, OnOk, ap, drop, length, subst}
+use Rattle.latex2mathml_builder.specs.{Built.elements_in, Names.attributes_of, Names.pair_of, Stacks.pair_with}
+use Rattle.latex2mathml_builder.proofs.Sound.{children_back}
+use Rattle.latex2mathml_builder.proofs.builder.Builder.pair.Goals as goal
+
+pub returns : goal.returns
+returns c =
+    let b = c.args.self.now in
+    let first = ap length c.as_slice-first.ensures.value ∙ ap (λ d. length d.settled) c.self.view_is in
+    record {
+      elements =
+          subst (λ l. OnOk c.wrap.result (elements_in c.wrap.new.self ≡ pair_with (pair_of c.args.tag) (attributes_of c.args.attributes) l ∷ drop 2 (elements_in b)))
+          (children_back b.texts b.settled (elements_in b) _ 2 c.args.is_exchanged first c.requires) c.wrap.ensures.elements;
+    }

@@ -1,0 +1,338 @@
+//! The stack of open elements.
+ghost use Rattle.std.specs.Prelude.{◌≡◌, ◌+◌, ◌-◌, ◌<◌, ◌≤◌, ◌∷◌, ◌++◌, [], false, true, IfOk, MatchOption, None, OnErr, OnOk, Some, drop, length, reverse, take};
+ghost use Rattle.std.specs.Char.{encode_utf8};
+ghost use Rattle.latex2mathml_elements.specs.{Attributes.plain, Element.Mrow};
+ghost use Rattle.latex2mathml_elements.specs.Element.{children, container, space, token};
+ghost use Rattle.latex2mathml_builder.specs.Built.{Fits, HasText, between, element_of, elements_in, is_token_part, settled_in};
+ghost use Rattle.latex2mathml_builder.specs.Names.{attributes_of, container_of, pair_of, token_of, triple_of};
+ghost use Rattle.latex2mathml_builder.specs.Stacks.{are_tokens, given, is_token, joined, lengthened, ordered, pair_with, token_at, triple_with};
+
+use crate::attributes::Attributes;
+use crate::part::Part;
+use crate::tag::{Container, Pair, Token, Triple};
+use std::alloc::{AllocError, Global};
+use std::marker::Model;
+
+/// Elements that are open: each is one on its own, until an element is made of it. The last one is uppermost. By
+/// `elements_in`, contracts speak of the list of them, the uppermost first.
+///
+/// An `Err` is out of memory. It leaves elements of which nothing is promised: `clear` drops them.
+#[derive(Drop)]
+pub struct Builder {
+    /// The texts of the tokens, one after the other.
+    texts: String,
+    /// The elements that are children of others. The children of one stand side by side, before any element that has it as
+    /// its child.
+    settled: Vec<Part>,
+    stack: Vec<Part>,
+}
+
+impl Model for Builder {
+    ghost use Rattle.latex2mathml_builder.specs.Built.{Built, IsSound};
+    ghost use Rattle.std.specs.Prelude.{string_bytes};
+
+    ghost Value = { Built };
+
+    ghost view = { λ b. record { texts = string_bytes b.texts; settled = b.settled.items; stack = b.stack.items } };
+
+    ghost invariant = { λ b. IsSound (string_bytes b.texts) b.settled.items b.stack.items };
+}
+
+impl Builder {
+    /// No elements.
+    pub fn new(alloc: Global) -> Builder
+        ensures elements { elements_in result ≡ [] }
+    {
+        Builder {
+            texts: String::new(alloc),
+            settled: Vec::new(alloc),
+            stack: Vec::new(alloc),
+        }
+    }
+
+    /// Drops all elements, and keeps their room.
+    pub fn clear(&mut self)
+        ensures elements { elements_in self.new ≡ [] }
+    {
+        self.texts.clear();
+        self.settled.clear();
+        self.stack.clear();
+    }
+
+    /// How many elements are open.
+    pub fn len(&self) -> usize
+        ensures { result ≡ length (elements_in self.now) }
+    {
+        self.stack.as_slice().len()
+    }
+
+    /// Puts an element that holds a text, which is empty at first.
+    pub fn token(&mut self, tag: Token, attributes: Attributes) -> Result<(), AllocError>
+        ensures elements { OnOk result (elements_in self.new ≡ token (token_of tag) (attributes_of attributes) [] ∷ elements_in self.old) }
+    {
+        let end = self.texts.len();
+        self.stack.push(Part::Token(tag, attributes, end, end))?;
+        Ok(())
+    }
+
+    /// Puts an element that holds this text.
+    pub fn text(&mut self, tag: Token, attributes: Attributes, text: &str) -> Result<(), AllocError>
+        ensures elements { OnOk result (elements_in self.new ≡ token (token_of tag) (attributes_of attributes) text.now ∷ elements_in self.old) }
+    {
+        self.token(tag, attributes)?;
+        self.push_str(text)?;
+        Ok(())
+    }
+
+    /// Puts an element that holds this character.
+    pub fn character(
+        &mut self,
+        tag: Token,
+        attributes: Attributes,
+        c: char,
+    ) -> Result<(), AllocError>
+        ensures elements { OnOk result (elements_in self.new ≡ token (token_of tag) (attributes_of attributes) (encode_utf8 c) ∷ elements_in self.old) }
+    {
+        self.token(tag, attributes)?;
+        self.push(c)?;
+        Ok(())
+    }
+
+    /// Appends to the text of the uppermost element, if it holds one. Returns whether it does.
+    pub fn push_str(&mut self, text: &str) -> Result<bool, AllocError>
+        ensures elements { OnOk result (elements_in self.new ≡ lengthened text.now (elements_in self.old)) }
+        ensures is_token { IfOk result (λ b. b ≡ is_token (elements_in self.old)) }
+    {
+        let Some(&Part::Token(tag, attributes, start, _)) = self.stack.as_slice().last() else {
+            return Ok(false);
+        };
+        self.texts.push_str(text)?;
+        let last = self.stack.as_slice().len() - 1;
+        self.stack[last] = Part::Token(tag, attributes, start, self.texts.len());
+        Ok(true)
+    }
+
+    /// The same for one character.
+    pub fn push(&mut self, c: char) -> Result<bool, AllocError>
+        ensures elements { OnOk result (elements_in self.new ≡ lengthened (encode_utf8 c) (elements_in self.old)) }
+        ensures is_token { IfOk result (λ b. b ≡ is_token (elements_in self.old)) }
+    {
+        let Some(&Part::Token(tag, attributes, start, _)) = self.stack.as_slice().last() else {
+            return Ok(false);
+        };
+        self.texts.push(c)?;
+        let last = self.stack.as_slice().len() - 1;
+        self.stack[last] = Part::Token(tag, attributes, start, self.texts.len());
+        Ok(true)
+    }
+
+    /// Puts a space, in eighteenths of an em.
+    pub fn space(&mut self, width: i32) -> Result<(), AllocError>
+        ensures elements { OnOk result (elements_in self.new ≡ space width ∷ elements_in self.old) }
+    {
+        self.stack.push(Part::Space(width))?;
+        Ok(())
+    }
+
+    /// Puts a space, in eighteenths of an em, below the uppermost element.
+    pub fn space_below(&mut self, width: i32) -> Result<(), AllocError>
+        requires { 0 < length (elements_in self.old) }
+        ensures elements { OnOk result (elements_in self.new ≡ take 1 (elements_in self.old) ++ (space width ∷ drop 1 (elements_in self.old))) }
+    {
+        let last = self.stack.as_slice().len() - 1;
+        self.stack.push(self.stack[last])?;
+        self.stack[last] = Part::Space(width);
+        Ok(())
+    }
+
+    /// Makes one element without attributes of the two uppermost ones, if both hold a text: the text of the lower one, and
+    /// that of the upper one after it. Returns whether they do.
+    pub fn join(&mut self) -> bool
+        ensures elements { elements_in self.new ≡ joined (elements_in self.old) }
+        ensures are_tokens { result ≡ are_tokens (elements_in self.old) }
+    {
+        let len = self.stack.as_slice().len();
+        if len < 2 {
+            return false;
+        }
+        let Part::Token(_, _, _, end) = self.stack[len - 1] else {
+            return false;
+        };
+        let Part::Token(tag, _, start, _) = self.stack[len - 2] else {
+            return false;
+        };
+        self.stack[len - 2] = Part::Token(tag, Attributes::plain(), start, end);
+        self.stack.truncate(len - 1);
+        true
+    }
+
+    /// The name and the attributes of the element below so many others, if it holds a text.
+    pub fn token_at(&self, depth: usize) -> Option<(Token, Attributes)>
+        ensures { MatchOption result (token_at depth (elements_in self.now) ≡ None)
+            (λ found. token_at depth (elements_in self.now) ≡ Some (token_of found.0, attributes_of found.1)) }
+    {
+        let len = self.stack.as_slice().len();
+        if depth >= len {
+            return None;
+        }
+        match self.stack[len - 1 - depth] {
+            Part::Token(tag, attributes, _, _) => Some((tag, attributes)),
+            _ => None,
+        }
+    }
+
+    /// Gives the element below so many others these attributes, if it holds a text.
+    pub fn give(&mut self, depth: usize, attributes: Attributes)
+        ensures elements { elements_in self.new ≡ given depth (attributes_of attributes) (elements_in self.old) }
+    {
+        let len = self.stack.as_slice().len();
+        if depth >= len {
+            return;
+        }
+        let place = len - 1 - depth;
+        let Part::Token(tag, _, start, end) = self.stack[place] else {
+            return;
+        };
+        self.stack[place] = Part::Token(tag, attributes, start, end);
+    }
+
+    /// Makes an element of so many of the uppermost ones.
+    pub fn container(
+        &mut self,
+        tag: Container,
+        attributes: Attributes,
+        count: usize,
+    ) -> Result<(), AllocError>
+        requires { count ≤ length (elements_in self.old) }
+        ensures elements { OnOk result (elements_in self.new
+            ≡ container (container_of tag) (attributes_of attributes) (children (reverse (take count (elements_in self.old)))) ∷ drop count (elements_in self.old)) }
+    {
+        if count == 0 {
+            self.stack.push(Part::Container(tag, attributes, 0, 0))?;
+            return Ok(());
+        }
+        let first = self.settled.as_slice().len();
+        self.wrap(count, false, Part::Container(tag, attributes, first, count))
+    }
+
+    /// Makes an element of the two uppermost ones. If they are exchanged, the uppermost one becomes the first.
+    pub fn pair(
+        &mut self,
+        tag: Pair,
+        attributes: Attributes,
+        is_exchanged: bool,
+    ) -> Result<(), AllocError>
+        requires { 2 ≤ length (elements_in self.old) }
+        ensures elements { OnOk result (elements_in self.new
+            ≡ pair_with (pair_of tag) (attributes_of attributes) (ordered is_exchanged (reverse (take 2 (elements_in self.old)))) ∷ drop 2 (elements_in self.old)) }
+    {
+        let first = self.settled.as_slice().len();
+        self.wrap(2, is_exchanged, Part::Pair(tag, attributes, first))
+    }
+
+    /// Makes a row of the three uppermost elements, in which the second of them stands first.
+    pub fn fence(&mut self) -> Result<(), AllocError>
+        requires { 3 ≤ length (elements_in self.old) }
+        ensures elements { OnOk result (elements_in self.new
+            ≡ container Mrow plain (children (ordered true (reverse (take 3 (elements_in self.old))))) ∷ drop 3 (elements_in self.old)) }
+    {
+        let first = self.settled.as_slice().len();
+        self.wrap(
+            3,
+            true,
+            Part::Container(Container::Mrow, Attributes::plain(), first, 3),
+        )
+    }
+
+    /// Makes an element of the three uppermost ones. If they are exchanged, the uppermost one becomes the second.
+    pub fn triple(
+        &mut self,
+        tag: Triple,
+        attributes: Attributes,
+        is_exchanged: bool,
+    ) -> Result<(), AllocError>
+        requires { 3 ≤ length (elements_in self.old) }
+        ensures elements { OnOk result (elements_in self.new
+            ≡ triple_with (triple_of tag) (attributes_of attributes) is_exchanged (reverse (take 3 (elements_in self.old))) ∷ drop 3 (elements_in self.old)) }
+    {
+        let first = self.settled.as_slice().len();
+        self.wrap(
+            3,
+            false,
+            Part::Triple(tag, attributes, first, is_exchanged),
+        )
+    }
+
+    /// Puts an element in place of so many of the uppermost ones, which become settled, the first two of them exchanged if
+    /// they are to be.
+    fn wrap(
+        &mut self,
+        count: usize,
+        is_exchanged: bool,
+        whole: Part,
+    ) -> Result<(), AllocError>
+        requires some { 0 < count }
+        requires all { count ≤ length (elements_in self.old) }
+        requires fits { Fits self.old.texts (length self.old.settled + count) whole }
+        requires no_token { is_token_part whole ≡ false }
+        ensures elements { OnOk result (elements_in self.new
+            ≡ element_of self.old.texts (settled_in self.old ++ ordered is_exchanged (reverse (take count (elements_in self.old)))) whole ∷ drop count (elements_in self.old)) }
+    {
+        let start = self.stack.as_slice().len() - count;
+        settle(&mut self.settled, &self.stack[start..], is_exchanged)?;
+        self.stack[start] = whole;
+        self.stack.truncate(start + 1);
+        Ok(())
+    }
+
+    /// How many elements are settled.
+    pub(crate) fn settled_len(&self) -> usize
+        ensures { result ≡ length self.now.settled }
+    {
+        self.settled.as_slice().len()
+    }
+
+    /// A settled element.
+    pub(crate) fn settled_at(&self, place: usize) -> Part
+        requires { place < length self.now.settled }
+        ensures fits { Fits self.now.texts (length self.now.settled) result }
+        ensures element { drop place (settled_in self.now) ≡ element_of self.now.texts (settled_in self.now) result ∷ drop (place + 1) (settled_in self.now) }
+    {
+        self.settled[place]
+    }
+
+    /// An open element.
+    pub(crate) fn open_at(&self, place: usize) -> Part
+        requires { place < length self.now.stack }
+        ensures fits { Fits self.now.texts (length self.now.settled) result }
+        ensures element { drop (length self.now.stack - (place + 1)) (elements_in self.now)
+            ≡ element_of self.now.texts (settled_in self.now) result ∷ drop (length self.now.stack - place) (elements_in self.now) }
+    {
+        self.stack[place]
+    }
+
+    /// A part of the texts.
+    pub(crate) fn text_between(&self, start: usize, end: usize) -> &str
+        requires { HasText self.now.texts start end }
+        ensures { result.now ≡ between start end self.now.texts }
+    {
+        &self.texts.as_str()[start..end]
+    }
+}
+
+/// Appends parts, the first two of them exchanged if they are to be.
+fn settle(
+    settled: &mut Vec<Part>,
+    parts: &[Part],
+    is_exchanged: bool,
+) -> Result<(), AllocError>
+    ensures items { OnOk result (settled.new.items ≡ settled.old.items ++ ordered is_exchanged parts.now) }
+    ensures err { OnErr result (settled.new.items ≡ settled.old.items) }
+{
+    let first = settled.as_slice().len();
+    settled.extend_from_slice(parts)?;
+    if is_exchanged && parts.len() >= 2 {
+        settled.swap(first, first + 1);
+    }
+    Ok(())
+}

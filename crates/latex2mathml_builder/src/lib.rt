@@ -1,0 +1,14 @@
+//! Builds elements of MathML and writes them.
+//!
+//! The elements are those of the definitions in `latex2mathml_elements`. A [`builder::Builder`] holds open elements on a
+//! stack: a new element is put on it, or is made of those on top.
+#![tactic(auto)]
+
+pub mod attributes;
+pub mod builder;
+mod part;
+pub mod tag;
+#[cfg(test)]
+mod tests;
+pub mod works;
+mod write;

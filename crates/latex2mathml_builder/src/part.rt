@@ -1,0 +1,19 @@
+//! An element without its children.
+
+use crate::attributes::Attributes;
+use crate::tag::{Container, Pair, Token, Triple};
+
+/// An element. Its text is a part of the builder's texts; its children stand side by side among the settled elements.
+#[derive(Clone, Copy)]
+pub(crate) enum Part {
+    /// The text from a byte up to another.
+    Token(Token, Attributes, usize, usize),
+    /// A space, in eighteenths of an em.
+    Space(i32),
+    /// The first child, and how many there are.
+    Container(Container, Attributes, usize, usize),
+    /// The first child.
+    Pair(Pair, Attributes, usize),
+    /// The first child, and whether the third stands before the second.
+    Triple(Triple, Attributes, usize, bool),
+}

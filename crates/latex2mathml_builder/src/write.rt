@@ -1,0 +1,161 @@
+//! From elements to markup.
+ghost use Rattle.std.specs.Prelude.{◌≡◌, ◌+◌, ◌<◌, ◌≤◌, ◌++◌, [], OnOk, codes, length, reverse, string_bytes, take};
+ghost use Rattle.latex2mathml_elements.specs.Element.{children};
+ghost use Rattle.latex2mathml_elements.specs.Print.{attributes_text, print, prints};
+ghost use Rattle.latex2mathml_builder.specs.Built.{Fits, element_of, elements_in, settled_in};
+ghost use Rattle.latex2mathml_builder.specs.Names.{attributes_of};
+ghost use Rattle.latex2mathml_builder.specs.Due.{AreIn, IsIn, Writes, arranged, due, load, settled_from, weight, weights, work_print, work_weight};
+
+use crate::attributes::Attributes;
+use crate::builder::Builder;
+use crate::part::Part;
+use crate::works::{Work, Works};
+use latex2mathml_trees::append::{append_content, append_space};
+use std::alloc::AllocError;
+
+impl Builder {
+    /// Appends the markup of so many of the uppermost elements, the lowest of them first. It does not recurse: what is still
+    /// to be written stands in `works`. The only `Err` is out of memory, for that list or for the text.
+    #[tactic(auto, using(std::proofs::lemmas::Grind::common_steps), unfolding(crate::specs::Due::AreIn))]
+    pub fn write(&self, count: usize, works: &mut Works, out: &mut String) -> Result<(), AllocError>
+        requires { count ≤ length (elements_in self.now) }
+        ensures { OnOk result (string_bytes out.new ≡ string_bytes out.old ++ prints (children (reverse (take count (elements_in self.now))))) }
+    {
+        let list = &mut works.list;
+        list.clear();
+        let mut place = self.len() - count;
+        'elements: while place < self.len() {
+            self.write_part(self.open_at(place), list, out)?;
+            self.finish(list, out)?;
+            place += 1;
+        }
+        Ok(())
+    }
+
+    /// Does all works.
+    #[tactic(auto, using(std::proofs::lemmas::Grind::common_steps), unfolding(crate::specs::Due::AreIn))]
+    fn finish(&self, works: &mut Vec<Work>, out: &mut String) -> Result<(), AllocError>
+        requires { AreIn self.now works.old.items }
+        ensures none { OnOk result (works.new.items ≡ []) }
+        ensures print { OnOk result (string_bytes out.new ≡ string_bytes out.old ++ due self.now works.old.items) }
+    {
+        'works: while let Some(work) = works.pop() {
+            self.do_work(work, works, out)?;
+        }
+        Ok(())
+    }
+
+    /// Does a work.
+    fn do_work(&self, work: Work, works: &mut Vec<Work>, out: &mut String) -> Result<(), AllocError>
+        requires one { IsIn self.now work }
+        requires inside { AreIn self.now works.old.items }
+        ensures inside { OnOk result (AreIn self.now works.new.items) }
+        ensures print { OnOk result (Writes self.now (string_bytes out.old) works.old.items (work_print self.now work)
+            (string_bytes out.new) works.new.items) }
+        ensures weight { OnOk result (load self.now works.new.items < load self.now works.old.items + work_weight self.now work) }
+    {
+        match work {
+            Work::End(tag) => out.push_str(tag),
+            Work::Elements(_, 0) => Ok(()),
+            Work::Elements(first, count) => {
+                // The next place is no greater than this, so it does not overflow.
+                let _ = self.settled_len();
+                self.push_work(Work::Elements(first + 1, count - 1), works)?;
+                self.write_part(self.settled_at(first), works, out)
+            }
+        }
+    }
+
+    /// Writes what stands before the children of an element, and puts what follows on the list.
+    fn write_part(
+        &self,
+        part: Part,
+        works: &mut Vec<Work>,
+        out: &mut String,
+    ) -> Result<(), AllocError>
+        requires fits { Fits self.now.texts (length self.now.settled) part }
+        requires inside { AreIn self.now works.old.items }
+        ensures inside { OnOk result (AreIn self.now works.new.items) }
+        ensures print { OnOk result (Writes self.now (string_bytes out.old) works.old.items
+            (print (element_of self.now.texts (settled_in self.now) part)) (string_bytes out.new) works.new.items) }
+        ensures weight { OnOk result (load self.now works.new.items
+            < load self.now works.old.items + weight (element_of self.now.texts (settled_in self.now) part)) }
+    {
+        match part {
+            Part::Token(tag, attributes, start, end) => {
+                start_tag(tag.start(), attributes, out)?;
+                append_content(self.text_between(start, end), out)?;
+                out.push_str(tag.end())
+            }
+            Part::Space(width) => append_space(width, out),
+            Part::Container(tag, attributes, first, count) => {
+                start_tag(tag.start(), attributes, out)?;
+                self.push_work(Work::End(tag.end()), works)?;
+                self.push_work(Work::Elements(first, count), works)
+            }
+            Part::Pair(tag, attributes, first) => {
+                start_tag(tag.start(), attributes, out)?;
+                self.push_work(Work::End(tag.end()), works)?;
+                self.push_work(Work::Elements(first, 2), works)
+            }
+            Part::Triple(tag, attributes, first, is_exchanged) => {
+                start_tag(tag.start(), attributes, out)?;
+                self.push_work(Work::End(tag.end()), works)?;
+                self.push_three(first, is_exchanged, works)
+            }
+        }
+    }
+
+    /// Puts the three children of an element on the list, with the last two exchanged if the flag says so.
+    fn push_three(
+        &self,
+        first: usize,
+        is_exchanged: bool,
+        works: &mut Vec<Work>,
+    ) -> Result<(), AllocError>
+        requires all { first + 3 ≤ length self.now.settled }
+        requires inside { AreIn self.now works.old.items }
+        ensures inside { OnOk result (AreIn self.now works.new.items) }
+        ensures print { OnOk result (due self.now works.new.items
+            ≡ prints (children (arranged is_exchanged (settled_from self.now first 3))) ++ due self.now works.old.items) }
+        ensures weight { OnOk result (load self.now works.new.items
+            ≤ load self.now works.old.items + 3 + weights (children (settled_from self.now first 3))) }
+    {
+        if is_exchanged {
+            // No place is greater than this, so none overflows.
+            let _ = self.settled_len();
+            self.push_work(Work::Elements(first + 1, 1), works)?;
+            self.push_work(Work::Elements(first + 2, 1), works)?;
+            self.push_work(Work::Elements(first, 1), works)
+        } else {
+            self.push_work(Work::Elements(first, 3), works)
+        }
+    }
+
+    /// Puts a work on the list.
+    #[tactic(auto, unfolding(crate::specs::Due::AreIn))]
+    fn push_work(&self, work: Work, works: &mut Vec<Work>) -> Result<(), AllocError>
+        requires one { IsIn self.now work }
+        requires inside { AreIn self.now works.old.items }
+        ensures inside { OnOk result (AreIn self.now works.new.items) }
+        ensures print { OnOk result (due self.now works.new.items ≡ work_print self.now work ++ due self.now works.old.items) }
+        ensures weight { OnOk result (load self.now works.new.items ≡ load self.now works.old.items + work_weight self.now work) }
+    {
+        let _ = self;
+        Ok(works.push(work)?)
+    }
+}
+
+/// Appends a start tag, which begins so.
+#[tactic(auto, using(std::proofs::lemmas::Grind::common_steps))]
+fn start_tag(
+    beginning: &'static str,
+    attributes: Attributes,
+    out: &mut String,
+) -> Result<(), AllocError>
+    ensures { OnOk result (string_bytes out.new ≡ string_bytes out.old ++ (beginning.now ++ (attributes_text (attributes_of attributes) ++ codes ">"))) }
+{
+    out.push_str(beginning)?;
+    attributes.append(out)?;
+    out.push_str(">")
+}

@@ -1,0 +1,2 @@
+pub mod OneElement
+pub mod Settings

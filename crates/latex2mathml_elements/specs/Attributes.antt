@@ -1,0 +1,53 @@
+-- The attributes of an element. Each has a field of its own, so none stands twice.
+use Rattle.std.specs.Prelude.{Bool, false, Option, None}
+
+-- the side of its base on which a mark stands
+pub data Side : Type 0 where
+  Above : Side
+  Below : Side
+
+-- where an operator stands among others
+pub data Form : Type 0 where
+  Prefix : Form
+  Postfix : Form
+
+-- whether an operator is as high or as wide as what stands beside it
+pub data Stretch : Type 0 where
+  Stretching : Stretch
+  Rigid : Stretch
+
+-- the space on both sides of an operator: none, or a twentieth of an em
+pub data Space : Type 0 where
+  NoSpace : Space
+  Narrow : Space
+
+-- the height of a delimiter
+pub data Size : Type 0 where
+  Big : Size
+  Bigger : Size
+  VeryBig : Size
+  Biggest : Size
+
+pub record Attributes : Type 0 where
+  -- a single letter that is not italic
+  pub upright : Bool
+  pub form : Option Form
+  pub stretch : Option Stretch
+  -- a delimiter within others
+  pub fence : Bool
+  -- a sign of punctuation
+  pub separator : Bool
+  pub size : Option Size
+  -- what the browser would choose, where there is none
+  pub space : Option Space
+  -- limits stay above and below in every style
+  pub limits_stay : Bool
+  pub accent : Option Side
+  -- a fraction without its line
+  pub no_line : Bool
+  -- in display style or not, and not as small as a script
+  pub display : Option Bool
+
+-- an element without attributes
+abbrev pub plain : Attributes
+plain = record { upright = false; form = None; stretch = None; fence = false; separator = false; size = None; space = None; limits_stay = false; accent = None; no_line = false; display = None }

@@ -1,0 +1,49 @@
+-- Elements of MathML. Their constructors give each as many children as MathML Core asks for.
+use Rattle.std.specs.Prelude.{ℕ, ℤ, List, [], ◌∷◌}
+use Rattle.latex2mathml_elements.specs.Attributes.{Attributes}
+
+-- the elements that hold a text
+pub data Token : Type 0 where
+  Mi : Token
+  Mn : Token
+  Mo : Token
+  Mtext : Token
+
+-- the elements that hold any number of elements
+pub data Container : Type 0 where
+  Mrow : Container
+  Msqrt : Container
+  Mstyle : Container
+
+-- the elements that hold two
+pub data Pair : Type 0 where
+  Mfrac : Pair
+  Mroot : Pair
+  Msub : Pair
+  Msup : Pair
+  Munder : Pair
+  Mover : Pair
+
+-- the elements that hold three
+pub data Triple : Type 0 where
+  Msubsup : Triple
+  Munderover : Triple
+
+mutual
+  pub data Element : Type 0 where
+    -- a text, as its bytes
+    token : Token → Attributes → List ℕ → Element
+    -- a space, in eighteenths of an em
+    space : ℤ → Element
+    container : Container → Attributes → Elements → Element
+    pair : Pair → Attributes → Element → Element → Element
+    triple : Triple → Attributes → Element → Element → Element → Element
+
+  pub data Elements : Type 0 where
+    none : Elements
+    more : Element → Elements → Elements
+
+-- a list of elements as the children of one
+abbrev pub children : List Element → Elements
+children [] = none
+children (x ∷ xs) = more x (children xs)

@@ -1,0 +1,4 @@
+pub mod Attributes
+pub mod Element
+pub mod Laws
+pub mod Print

@@ -1,0 +1,8 @@
+//! Laws of the definitions.
+ghost use Rattle.latex2mathml_elements.specs.Laws.{PrintAsElements};
+
+/// The print of an element is one balanced element, and so is that of a formula. Both obey the child table of MathML.
+#[tactic(auto, using(crate::proofs::OneElement::print_as_elements))]
+pub fn print_as_elements()
+    ensures { PrintAsElements }
+{}

@@ -1,0 +1,205 @@
+-- Where what is due leads, step by step, whatever it is for.
+use Rattle.std.proofs.Common.{◌≡◌, ℕ, Bool, true, false, IsTrue, IsFalse, List, [], ◌∷◌, Option, Some, None, refl, sym, ap, ◌∙◌, subst}
+use Rattle.latex2mathml_elements.specs.Element.{Element}
+use Rattle.latex2mathml_tex_grammar.specs.{Atoms.Atom, Delimiters.delimiter_of}
+use Rattle.latex2mathml_tex_grammar.specs.Makes.{Core, core, number, divider, Scripts, no_scripts, scripted}
+use Rattle.latex2mathml_tex_grammar.specs.{Meaning.Beside, Next.past_space, Next.next_are, Next.digits_next, Next.refusal_here}
+use Rattle.latex2mathml_tex_grammar.specs.Reading.{Outcome, Read, Refused, ReadsRule, rule_gives, rule_refuses, operand_read, operand_refused, core_read, core_refused, core_missing, core_stopped, atoms_read, atoms_refused, words_read, words_refused, units_taken, units_missing, digits_taken, delimiter_taken, delimiter_missing, ReadsOperand, group_operand, group_refused, digit_operand, other_operand, other_refused, no_operand, operand_at_end, operand_stopped, ReadsScripts, scripts_end, mark_taken, script_read, script_refused, second_script, ReadsAtom, divider_read, divider_refused, on_empty_row, base_read, base_refused, ReadsAtoms, text_ends, never_ended, atoms_stopped, atoms_end, atom_read, atom_refused, ReadsWord, word_stands, group_of_words, formula_read, formula_refused, words_in_alphabet, no_word, word_missing, word_at_end, word_stopped, ReadsWords, words_end, words_never_ended, words_stopped, word_read, word_refused}
+use Rattle.latex2mathml_tex_grammar.specs.Refusal.{Kind, MissingArgument, UnclosedBrace, MissingDelimiter, Refusal, refusal_at}
+use Rattle.latex2mathml_tex_grammar.specs.Rows.{Operand, Row, empty_row, operand_of, row_element, single, with_atom}
+use Rattle.latex2mathml_tex_grammar.specs.Rules.{Context, in_context, styled, Ending, InBraces, InDollars, Rule, gives, refuses, reads_operand, reads_core, reads_atoms, reads_words, takes_if, takes_digits, takes_delimiter, rule}
+use Rattle.latex2mathml_tex_grammar.specs.Starts.{DividerStart, ScriptStart, RuleStart, NoStart, GroupStart, DigitStart, OtherStart, atom_start, operand_start, mark_of, GoesOn, TakesOperand, Twice, step_of_mark, step_next, empty_base, ends, unended, is_close}
+use Rattle.latex2mathml_tex_grammar.specs.Symbols.{InText, InScript, Alphabet}
+use Rattle.latex2mathml_tex_grammar.specs.Units.{Piece, Unit, Units, Next, End, Stop}
+use Rattle.latex2mathml_tex_grammar.specs.Words.{Word, Formula, Words, no_words, with_word, IsWord, BeginsGroup, EndsGroup, BeginsFormula, TakesWords, NoWord, word_rule}
+use Rattle.latex2mathml_tex.specs.Levels.{AtomMade, CoreMade, Leads, Level, OperandMade, PartMade, RuleLeads, ScriptsLead, Then, WordLeads, as_operand, as_words, row, operand, part, words}
+use Rattle.latex2mathml_tex.specs.Levels.{core as core_level}
+
+-- A rule that leads somewhere
+
+module _ {K : Outcome Core → Type 0} {l : Units} where
+  pub given : {x : Core} → RuleLeads (gives x) K l → K (Read x l)
+  given k = k.to _ rule_gives
+
+  pub refused : {r : Refusal} → RuleLeads (refuses r) K l → K (Refused r)
+  refused k = k.to _ rule_refuses
+
+  pub operand_due : {place : ℕ} {c : Context} (then : Operand → Rule) → RuleLeads (reads_operand place c then) K l → Leads (operand place c (Then then K)) l
+  operand_due then k (Read x m) d = record { to = λ o ds. k.to o (operand_read d ds) }
+  operand_due then k (Refused r) d = k.to _ (operand_refused d)
+
+  pub row_due : {ending : Ending} {c : Context} (then : Row → Rule) → RuleLeads (reads_atoms ending c then) K l → Leads (row ending c empty_row (Then then K)) l
+  row_due then k (Read x m) d = record { to = λ o ds. k.to o (atoms_read d ds) }
+  row_due then k (Refused r) d = k.to _ (atoms_refused d)
+
+  pub words_due : {place : ℕ} {a : Option Alphabet} (then : Words → Rule) → RuleLeads (reads_words place a then) K l → WordLeads (part (Then then K)) place a no_words (past_space l)
+  words_due then k (Read ws m) d = record { to = λ o ds. k.to o (words_read d ds) }
+  words_due then k (Refused r) d = k.to _ (words_refused d)
+
+  -- an atom without scripts is due
+  core_outcome : {place : ℕ} {c : Context} (then : Core → Rule) → RuleLeads (reads_core place c then) K l → (o : Outcome Core) → ReadsRule (reads_core place c (λ x. gives x)) l o → Then then K o
+  core_outcome then k o (core_read p d rule_gives) = record { to = λ o ds. k.to o (core_read p d ds) }
+  core_outcome then k o (core_refused p d) = k.to _ (core_refused p d)
+  core_outcome then k o (core_missing p) = k.to _ (core_missing p)
+  core_outcome then k o (core_stopped p) = k.to _ (core_stopped p)
+
+  pub core_due : {place : ℕ} {c : Context} (then : Core → Rule) → RuleLeads (reads_core place c then) K l → Leads (core_level place c (Then then K)) l
+  core_due then k = record { to = λ o d. core_outcome then k o d }
+
+  pub taken : {tests : List (Piece → Option (List ℕ))} (then : List ℕ → Rule) {otherwise : Rule} {texts : List ℕ} {m : Units} → next_are tests l ≡ Some (texts, m) → RuleLeads (takes_if tests then otherwise) K l → RuleLeads (then texts) K m
+  taken then e k = record { to = λ o d. k.to o (units_taken e d) }
+
+  pub not_taken : {tests : List (Piece → Option (List ℕ))} {then : List ℕ → Rule} {otherwise : Rule} → next_are tests l ≡ None → RuleLeads (takes_if tests then otherwise) K l → RuleLeads otherwise K l
+  not_taken e k = record { to = λ o d. k.to o (units_missing e d) }
+
+  pub digits : (then : List ℕ → Rule) → RuleLeads (takes_digits then) K l → RuleLeads (then (digits_next l).0) K (digits_next l).1
+  digits then k = record { to = λ o d. k.to o (digits_taken d) }
+
+  pub delimited : (then : List ℕ → Rule) {text : List ℕ} {m : Units} → next_are (delimiter_of ∷ []) l ≡ Some (text, m) → RuleLeads (takes_delimiter then) K l → RuleLeads (then text) K m
+  delimited then e k = record { to = λ o d. k.to o (delimiter_taken e d) }
+
+  pub undelimited : {then : List ℕ → Rule} → next_are (delimiter_of ∷ []) l ≡ None → RuleLeads (takes_delimiter then) K l → K (Refused (refusal_here MissingDelimiter (past_space l)))
+  undelimited e k = k.to _ (delimiter_missing e)
+
+-- Atoms behind a row
+
+module _ {ending : Ending} {c : Context} {xs : Row} {K : Outcome Row → Type 0} {l : Units} where
+  pub row_ends_text : {at : ℕ} → past_space l ≡ End at → unended ending ≡ None → Leads (row ending c xs K) l → K (Read xs (End at))
+  row_ends_text p e k = k _ (text_ends p e)
+
+  pub row_unended : {at : ℕ} {r : Refusal} → past_space l ≡ End at → unended ending ≡ Some r → Leads (row ending c xs K) l → K (Refused r)
+  row_unended p e k = k _ (never_ended p e)
+
+  pub row_stopped : {r : Refusal} → past_space l ≡ Stop r → Leads (row ending c xs K) l → K (Refused r)
+  row_stopped p k = k _ (atoms_stopped p)
+
+  pub row_ended : {u : Unit} {m : Units} → past_space l ≡ Next u m → IsTrue (ends ending u.piece) → Leads (row ending c xs K) l → K (Read xs m)
+  row_ended p e k = k _ (atoms_end p e)
+
+  -- an atom begins
+  pub atom_due : {u : Unit} {m : Units} → past_space l ≡ Next u m → IsFalse (ends ending u.piece) → Leads (row ending c xs K) l → (o : Outcome Atom) → ReadsAtom ending c u m o → AtomMade (row ending c xs K) o
+  atom_due p e k (Read x n) d = λ o ds. k o (atom_read p e d ds)
+  atom_due p e k (Refused r) d = k _ (atom_refused p e d)
+
+  pub divider_due : {u : Unit} {m n : Units} {text : List ℕ} → past_space l ≡ Next u m → IsFalse (ends ending u.piece) → atom_start ending u.piece ≡ DividerStart → next_are (delimiter_of ∷ []) m ≡ Some (text, n) → Leads (row ending c xs K) l → AtomMade (row ending c xs K) (Read (divider text) n)
+  divider_due p e s d k = atom_due p e k _ (divider_read s (delimiter_taken d rule_gives))
+
+  pub divider_missing : {u : Unit} {m : Units} → past_space l ≡ Next u m → IsFalse (ends ending u.piece) → atom_start ending u.piece ≡ DividerStart → next_are (delimiter_of ∷ []) m ≡ None → Leads (row ending c xs K) l → K (Refused (refusal_here MissingDelimiter (past_space m)))
+  divider_missing p e s d k = atom_due p e k _ (divider_refused s (delimiter_missing d))
+
+  pub scripts_due : {u : Unit} {m : Units} → past_space l ≡ Next u m → IsFalse (ends ending u.piece) → atom_start ending u.piece ≡ ScriptStart → Leads (row ending c xs K) l → ScriptsLead (row ending c xs K) empty_base (no_scripts Beside) (Next u m)
+  scripts_due p e s k = λ o d. atom_due p e k o (on_empty_row s d)
+
+  base_made : {u : Unit} {m : Units} → past_space l ≡ Next u m → IsFalse (ends ending u.piece) → atom_start ending u.piece ≡ RuleStart → Leads (row ending c xs K) l → (o : Outcome Core) → ReadsRule (rule u.place c u.piece) m o → CoreMade (row ending c xs K) o
+  base_made p e s k (Read x n) d = λ o ds. atom_due p e k o (base_read s d ds)
+  base_made p e s k (Refused r) d = atom_due p e k _ (base_refused s d)
+
+  pub base_due : {u : Unit} {m : Units} → past_space l ≡ Next u m → IsFalse (ends ending u.piece) → atom_start ending u.piece ≡ RuleStart → Leads (row ending c xs K) l → RuleLeads (rule u.place c u.piece) (CoreMade (row ending c xs K)) m
+  base_due p e s k = record { to = λ o d. base_made p e s k o d }
+
+-- What stands after an atom
+
+-- where the operand of a script leads
+abbrev pub ScriptLeads : Level → Atom → (Element → Scripts) → Outcome Operand → Type 0
+ScriptLeads level base with_operand (Read x n) = ScriptsLead level base (with_operand x.element) n
+ScriptLeads level base with_operand (Refused r) = AtomMade level (Refused r)
+
+module _ (ending : Ending) (c : Context) (xs : Row) (K : Outcome Row → Type 0) {l : Units} where
+
+  pub scripts_ended : {base : Atom} {scripts : Scripts} → step_next scripts (past_space l) ≡ None → ScriptsLead (row ending c xs K) base scripts l → AtomMade (row ending c xs K) (Read (scripted c.style base scripts) l)
+  scripts_ended e k = k _ (scripts_end e)
+
+  pub marked : {base : Atom} {scripts more : Scripts} {u : Unit} {m : Units} → past_space l ≡ Next u m → step_of_mark scripts (mark_of u.piece) ≡ Some (GoesOn more) → ScriptsLead (row ending c xs K) base scripts l → ScriptsLead (row ending c xs K) base more m
+  marked p e k = λ o d. k o (mark_taken p e d)
+
+  pub script_twice : {base : Atom} {scripts : Scripts} {kind : Kind} {u : Unit} {m : Units} → past_space l ≡ Next u m → step_of_mark scripts (mark_of u.piece) ≡ Some (Twice kind) → ScriptsLead (row ending c xs K) base scripts l → K (Refused (refusal_at kind u.place))
+  script_twice p e k = k _ (second_script p e)
+
+  pub script_due : {base : Atom} {scripts : Scripts} {with_operand : Element → Scripts} {u : Unit} {m : Units} → past_space l ≡ Next u m → step_of_mark scripts (mark_of u.piece) ≡ Some (TakesOperand with_operand) → ScriptsLead (row ending c xs K) base scripts l → Leads (operand u.place (styled c InScript) (ScriptLeads (row ending c xs K) base with_operand)) m
+  script_due p e k (Read x n) d = λ o ds. k o (script_read p e d ds)
+  script_due p e k (Refused r) d = k _ (script_refused p e d)
+
+-- Operands
+
+module _ {place : ℕ} {c : Context} {K : Outcome Operand → Type 0} {l : Units} where
+  pub group_due : {u : Unit} {m : Units} → past_space l ≡ Next u m → operand_start u.piece ≡ GroupStart → Leads (operand place c K) l → Leads (row (InBraces u.place) c empty_row (λ o. K (as_operand o))) m
+  group_due p e k (Read xs n) d = k _ (group_operand p e d)
+  group_due p e k (Refused r) d = k _ (group_refused p e d)
+
+  pub digit_due : {u : Unit} {m : Units} {digit : List ℕ} → past_space l ≡ Next u m → operand_start u.piece ≡ DigitStart digit → Leads (operand place c K) l → K (Read (single c.style (number c.alphabet digit)) m)
+  digit_due p e k = k _ (digit_operand p e)
+
+  other_made : {u : Unit} {m : Units} → past_space l ≡ Next u m → operand_start u.piece ≡ OtherStart → Leads (operand place c K) l → (o : Outcome Core) → ReadsRule (rule u.place c u.piece) m o → CoreMade (operand place c K) o
+  other_made p e k (Read x n) d = k _ (other_operand p e d)
+  other_made p e k (Refused r) d = k _ (other_refused p e d)
+
+  pub other_due : {u : Unit} {m : Units} → past_space l ≡ Next u m → operand_start u.piece ≡ OtherStart → Leads (operand place c K) l → RuleLeads (rule u.place c u.piece) (CoreMade (operand place c K)) m
+  other_due p e k = record { to = λ o d. other_made p e k o d }
+
+  pub none_due : {u : Unit} {m : Units} → past_space l ≡ Next u m → operand_start u.piece ≡ NoStart → Leads (operand place c K) l → K (Refused (refusal_at MissingArgument place))
+  none_due p e k = k _ (no_operand p e)
+
+  pub operand_ended : {at : ℕ} → past_space l ≡ End at → Leads (operand place c K) l → K (Refused (refusal_at MissingArgument place))
+  operand_ended p k = k _ (operand_at_end p)
+
+  pub operand_halted : {r : Refusal} → past_space l ≡ Stop r → Leads (operand place c K) l → K (Refused r)
+  operand_halted p k = k _ (operand_stopped p)
+
+-- Atoms without scripts
+
+module _ {place : ℕ} {c : Context} {K : Outcome Core → Type 0} {l : Units} where
+  negated_made : {u : Unit} {m : Units} → past_space l ≡ Next u m → Leads (core_level place c K) l → (o : Outcome Core) → ReadsRule (rule u.place c u.piece) m o → K o
+  negated_made p k (Read x n) d = k.to _ (core_read p d rule_gives)
+  negated_made p k (Refused r) d = k.to _ (core_refused p d)
+
+  pub negated_due : {u : Unit} {m : Units} → past_space l ≡ Next u m → Leads (core_level place c K) l → RuleLeads (rule u.place c u.piece) (CoreMade (core_level place c K)) m
+  negated_due p k = record { to = λ o d. negated_made p k o d }
+
+  pub core_ended : {at : ℕ} → past_space l ≡ End at → Leads (core_level place c K) l → K (Refused (refusal_at MissingArgument place))
+  core_ended p k = k.to _ (core_missing p)
+
+  pub core_halted : {r : Refusal} → past_space l ≡ Stop r → Leads (core_level place c K) l → K (Refused r)
+  core_halted p k = k.to _ (core_stopped p)
+
+-- Words
+
+module _ (level : Level) {place : ℕ} {a : Option Alphabet} {ws : Words} {l : Units} {u : Unit} where
+  pub word_given : {w : Word} → word_rule a u.piece ≡ IsWord w → WordLeads level place a ws (Next u l) → PartMade level (Read (with_word ws w) l)
+  word_given e k = k _ (word_stands e)
+
+  pub group_of_words_due : word_rule a u.piece ≡ BeginsGroup → WordLeads level place a ws (Next u l) → PartMade (words u.place a (PartMade level)) (Read ws l)
+  group_of_words_due e k = λ o d. k o (group_of_words e d)
+
+  pub formula_due : word_rule a u.piece ≡ BeginsFormula → WordLeads level place a ws (Next u l) → Leads (row (InDollars u.place) (in_context InText None) empty_row (λ o. PartMade level (as_words ws o))) l
+  formula_due e k (Read xs m) d = k _ (formula_read e d)
+  formula_due e k (Refused r) d = k _ (formula_refused e d)
+
+  pub words_in_alphabet_due : {b : Option Alphabet} → word_rule a u.piece ≡ TakesWords b → WordLeads level place a ws (Next u l) → WordLeads level u.place b ws (past_space l)
+  words_in_alphabet_due e k = λ o d. k o (words_in_alphabet e d)
+
+  pub word_refused_at : {kind : Kind} → word_rule a u.piece ≡ NoWord kind → WordLeads level place a ws (Next u l) → PartMade level (Refused (refusal_at kind u.place))
+  word_refused_at e k = k _ (no_word e)
+
+  pub word_is_missing : word_rule a u.piece ≡ EndsGroup → WordLeads level place a ws (Next u l) → PartMade level (Refused (refusal_at MissingArgument place))
+  word_is_missing e k = k _ (word_missing e)
+
+pub word_ended : (level : Level) {place at : ℕ} {a : Option Alphabet} {ws : Words} → WordLeads level place a ws (End at) → PartMade level (Refused (refusal_at MissingArgument place))
+word_ended level k = k _ word_at_end
+
+pub word_halted : (level : Level) {place : ℕ} {a : Option Alphabet} {ws : Words} {r : Refusal} → WordLeads level place a ws (Stop r) → PartMade level (Refused r)
+word_halted level k = k _ word_stopped
+
+module _ {place : ℕ} {a : Option Alphabet} {K : Outcome Words → Type 0} {ws : Words} where
+  pub words_ended : {u : Unit} {l : Units} → IsTrue (is_close u.piece) → PartMade (words place a K) (Read ws (Next u l)) → K (Read ws l)
+  words_ended e k = k _ (words_end e)
+
+  pub words_unended : {at : ℕ} → PartMade (words place a K) (Read ws (End at)) → K (Refused (refusal_at UnclosedBrace place))
+  words_unended k = k _ words_never_ended
+
+  pub words_halted : {r : Refusal} → PartMade (words place a K) (Read ws (Stop r)) → K (Refused r)
+  words_halted k = k _ words_stopped
+
+  -- another part of words is due
+  pub word_due : {u : Unit} {l : Units} → IsFalse (is_close u.piece) → PartMade (words place a K) (Read ws (Next u l)) → WordLeads (words place a K) place a ws (Next u l)
+  word_due e k (Read vs m) d = λ o ds. k o (word_read e d ds)
+  word_due e k (Refused r) d = k _ (word_refused e d)

@@ -1,0 +1,285 @@
+//! Atoms and rows, and what an atom is to those beside it.
+ghost use Rattle.std.specs.Prelude.{◌≡◌};
+ghost use Rattle.latex2mathml_tex_grammar.specs.Atoms;
+ghost use Rattle.latex2mathml_tex_grammar.specs.Makes;
+ghost use Rattle.latex2mathml_tex_grammar.specs.Rows;
+ghost use Rattle.latex2mathml_tex_grammar.specs.Symbols.{smaller};
+ghost use Rattle.latex2mathml_tex.specs.Meanings.{class_of, limit_place_of, style_of};
+ghost use Rattle.latex2mathml_tex.specs.Models.{before_of, kind_of};
+
+use crate::meaning::{Alphabet, Class, LimitPlace, Style};
+
+impl Style {
+    /// The style of the parts of a fraction.
+    pub(crate) fn smaller(self) -> Style
+        ensures { style_of result ≡ smaller (style_of self) }
+    {
+        match self {
+            Style::InDisplay => Style::InText,
+            Style::InText | Style::InScript => Style::InScript,
+        }
+    }
+
+    pub(crate) fn is_display(self) -> bool
+        ensures { result ≡ Makes.is_display (style_of self) }
+    {
+        matches!(self, Style::InDisplay)
+    }
+
+    /// Whether scripts stand below and above an atom whose limits are to stand there.
+    pub(crate) fn stacks(self, limits: LimitPlace) -> bool
+        ensures { result ≡ Makes.are_stacked (style_of self) (limit_place_of limits) }
+    {
+        match limits {
+            LimitPlace::Beside => false,
+            LimitPlace::ByStyle => self.is_display(),
+            LimitPlace::Movable | LimitPlace::Stacked => true,
+        }
+    }
+}
+
+/// In what a unit is read: the style, and the alphabet of letters and digits, if there is one.
+#[derive(Clone, Copy)]
+pub(crate) struct Context {
+    pub(crate) style: Style,
+    pub(crate) alphabet: Option<Alphabet>,
+}
+
+impl Context {
+    /// The same alphabet in another style.
+    pub(crate) fn styled(self, style: Style) -> Context {
+        Context { style, ..self }
+    }
+}
+
+/// What an atom is to its neighbours.
+#[derive(Clone, Copy)]
+pub(crate) enum Kind {
+    /// A sign of this class, an `mo` of its own.
+    SignOf(Class),
+    /// A binary sign that is a prefix where no binary operator can stand.
+    PlusOrMinus,
+    /// Any other element, of this class.
+    Plain(Class),
+    /// An upright letter, which is one word with those beside it.
+    UprightLetters,
+    /// The name of a function.
+    FunctionWord,
+    /// A delimiter within others.
+    Divider,
+    /// A space.
+    Blank,
+}
+
+impl Kind {
+    pub(crate) fn is_letters(self) -> bool
+        ensures { result ≡ Atoms.is_letters (kind_of self) }
+    {
+        matches!(self, Kind::UprightLetters)
+    }
+
+    /// The class of the atom as a base: a binary operator and a relation stay what they are.
+    pub(crate) fn class(self) -> Class
+        ensures { class_of result ≡ Rows.class_of_kind (kind_of self) }
+    {
+        match self {
+            Kind::SignOf(Class::Binary) | Kind::PlusOrMinus | Kind::Plain(Class::Binary) => {
+                Class::Binary
+            }
+            Kind::SignOf(Class::Relation) | Kind::Plain(Class::Relation) => Class::Relation,
+            _ => Class::Ordinary,
+        }
+    }
+
+    /// What the atom is when it is changed: letters are no part of a word.
+    pub(crate) fn without_letters(self) -> Kind
+        ensures { kind_of result ≡ Makes.no_letters (kind_of self) }
+    {
+        match self {
+            Kind::UprightLetters => Kind::Plain(Class::Ordinary),
+            kind => kind,
+        }
+    }
+
+    /// What the atom is with scripts: a sign is no `mo` of its own.
+    pub(crate) fn with_scripts(self) -> Kind
+        ensures { kind_of result ≡ Makes.scripted_kind (kind_of self) }
+    {
+        match self {
+            Kind::SignOf(class) => Kind::Plain(class),
+            Kind::PlusOrMinus => Kind::Plain(Class::Binary),
+            kind => kind.without_letters(),
+        }
+    }
+}
+
+/// What stands before an atom, spaces aside.
+#[derive(Clone, Copy)]
+pub(crate) enum Before {
+    Nothing,
+    After(Class),
+    AfterName,
+}
+
+impl Before {
+    /// Whether no binary operator can stand there.
+    pub(crate) fn begins_operand(self) -> bool
+        ensures { result ≡ Atoms.begins_operand (before_of self) }
+    {
+        match self {
+            Before::Nothing | Before::AfterName => true,
+            Before::After(class) => match class {
+                Class::Operator
+                | Class::Binary
+                | Class::Relation
+                | Class::Opening
+                | Class::Punctuation => true,
+                Class::Ordinary | Class::Closing | Class::Inner => false,
+            },
+        }
+    }
+
+    /// The class that an atom of this class has there.
+    pub(crate) fn class_there(self, class: Class) -> Class
+        ensures { class_of result ≡ Atoms.class_there (before_of self) (class_of class) }
+    {
+        match class {
+            Class::Binary => {
+                if self.begins_operand() {
+                    Class::Ordinary
+                } else {
+                    Class::Binary
+                }
+            }
+            class => class,
+        }
+    }
+
+    /// What an atom there is to the atom after it.
+    pub(crate) fn past(self, kind: Kind) -> Before
+        ensures { before_of result ≡ Atoms.past (before_of self) (kind_of kind) }
+    {
+        match kind {
+            Kind::SignOf(class) => Before::After(self.class_there(class)),
+            Kind::PlusOrMinus => Before::After(self.class_there(Class::Binary)),
+            Kind::Plain(class) => Before::After(self.class_there(class)),
+            Kind::UprightLetters => Before::After(Class::Ordinary),
+            Kind::FunctionWord => Before::AfterName,
+            Kind::Divider => Before::After(Class::Opening),
+            Kind::Blank => self,
+        }
+    }
+
+    /// Whether a thin space stands before an atom of this kind.
+    pub(crate) fn is_parted(self, kind: Kind) -> bool
+        ensures { result ≡ Atoms.is_parted (before_of self) (kind_of kind) }
+    {
+        match kind {
+            Kind::Blank => false,
+            kind => parts(self, self.past(kind)),
+        }
+    }
+}
+
+/// Whether a thin space stands between two atoms.
+fn parts(before: Before, behind: Before) -> bool
+    ensures { result ≡ Atoms.parts (before_of before) (before_of behind) }
+{
+    match (before, behind) {
+        (Before::AfterName, Before::AfterName) => true,
+        (Before::AfterName, Before::After(Class::Ordinary | Class::Operator)) => true,
+        (Before::After(Class::Ordinary | Class::Closing | Class::Inner), Before::AfterName) => true,
+        _ => false,
+    }
+}
+
+/// An atom without scripts. Its element is the uppermost one.
+#[derive(Clone, Copy)]
+pub(crate) struct Core {
+    pub(crate) kind: Kind,
+    /// Whether it is higher than a letter.
+    pub(crate) high: bool,
+    /// Where its limits stand.
+    pub(crate) limits: LimitPlace,
+}
+
+impl Core {
+    /// An atom whose limits stand beside it.
+    pub(crate) fn new(kind: Kind, high: bool) -> Core {
+        Core {
+            kind,
+            high,
+            limits: LimitPlace::Beside,
+        }
+    }
+}
+
+/// What a command takes. Its element is the uppermost one.
+#[derive(Clone, Copy)]
+pub(crate) struct Operand {
+    /// Its class as the base of a mark.
+    pub(crate) class: Class,
+    /// Whether it is higher than a letter.
+    pub(crate) high: bool,
+}
+
+/// Atoms side by side. Their elements are the uppermost ones.
+#[derive(Clone, Copy)]
+pub(crate) struct Row {
+    /// How many elements there are.
+    pub(crate) count: usize,
+    /// What the next atom stands behind.
+    pub(crate) before: Before,
+    /// Whether the last element is a word of upright letters.
+    pub(crate) ends_in_word: bool,
+    /// Whether any atom is higher than a letter.
+    pub(crate) high: bool,
+    /// The class of the row as the base of a mark.
+    pub(crate) class: Class,
+}
+
+impl Row {
+    /// No atoms.
+    pub(crate) fn empty() -> Row {
+        Row {
+            count: 0,
+            before: Before::Nothing,
+            ends_in_word: false,
+            high: false,
+            class: Class::Ordinary,
+        }
+    }
+}
+
+/// What stands after an atom. The elements of its scripts are above that of the atom, as they were read.
+#[derive(Clone, Copy)]
+pub(crate) struct Scripts {
+    pub(crate) primes: usize,
+    pub(crate) below: bool,
+    pub(crate) above: bool,
+    /// Whether the script below was read after the one above.
+    pub(crate) is_exchanged: bool,
+    pub(crate) limits: LimitPlace,
+}
+
+impl Scripts {
+    /// No scripts.
+    pub(crate) fn none(limits: LimitPlace) -> Scripts {
+        Scripts {
+            primes: 0,
+            below: false,
+            above: false,
+            is_exchanged: false,
+            limits,
+        }
+    }
+}
+
+/// Words. Their elements are the uppermost ones.
+#[derive(Clone, Copy)]
+pub(crate) struct Words {
+    /// How many elements there are.
+    pub(crate) count: usize,
+    /// Whether the last one is a text.
+    pub(crate) ends_in_text: bool,
+}

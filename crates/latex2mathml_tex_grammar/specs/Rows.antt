@@ -1,0 +1,76 @@
+-- Rows: the elements of atoms side by side. Here the elements stand the last one first.
+use Rattle.std.specs.Prelude.{ℕ, pos, Bool, true, false, ◌&&◌, ◌||◌, List, [], ◌∷◌, ◌++◌, reverse}
+use Rattle.latex2mathml_elements.specs.{Attributes.plain, Element.Element, Element.Mi, Element.Mrow, Element.token, Element.space, Element.container, Element.children}
+use Rattle.latex2mathml_tex_grammar.specs.Atoms.{Atom, Kind, SignOf, PlusOrMinus, Plain, Before, Nothing, is_letters, is_parted, past, element_there}
+use Rattle.latex2mathml_tex_grammar.specs.Symbols.{Class, Ordinary, Binary, Relation, Style}
+
+pub record Row : Type 0 where
+  pub elements : List Element
+  -- what the next atom stands behind
+  pub before : Before
+  -- whether its last element is a word of upright letters
+  pub ends_in_word : Bool
+  -- whether any atom of it is higher than a letter
+  pub high : Bool
+  -- its class as the base of a mark
+  pub class : Class
+
+abbrev pub empty_row : Row
+empty_row = record { elements = []; before = Nothing; ends_in_word = false; high = false; class = Ordinary }
+
+abbrev pub thin_space : Element
+thin_space = space (pos 3)
+
+abbrev pub parted : Bool → List Element → List Element
+parted true xs = thin_space ∷ xs
+parted false xs = xs
+
+-- a letter joins the word before it. A word of several letters is upright by itself.
+abbrev pub join : Element → List Element → List Element
+join (token t a letter) (token u b word ∷ xs) = token Mi plain (word ++ letter) ∷ xs
+join x xs = x ∷ xs
+
+abbrev pub put : Bool → Style → Before → Atom → List Element → List Element
+put true style before x xs = join x.element xs
+put false style before x xs = element_there style before x.kind x.element ∷ parted (is_parted before x.kind) xs
+
+-- the class of one atom as a base: a binary operator and a relation stay what they are
+abbrev pub class_of_kind : Kind → Class
+class_of_kind (SignOf Binary) = Binary
+class_of_kind (SignOf Relation) = Relation
+class_of_kind PlusOrMinus = Binary
+class_of_kind (Plain Binary) = Binary
+class_of_kind (Plain Relation) = Relation
+class_of_kind kind = Ordinary
+
+abbrev pub class_after : List Element → Kind → Class
+class_after [] kind = class_of_kind kind
+class_after xs kind = Ordinary
+
+-- the row with an atom after it, in this style
+abbrev pub with_atom : Style → Row → Atom → Row
+with_atom style row x = record {
+  elements = put (row.ends_in_word && is_letters x.kind) style row.before x row.elements;
+  before = past row.before x.kind;
+  ends_in_word = is_letters x.kind;
+  high = row.high || x.high;
+  class = class_after row.elements x.kind;
+}
+
+-- elements side by side as one
+abbrev pub row_element : List Element → Element
+row_element (x ∷ []) = x
+row_element xs = container Mrow plain (children (reverse xs))
+
+-- What a command takes: one element, with its class as the base of a mark, and whether it is higher than a letter.
+pub record Operand : Type 0 where
+  pub element : Element
+  pub class : Class
+  pub high : Bool
+
+abbrev pub operand_of : Row → Operand
+operand_of row = record { element = row_element row.elements; class = row.class; high = row.high }
+
+-- one atom as an operand
+abbrev pub single : Style → Atom → Operand
+single style x = operand_of (with_atom style empty_row x)
