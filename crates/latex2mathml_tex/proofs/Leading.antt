@@ -105,7 +105,6 @@ ScriptLeads level base with_operand (Read x n) = ScriptsLead level base (with_op
 ScriptLeads level base with_operand (Refused r) = AtomMade level (Refused r)
 
 module _ (ending : Ending) (c : Context) (xs : Row) (K : Outcome Row → Type 0) {l : Units} where
-
   pub scripts_ended : {base : Atom} {scripts : Scripts} → step_next scripts (past_space l) ≡ None → ScriptsLead (row ending c xs K) base scripts l → AtomMade (row ending c xs K) (Read (scripted c.style base scripts) l)
   scripts_ended e k = k _ (scripts_end e)
 

@@ -1,10 +1,13 @@
+pub mod Digits
 pub mod Found
 pub mod Leading
 pub mod Lookups
 pub mod Names
 pub mod Nexts
 pub mod Parts
+pub mod Putting
 pub mod Runs
+pub mod Shaping
 pub mod SignLookups
 pub mod SignTables
 pub mod Starts

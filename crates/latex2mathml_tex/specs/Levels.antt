@@ -1,16 +1,17 @@
 -- What is due while a formula is read, and where its outcome leads. These words serve the contracts of the parser's
 -- functions; they know no frame. A continuation K says of each outcome what it leads to.
-use Rattle.std.specs.Prelude.{ℕ, Option, ⊤}
+use Rattle.std.specs.Prelude.{ℕ, Option}
 use Rattle.latex2mathml_tex_grammar.specs.Atoms.{Atom}
 use Rattle.latex2mathml_tex_grammar.specs.Makes.{Core, Scripts, no_scripts}
 use Rattle.latex2mathml_tex_grammar.specs.Reading.{Outcome, Read, Refused, ReadsAtoms, ReadsOperand, ReadsRule, ReadsScripts, ReadsWord, ReadsWords}
+use Rattle.latex2mathml_tex_grammar.specs.Refusal.{Refusal}
 use Rattle.latex2mathml_tex_grammar.specs.Rows.{Operand, Row, operand_of, row_element, single, with_atom}
 use Rattle.latex2mathml_tex_grammar.specs.Rules.{Context, Ending, Rule, gives, reads_core}
 use Rattle.latex2mathml_tex_grammar.specs.Symbols.{Alphabet, Style}
 use Rattle.latex2mathml_tex_grammar.specs.Units.{Units}
 use Rattle.latex2mathml_tex_grammar.specs.Words.{Formula, Words, with_word}
 
--- what is due, and where its outcome leads
+-- What is due, and where its outcome leads. What cannot be made at a level leads nowhere.
 pub data Level : Type 1 where
   -- atoms behind a row, up to an ending
   row : Ending → Context → Row → (Outcome Row → Type 0) → Level
@@ -36,12 +37,12 @@ Then then K (Refused r) = K (Refused r)
 abbrev pub AtomMade : Level → Outcome Atom → Type 0
 AtomMade (row ending c xs K) (Read x l) = (o : Outcome Row) → ReadsAtoms ending c (with_atom c.style xs x) l o → K o
 AtomMade (row ending c xs K) (Refused r) = K (Refused r)
-AtomMade level o = ⊤
+AtomMade level o = ⊥
 
 -- whatever stands after an atom with these scripts comes to, it leads on
 abbrev pub ScriptsLead : Level → Atom → Scripts → Units → Type 0
 ScriptsLead (row ending c xs K) base scripts l = (o : Outcome Atom) → ReadsScripts c base scripts l o → AtomMade (row ending c xs K) o
-ScriptsLead level base scripts l = ⊤
+ScriptsLead level base scripts l = ⊥
 
 -- where the outcome of an atom without scripts leads
 abbrev pub CoreMade : Level → Outcome Core → Type 0
@@ -50,8 +51,8 @@ CoreMade (row ending c xs K) (Refused r) = K (Refused r)
 CoreMade (operand place c K) (Read x l) = K (Read (single c.style x.atom) l)
 CoreMade (operand place c K) (Refused r) = K (Refused r)
 CoreMade (core place c K) o = K o
-CoreMade (part K) o = ⊤
-CoreMade (words place a K) o = ⊤
+CoreMade (part K) o = ⊥
+CoreMade (words place a K) o = ⊥
 
 -- a row as an operand
 abbrev pub as_operand : Outcome Row → Outcome Operand
@@ -66,23 +67,36 @@ as_words ws (Refused r) = Refused r
 -- where the outcome of an operand leads
 abbrev pub OperandMade : Level → Outcome Operand → Type 0
 OperandMade (operand place c K) o = K o
-OperandMade level o = ⊤
+OperandMade level o = ⊥
 
 -- where the outcome of a part of words leads
 abbrev pub PartMade : Level → Outcome Words → Type 0
 PartMade (part K) o = K o
 PartMade (words place a K) (Read ws l) = (o : Outcome Words) → ReadsWords place a ws l o → K o
 PartMade (words place a K) (Refused r) = K (Refused r)
-PartMade level o = ⊤
+PartMade level o = ⊥
 
 -- whatever what is due comes to from here, it leads where the level says
 abbrev pub Leads : Level → Units → Type 0
 Leads (row ending c xs K) l = (o : Outcome Row) → ReadsAtoms ending c xs l o → K o
 Leads (operand place c K) l = (o : Outcome Operand) → ReadsOperand place c l o → K o
 Leads (core place c K) l = RuleLeads (reads_core place c (λ x. gives x)) K l
-Leads (part K) l = ⊤
-Leads (words place a K) l = ⊤
+Leads (part K) l = ⊥
+Leads (words place a K) l = ⊥
 
 -- whatever one part of words behind these comes to, it leads on
 abbrev pub WordLeads : Level → ℕ → Option Alphabet → Words → Units → Type 0
 WordLeads level place a ws l = (o : Outcome Words) → ReadsWord place a ws l o → PartMade level o
+
+-- the formula is refused at the level
+abbrev pub Refuses : Level → Refusal → Type 0
+Refuses (row ending c xs K) r = K (Refused r)
+Refuses (operand place c K) r = K (Refused r)
+Refuses (core place c K) r = K (Refused r)
+Refuses (part K) r = K (Refused r)
+Refuses (words place a K) r = K (Refused r)
+
+-- an atom, where its core was read
+abbrev pub as_atom : Outcome Core → Outcome Atom
+as_atom (Read x l) = Read x.atom l
+as_atom (Refused r) = Refused r

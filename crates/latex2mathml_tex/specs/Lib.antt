@@ -1,10 +1,15 @@
 pub mod Alphabets
 pub mod Delimiters
 pub mod Errors
+pub mod Frames
+pub mod Innermost
 pub mod Left
 pub mod Levels
 pub mod Meanings
 pub mod Models
+pub mod Numbers
 pub mod Runs
+pub mod Shapes
 pub mod Signs
+pub mod Steps
 pub mod Taking

@@ -82,7 +82,23 @@ fn blocks_for(alphabet: Alphabet) -> Option<Blocks>
     ensures high { IfSome result (λ b. AreHigh (blocks_of b)) }
 {
     match alphabet {
-        Alphabet::Upright | Alphabet::Italic => None,
+        Alphabet::Upright => None,
+        Alphabet::Italic => Some(Blocks {
+            capital: '𝐴',
+            small: '𝑎',
+            digit: None,
+            greek_capital: Some('𝛢'),
+            greek_small: Some('𝛼'),
+            elsewhere: &[
+                ('h', 'ℎ'),
+                ('ϵ', '𝜖'),
+                ('ϑ', '𝜗'),
+                ('ϰ', '𝜘'),
+                ('ϕ', '𝜙'),
+                ('ϱ', '𝜚'),
+                ('ϖ', '𝜛'),
+            ],
+        }),
         Alphabet::Bold => Some(Blocks {
             capital: '𝐀',
             small: '𝐚',
@@ -102,7 +118,7 @@ fn blocks_for(alphabet: Alphabet) -> Option<Blocks>
             capital: '𝑨',
             small: '𝒂',
             digit: Some('𝟎'),
-            greek_capital: Some('𝜜'),
+            greek_capital: Some('𝚨'),
             greek_small: Some('𝜶'),
             elsewhere: &[
                 ('ϵ', '𝝐'),

@@ -1,11 +1,11 @@
 //! Atoms and rows, and what an atom is to those beside it.
-ghost use Rattle.std.specs.Prelude.{◌≡◌};
+ghost use Rattle.std.specs.Prelude.{◌≡◌, false};
 ghost use Rattle.latex2mathml_tex_grammar.specs.Atoms;
 ghost use Rattle.latex2mathml_tex_grammar.specs.Makes;
 ghost use Rattle.latex2mathml_tex_grammar.specs.Rows;
 ghost use Rattle.latex2mathml_tex_grammar.specs.Symbols.{smaller};
 ghost use Rattle.latex2mathml_tex.specs.Meanings.{class_of, limit_place_of, style_of};
-ghost use Rattle.latex2mathml_tex.specs.Models.{before_of, kind_of};
+ghost use Rattle.latex2mathml_tex.specs.{Innermost.empty_row, Models.before_of, Models.kind_of};
 
 use crate::meaning::{Alphabet, Class, LimitPlace, Style};
 
@@ -47,7 +47,9 @@ pub(crate) struct Context {
 
 impl Context {
     /// The same alphabet in another style.
-    pub(crate) fn styled(self, style: Style) -> Context {
+    pub(crate) fn styled(self, style: Style) -> Context
+        ensures { result ≡ record self { style = style } }
+    {
         Context { style, ..self }
     }
 }
@@ -187,7 +189,8 @@ fn parts(before: Before, behind: Before) -> bool
 {
     match (before, behind) {
         (Before::AfterName, Before::AfterName) => true,
-        (Before::AfterName, Before::After(Class::Ordinary | Class::Operator)) => true,
+        (Before::AfterName, Before::After(Class::Ordinary | Class::Operator | Class::Inner)) =>
+            true,
         (Before::After(Class::Ordinary | Class::Closing | Class::Inner), Before::AfterName) => true,
         _ => false,
     }
@@ -205,7 +208,9 @@ pub(crate) struct Core {
 
 impl Core {
     /// An atom whose limits stand beside it.
-    pub(crate) fn new(kind: Kind, high: bool) -> Core {
+    pub(crate) fn new(kind: Kind, high: bool) -> Core
+        ensures { result ≡ record { kind = kind; high = high; limits = LimitPlace.Beside } }
+    {
         Core {
             kind,
             high,
@@ -240,7 +245,9 @@ pub(crate) struct Row {
 
 impl Row {
     /// No atoms.
-    pub(crate) fn empty() -> Row {
+    pub(crate) fn empty() -> Row
+        ensures { result ≡ empty_row }
+    {
         Row {
             count: 0,
             before: Before::Nothing,
@@ -264,7 +271,9 @@ pub(crate) struct Scripts {
 
 impl Scripts {
     /// No scripts.
-    pub(crate) fn none(limits: LimitPlace) -> Scripts {
+    pub(crate) fn none(limits: LimitPlace) -> Scripts
+        ensures { result ≡ record { primes = 0; below = false; above = false; is_exchanged = false; limits = limits } }
+    {
         Scripts {
             primes: 0,
             below: false,

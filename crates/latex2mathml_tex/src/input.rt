@@ -40,10 +40,12 @@ impl<'a> Input<'a> {
     pub(crate) fn skip_space(&mut self)
         ensures { units_at self.new ≡ past_space (units_at self.old) }
     {
-        'space: while let Next::Unit(Unit {
-            piece: Piece::Space,
-            ..
-        }) = self.next
+        'space: while let Next::Unit(
+            Unit {
+                piece: Piece::Space,
+                ..
+            },
+        ) = self.next
         {
             self.advance();
         }

@@ -14,7 +14,14 @@ pub record Blocks : Type 0 where
 
 abbrev pub blocks : Alphabet → Option Blocks
 blocks Upright = None
-blocks Italic = None
+blocks Italic = Some (record {
+  capital = 0x1D434;
+  small = 0x1D44E;
+  digit = None;
+  greek_capital = Some 0x1D6E2;
+  greek_small = Some 0x1D6FC;
+  elsewhere = (0x68, 0x210E) ∷ (0x03F5, 0x1D716) ∷ (0x03D1, 0x1D717) ∷ (0x03F0, 0x1D718) ∷ (0x03D5, 0x1D719) ∷ (0x03F1, 0x1D71A) ∷ (0x03D6, 0x1D71B) ∷ [];
+})
 blocks Bold = Some (record {
   capital = 0x1D400;
   small = 0x1D41A;
@@ -27,7 +34,7 @@ blocks BoldItalic = Some (record {
   capital = 0x1D468;
   small = 0x1D482;
   digit = Some 0x1D7CE;
-  greek_capital = Some 0x1D71C;
+  greek_capital = Some 0x1D6A8;
   greek_small = Some 0x1D736;
   elsewhere = (0x03F5, 0x1D750) ∷ (0x03D1, 0x1D751) ∷ (0x03F0, 0x1D752) ∷ (0x03D5, 0x1D753) ∷ (0x03F1, 0x1D754) ∷ (0x03D6, 0x1D755) ∷ [];
 })

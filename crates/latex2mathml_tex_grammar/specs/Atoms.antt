@@ -67,10 +67,11 @@ past before FunctionWord = AfterName
 past before Divider = After Opening
 past before Blank = before
 
--- whether a thin space stands between two atoms: it parts the name of a function from what is ordinary or an operator
+-- whether a thin space stands between two atoms: it parts the name of a function from what is ordinary, inner or an operator
 abbrev pub parts : Before → Before → Bool
 parts AfterName (After Ordinary) = true
 parts AfterName (After Operator) = true
+parts AfterName (After Inner) = true
 parts AfterName AfterName = true
 parts (After Ordinary) AfterName = true
 parts (After Closing) AfterName = true

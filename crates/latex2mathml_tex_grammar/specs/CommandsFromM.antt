@@ -300,7 +300,7 @@ commands_from_m =
     (codes "vartriangleright", Shows (Sign Relation 0x22B3)) ∷  -- ⊳
     (codes "varvdots", Shows (Sign Ordinary 0x22EE)) ∷  -- ⋮
     (codes "vdash", Shows (Sign Relation 0x22A2)) ∷  -- ⊢
-    (codes "vdots", Shows (Sign Relation 0x22EE)) ∷  -- ⋮
+    (codes "vdots", Shows (Sign Ordinary 0x22EE)) ∷  -- ⋮
     (codes "vec", Accent Above 0x20D7 Stretching) ∷
     (codes "vee", Shows (Sign Binary 0x2228)) ∷  -- ∨
     (codes "veebar", Shows (Sign Binary 0x22BB)) ∷  -- ⊻

@@ -175,7 +175,7 @@ commands_up_to_l =
     (codes "cap", Shows (Sign Binary 0x2229)) ∷  -- ∩
     (codes "cdot", Shows (Sign Binary 0xB7)) ∷  -- ·
     (codes "cdotp", Shows (Sign Punctuation 0x22C5)) ∷  -- ⋅
-    (codes "cdots", Shows (Sign Relation 0x22EF)) ∷  -- ⋯
+    (codes "cdots", Shows (Sign Inner 0x22EF)) ∷  -- ⋯
     (codes "centerdot", Shows (Sign Binary 0x2219)) ∷  -- ∙
     (codes "cfrac", Fraction Bar (Some InDisplay)) ∷
     (codes "ch", FunctionName Beside (codes "ch")) ∷
@@ -192,7 +192,7 @@ commands_up_to_l =
     (codes "circledcirc", Shows (Sign Binary 0x229A)) ∷  -- ⊚
     (codes "circleddash", Shows (Sign Binary 0x229D)) ∷  -- ⊝
     (codes "clubsuit", Shows (Sign Ordinary 0x2663)) ∷  -- ♣
-    (codes "colon", Shows (Sign Ordinary 0x3A)) ∷  -- :
+    (codes "colon", Shows (Sign Punctuation 0x3A)) ∷  -- :
     (codes "complement", Shows (Sign Ordinary 0x2201)) ∷  -- ∁
     (codes "cong", Shows (Sign Relation 0x2245)) ∷  -- ≅
     (codes "coprod", Shows (BigOperator 0x2210)) ∷  -- ∐

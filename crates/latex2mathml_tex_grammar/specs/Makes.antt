@@ -1,6 +1,6 @@
 -- The atoms of each construct.
 use Rattle.std.specs.Prelude.{ℕ, zero, suc, ◌==◌, ◌||◌, ℤ, Bool, true, false, List, [], ◌∷◌, ◌++◌, map, Option, Some, None, codes, if◌then◌else◌}
-use Rattle.std.specs.{Str.encode_utf8_all}
+use Rattle.std.specs.{Char.encode_utf8, Str.encode_utf8_all}
 use Rattle.latex2mathml_elements.specs.Attributes.{Attributes, Side, Above, Below, Form, Prefix, Postfix, Stretch, Stretching, Rigid, NoSpace, Narrow, Size, plain}
 use Rattle.latex2mathml_elements.specs.Element.{Mi, Mn, Mo, Mrow, Msqrt, Mstyle, Mfrac, Mroot, Msub, Msup, Munder, Mover, Msubsup, Munderover, Element, token, space, container, pair, triple, children}
 use Rattle.latex2mathml_tex_grammar.specs.{Alphabets.in_alphabet, Rows.Row, Rows.Operand, Rows.row_element}
@@ -19,8 +19,9 @@ core x = record { atom = x; limits = Beside }
 abbrev pub operator : LimitPlace → Atom → Core
 operator limits x = record { atom = x; limits = limits }
 
+-- a character as a text
 abbrev pub text : ℕ → List ℕ
-text c = encode_utf8_all (c ∷ [])
+text c = encode_utf8 c
 
 -- Letters and signs
 

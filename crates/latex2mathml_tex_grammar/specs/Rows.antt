@@ -1,6 +1,6 @@
 -- Rows: the elements of atoms side by side. Here the elements stand the last one first.
 use Rattle.std.specs.Prelude.{ℕ, pos, Bool, true, false, ◌&&◌, ◌||◌, List, [], ◌∷◌, ◌++◌, reverse}
-use Rattle.latex2mathml_elements.specs.{Attributes.plain, Element.Element, Element.Mi, Element.Mrow, Element.token, Element.space, Element.container, Element.children}
+use Rattle.latex2mathml_elements.specs.{Attributes.plain, Element.Element, Element.Mrow, Element.token, Element.space, Element.container, Element.children}
 use Rattle.latex2mathml_tex_grammar.specs.Atoms.{Atom, Kind, SignOf, PlusOrMinus, Plain, Before, Nothing, is_letters, is_parted, past, element_there}
 use Rattle.latex2mathml_tex_grammar.specs.Symbols.{Class, Ordinary, Binary, Relation, Style}
 
@@ -27,7 +27,7 @@ parted false xs = xs
 
 -- a letter joins the word before it. A word of several letters is upright by itself.
 abbrev pub join : Element → List Element → List Element
-join (token t a letter) (token u b word ∷ xs) = token Mi plain (word ++ letter) ∷ xs
+join (token t a letter) (token u b word ∷ xs) = token u plain (word ++ letter) ∷ xs
 join x xs = x ∷ xs
 
 abbrev pub put : Bool → Style → Before → Atom → List Element → List Element

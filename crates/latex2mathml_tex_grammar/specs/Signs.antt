@@ -24,7 +24,7 @@ sign_entries =
     (0x40, Sign Ordinary 0x40) ∷  -- @
     (0x5B, Sign Opening 0x5B) ∷  -- [
     (0x5D, Sign Closing 0x5D) ∷  -- ]
-    (0x60, Sign Ordinary 0x60) ∷  -- `
+    (0x60, Sign Ordinary 0x2018) ∷  -- ` is ‘
     (0x7C, Sign Ordinary 0x7C) ∷  -- |
     (0xA3, Sign Ordinary 0xA3) ∷  -- £
     (0xA5, Sign Ordinary 0xA5) ∷  -- ¥
@@ -205,6 +205,7 @@ sign_entries =
     (0x220F, BigOperator 0x220F) ∷  -- ∏
     (0x2210, BigOperator 0x2210) ∷  -- ∐
     (0x2211, BigOperator 0x2211) ∷  -- ∑
+    (0x2212, Sign Binary 0x2212) ∷  -- −
     (0x2213, Sign Binary 0x2213) ∷  -- ∓
     (0x2214, Sign Binary 0x2214) ∷  -- ∔
     (0x2216, Sign Binary 0x2216) ∷  -- ∖

@@ -309,7 +309,7 @@ static ENTRIES: [Entry; 309] = [
     Entry { name: "vartriangleright", meaning: Meaning::Shows(Symbol::Sign(Class::Relation, '⊳')) },
     Entry { name: "varvdots", meaning: Meaning::Shows(Symbol::Sign(Class::Ordinary, '⋮')) },
     Entry { name: "vdash", meaning: Meaning::Shows(Symbol::Sign(Class::Relation, '⊢')) },
-    Entry { name: "vdots", meaning: Meaning::Shows(Symbol::Sign(Class::Relation, '⋮')) },
+    Entry { name: "vdots", meaning: Meaning::Shows(Symbol::Sign(Class::Ordinary, '⋮')) },
     Entry { name: "vec", meaning: Meaning::Accent(Side::Above, '\u{20D7}', Stretch::Stretching) },
     Entry { name: "vee", meaning: Meaning::Shows(Symbol::Sign(Class::Binary, '∨')) },
     Entry { name: "veebar", meaning: Meaning::Shows(Symbol::Sign(Class::Binary, '⊻')) },

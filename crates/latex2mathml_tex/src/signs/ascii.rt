@@ -42,7 +42,7 @@ static SYMBOLS: [Option<Symbol>; 128] = [
     None,
     Some(Symbol::Sign(Class::Closing, ']')),
     None, None,
-    Some(Symbol::Sign(Class::Ordinary, '`')),
+    Some(Symbol::Sign(Class::Ordinary, '‘')),
     None, None, None, None, None, None, None, None, None, None, None, None, None, None, None, None,
     None, None, None, None, None, None, None, None, None, None, None,
     Some(Symbol::Sign(Class::Ordinary, '|')),

@@ -22,7 +22,7 @@ pub(crate) fn entries() -> &'static [SignEntry]
 
 /// An entry for each character, in the order of their codes.
 #[rattlefmt::skip]
-static ENTRIES: [SignEntry; 468] = [
+static ENTRIES: [SignEntry; 469] = [
     SignEntry { character: '!', symbol: Symbol::Sign(Class::Closing, '!') },
     SignEntry { character: '"', symbol: Symbol::Sign(Class::Ordinary, '"') },
     SignEntry { character: '(', symbol: Symbol::Sign(Class::Opening, '(') },
@@ -42,7 +42,7 @@ static ENTRIES: [SignEntry; 468] = [
     SignEntry { character: '@', symbol: Symbol::Sign(Class::Ordinary, '@') },
     SignEntry { character: '[', symbol: Symbol::Sign(Class::Opening, '[') },
     SignEntry { character: ']', symbol: Symbol::Sign(Class::Closing, ']') },
-    SignEntry { character: '`', symbol: Symbol::Sign(Class::Ordinary, '`') },
+    SignEntry { character: '`', symbol: Symbol::Sign(Class::Ordinary, '‘') },
     SignEntry { character: '|', symbol: Symbol::Sign(Class::Ordinary, '|') },
     SignEntry { character: '£', symbol: Symbol::Sign(Class::Ordinary, '£') },
     SignEntry { character: '¥', symbol: Symbol::Sign(Class::Ordinary, '¥') },
@@ -223,6 +223,7 @@ static ENTRIES: [SignEntry; 468] = [
     SignEntry { character: '∏', symbol: Symbol::BigOperator('∏') },
     SignEntry { character: '∐', symbol: Symbol::BigOperator('∐') },
     SignEntry { character: '∑', symbol: Symbol::BigOperator('∑') },
+    SignEntry { character: '−', symbol: Symbol::Sign(Class::Binary, '−') },
     SignEntry { character: '∓', symbol: Symbol::Sign(Class::Binary, '∓') },
     SignEntry { character: '∔', symbol: Symbol::Sign(Class::Binary, '∔') },
     SignEntry { character: '∖', symbol: Symbol::Sign(Class::Binary, '∖') },

@@ -1,0 +1,41 @@
+-- What holds of the parser where an element is put.
+use Rattle.std.proofs.Common.{◌≡◌, ℕ, ◌+◌, ◌≤◌, false, List, ◌∷◌, Option, Some, None, ap, ◌∙◌, arith}
+use Rattle.latex2mathml_elements.specs.Element.{Element}
+use Rattle.latex2mathml_builder.specs.Built.{Built, elements_in}
+use Rattle.latex2mathml_tex_grammar.specs.{Atoms.Plain, Atoms.atom, Makes.Core, Makes.core, Makes.number, Next.digits_next, Next.next_are, Symbols.Alphabet, Symbols.Ordinary, Units.Piece}
+use Rattle.latex2mathml_tex_grammar.specs.Rules.{Rule, gives, takes_digits, takes_if}
+use Rattle.latex2mathml_tex.specs.{Frames.Start, Left.unit_count, Left.units_at, Models.core_with}
+use Rattle.latex2mathml_tex.specs.Steps.{Begins, CanBegin, Follows, Holds, elements_of, left_of, to_do}
+use Rattle.latex2mathml_tex.specs.declared.{atoms.Core.Core as CodeCore, input.Input.Input, parse.Parser.Parser}
+use Rattle.latex2mathml_tex.specs.declared.parse.State.TheVariants as state
+use Rattle.latex2mathml_tex.proofs.Leading.{digits, given, not_taken, taken}
+
+-- the element of an atom without scripts
+pub core_put : (s : Start) (p : Parser) (b : Built) (c : CodeCore) (x : Element) (k : Core) → elements_in b ≡ x ∷ elements_of p → core_with c x ≡ k → Begins (gives k) 0 s p → Holds s (record p { builder = b }) (state.Core c)
+core_put s p b c x k e f g = record {
+  style = g.style;
+  claims = rw (e, f) (given g.leads);
+}
+
+-- .. and so much is left to do, if no unit came back
+pub core_step : (p : Parser) (i : Input) (b : Built) (c : CodeCore) (x : Element) → CanBegin 0 p → elements_in b ≡ x ∷ elements_of p → unit_count (units_at i) ≤ unit_count (left_of p) → Follows (to_do p + 13) (record p { input = i; builder = b }) (state.Core c)
+core_step p i b c x begins e h = record {
+  ready = record { elements = rw e (omega (arith, begins.elements)); taken = begins.taken };
+  falls = omega (arith, h);
+}
+
+-- What begins where units were taken
+
+module _ (s : Start) (p : Parser) (i : Input) where
+  pub past_digits : (then : List ℕ → Rule) → units_at i ≡ (digits_next (left_of p)).1 → Begins (takes_digits then) 0 s p → Begins (then (digits_next (left_of p)).0) 0 s (record p { input = i })
+  past_digits then e g = record { style = g.style; leads = rw e (digits then g.leads) }
+
+  pub past_units : {tests : List (Piece → Option (List ℕ))} (then : List ℕ → Rule) {otherwise : Rule} (texts : List ℕ) → next_are tests (left_of p) ≡ Some (texts, units_at i) → Begins (takes_if tests then otherwise) 0 s p → Begins (then texts) 0 s (record p { input = i })
+  past_units then texts e g = record { style = g.style; leads = taken then e g.leads }
+
+  pub past_none : {tests : List (Piece → Option (List ℕ))} {then : List ℕ → Rule} (otherwise : Rule) → next_are tests (left_of p) ≡ None → units_at i ≡ left_of p → Begins (takes_if tests then otherwise) 0 s p → Begins otherwise 0 s (record p { input = i })
+  past_none otherwise e f g = record { style = g.style; leads = rw f (not_taken e g.leads) }
+
+-- the element of a number
+pub number_put : (s : Start) (p : Parser) (b : Built) (c : CodeCore) (given_alphabet alphabet : Option Alphabet) (ds : List ℕ) → ((x : Element) → core_with c x ≡ core (atom (Plain Ordinary) false x)) → given_alphabet ≡ alphabet → elements_in b ≡ (number given_alphabet ds).element ∷ elements_of p → Begins (gives (core (number alphabet ds))) 0 s p → Holds s (record p { builder = b }) (state.Core c)
+number_put s p b c given_alphabet alphabet ds f h e g = core_put s p b c (number given_alphabet ds).element (core (number alphabet ds)) e (f (number given_alphabet ds).element ∙ ap (λ a. core (number a ds)) h) g

@@ -1,0 +1,157 @@
+-- The uppermost elements changed, and a row with an atom after it.
+use Rattle.std.proofs.Common.{◌≡◌, ℕ, ◌<◌, ◌≤◌, Bool, false, true, zero, suc, List, [], ◌∷◌, ◌++◌, Some, None, length, take, drop, arith, refl, sym, ap, ◌∙◌}
+use Rattle.latex2mathml_elements.specs.Attributes.{Attributes}
+use Rattle.latex2mathml_elements.specs.Element.{Element, Mo, Token, token}
+use Rattle.latex2mathml_builder.specs.Names.{token_of}
+use Rattle.latex2mathml_builder.specs.Stacks.{are_tokens, given, joined, token_at, token_of_element, with_attributes}
+use Rattle.latex2mathml_builder.specs.declared.tag.Token.{Token as CodeToken}
+use Rattle.latex2mathml_builder.specs.declared.tag.Token.TheVariants as code_token
+use Rattle.latex2mathml_tex_grammar.specs.Atoms
+use Rattle.latex2mathml_tex_grammar.specs.Atoms.{Before, Kind}
+use Rattle.latex2mathml_tex_grammar.specs.Makes
+use Rattle.latex2mathml_tex_grammar.specs.Meaning
+use Rattle.latex2mathml_tex_grammar.specs.Rows
+use Rattle.latex2mathml_tex_grammar.specs.Symbols.{Class, Ordinary, Style}
+use Rattle.latex2mathml_tex.specs.Meanings.{class_of}
+use Rattle.latex2mathml_tex.specs.Models.{kind_of, top}
+use Rattle.latex2mathml_tex.specs.Shapes.{changed_at, mapped_first}
+use Rattle.latex2mathml_tex.specs.declared.atoms.Kind.{Kind as CodeKind}
+use Rattle.latex2mathml_tex.specs.declared.atoms.Kind.TheVariants as code_kind
+use Rattle.latex2mathml_tex.specs.declared.meaning.Class.{Class as CodeClass}
+use Rattle.latex2mathml_tex.specs.declared.meaning.Class.TheVariants as code_class
+
+-- One element changed
+
+-- .. which holds a text, and gets other attributes
+module _ (f : Element → Element) (t : Token) (a b : Attributes) (same : (text : List ℕ) → f (token t a text) ≡ token t b text) where
+  given_there : (x : Element) → token_of_element x ≡ Some (t, a) → with_attributes b x ≡ f x
+  given_there (token u c text) found =
+      let tags : ◌≡◌ {A = Token × Attributes} (u, c) (t, a) = cc in
+      ap (λ p. token p.0 b text) tags ∙ sym (same text) ∙ ap (λ p. f (token p.0 p.1 text)) (sym tags)
+  given_there x found = cc
+
+  pub given_changed : (depth : ℕ) (xs : List Element) → token_at depth xs ≡ Some (t, a) → given depth b xs ≡ changed_at f depth xs
+  given_changed depth [] found = refl
+  given_changed zero (x ∷ xs) found = ap (λ y. y ∷ xs) (given_there x found)
+  given_changed (suc depth) (x ∷ xs) found = ap (λ ys. x ∷ ys) (given_changed depth xs found)
+
+-- .. which stays what it is
+pub unchanged_at : (f : Element → Element) (depth : ℕ) (xs : List Element) → ((x : Element) → token_of_element x ≡ token_at depth xs → f x ≡ x) → changed_at f depth xs ≡ xs
+unchanged_at f depth [] stays = refl
+unchanged_at f zero (x ∷ xs) stays = ap (λ y. y ∷ xs) (stays x refl)
+unchanged_at f (suc depth) (x ∷ xs) stays = ap (λ ys. x ∷ ys) (unchanged_at f depth xs stays)
+
+-- .. as any element does
+pub unchanged : (f : Element → Element) (depth : ℕ) (xs : List Element) → ((x : Element) → f x ≡ x) → changed_at f depth xs ≡ xs
+unchanged f depth xs stays = unchanged_at f depth xs (λ x e. stays x)
+
+pub length_changed : (f : Element → Element) (depth : ℕ) (xs : List Element) → length (changed_at f depth xs) ≡ length xs
+length_changed f depth [] = refl
+length_changed f zero (x ∷ xs) = refl
+length_changed f (suc depth) (x ∷ xs) = ap suc (length_changed f depth xs)
+
+-- What stays what it is: an element that holds no text, ..
+
+pub no_prefix : (x : Element) → token_of_element x ≡ None → Atoms.as_prefix x ≡ x
+no_prefix (token t a text) h = cc
+no_prefix x h = refl
+
+pub no_space : (x : Element) → token_of_element x ≡ None → Atoms.without_space x ≡ x
+no_space (token t a text) h = cc
+no_space x h = refl
+
+pub no_divider : (x : Element) → token_of_element x ≡ None → Makes.lowered_divider x ≡ x
+no_divider (token t a text) h = cc
+no_divider x h = refl
+
+pub no_base : (x : Element) → token_of_element x ≡ None → Makes.fixed_base Meaning.Stacked x ≡ x
+no_base (token t a text) h = cc
+no_base x h = refl
+
+-- .. what is no fence, ..
+pub no_fence : (x : Element) (t : Token) (a : Attributes) → token_of_element x ≡ Some (t, a) → a.fence ≡ false → Makes.lowered_divider x ≡ x
+no_fence (token t b text) u a h none =
+    let tags : ◌≡◌ {A = Token × Attributes} (t, b) (u, a) = cc in
+    rw (ap (λ p. p.1.fence) tags ∙ none)
+no_fence x u a h none = refl
+
+-- .. what is no operator, ..
+pub no_operator : (tag : CodeToken) → (tag ≡ code_token.Mo → ⊥) → (x : Element) (a : Attributes) → token_of_element x ≡ Some (token_of tag, a) → Makes.fixed_base Meaning.Stacked x ≡ x
+no_operator tag other (token Mo b text) a h =
+    let tags : ◌≡◌ {A = Token × Attributes} (Mo, b) (token_of tag, a) = cc in
+    absurd (clash tag other (ap (λ p. p.0) tags))
+  where
+    clash : (tag : CodeToken) → (tag ≡ code_token.Mo → ⊥) → Mo ≡ token_of tag → ⊥
+    clash code_token.Mo other h = other refl
+    clash tag other h = cc
+no_operator tag other x a h = refl
+
+-- .. a sign that has its space in scripts too, ..
+pub spaced_sign : (style : Style) (class : CodeClass) → (class ≡ code_class.Binary → ⊥) → (class ≡ code_class.Relation → ⊥) → (class ≡ code_class.Punctuation → ⊥) → (x : Element) → Atoms.sign_there style (class_of class) x ≡ x
+spaced_sign style code_class.Binary b r p x = absurd (b refl)
+spaced_sign style code_class.Relation b r p x = absurd (r refl)
+spaced_sign style code_class.Punctuation b r p x = absurd (p refl)
+spaced_sign style class b r p x = refl
+
+-- .. and what is no sign
+pub no_sign : (style : Style) (before : Before) (kind : CodeKind) → ((class : CodeClass) → kind ≡ code_kind.SignOf class → ⊥) → (kind ≡ code_kind.PlusOrMinus → ⊥) → (x : Element) → Atoms.element_there style before (kind_of kind) x ≡ x
+no_sign style before (code_kind.SignOf class) s p x = absurd (s class refl)
+no_sign style before code_kind.PlusOrMinus s p x = absurd (p refl)
+no_sign style before kind s p x = refl
+
+-- The first elements changed, one after the other
+
+pub mapped_none : (f : Element → Element) (xs : List Element) → xs ≡ mapped_first f 0 xs
+mapped_none f [] = refl
+mapped_none f (x ∷ xs) = refl
+
+pub mapped_more : (f : Element → Element) (n : ℕ) (xs : List Element) → changed_at f n (mapped_first f n xs) ≡ mapped_first f (suc n) xs
+mapped_more f n [] = refl
+mapped_more f zero (x ∷ xs) = ap (λ ys. f x ∷ ys) (mapped_none f xs)
+mapped_more f (suc n) (x ∷ xs) = ap (λ ys. f x ∷ ys) (mapped_more f n xs)
+
+-- A word, and a letter behind it
+
+lone : (x : Element) → x ∷ [] ≡ Rows.join x []
+lone (token t a text) = refl
+lone x = refl
+
+pub word_begun : (xs : List Element) → 1 ≤ length xs → take 1 xs ≡ Rows.join (top xs) []
+word_begun [] h = absurd (omega arith)
+word_begun (x ∷ xs) h = lone x
+
+pub word_apart : (n : ℕ) (xs : List Element) → suc n ≤ length xs → are_tokens xs ≡ false → take (suc n) xs ≡ Rows.join (top xs) (take n (drop 1 xs))
+word_apart n [] enough apart = absurd (omega arith)
+word_apart zero (x ∷ xs) enough apart = lone x
+word_apart (suc n) (x ∷ []) enough apart = absurd (omega arith)
+word_apart (suc n) (token t a letter ∷ token u b word ∷ xs) enough apart = cc
+word_apart (suc n) (x ∷ y ∷ xs) enough apart = refl
+
+pub word_joined : (n : ℕ) (xs : List Element) → 0 < n → are_tokens xs ≡ true → take n (joined xs) ≡ Rows.join (top xs) (take n (drop 1 xs))
+word_joined zero xs some both = absurd (omega arith)
+word_joined (suc n) (token t a letter ∷ token u b word ∷ xs) some both = refl
+word_joined n xs some both = cc
+
+pub not_joined : (xs : List Element) → are_tokens xs ≡ false → joined xs ≡ xs
+not_joined (token t a letter ∷ token u b word ∷ xs) apart = cc
+not_joined xs apart = refl
+
+-- A row, and an atom behind it
+
+pub length_parted : (x : Element) (xs : List Element) → length (take 1 xs ++ (x ∷ drop 1 xs)) ≡ suc (length xs)
+length_parted x [] = refl
+length_parted x (y ∷ xs) = refl
+
+-- it does not matter whether the atom is high
+pub put_high : (joins : Bool) (style : Style) (before : Before) (kind : Kind) (high : Bool) (x : Element) (xs : List Element) → Rows.put joins style before (Atoms.atom kind false x) xs ≡ Rows.put joins style before (Atoms.atom kind high x) xs
+put_high true style before kind high x xs = refl
+put_high false style before kind high x xs = refl
+
+pub class_behind : (n : ℕ) (xs : List Element) (kind : Kind) → 0 < n → suc n ≤ length xs → Ordinary ≡ Rows.class_after (take n (drop 1 xs)) kind
+class_behind zero xs kind some enough = absurd (omega arith)
+class_behind (suc n) [] kind some enough = absurd (omega arith)
+class_behind (suc n) (x ∷ []) kind some enough = absurd (omega arith)
+class_behind (suc n) (x ∷ y ∷ xs) kind some enough = refl
+
+pub same_row : (xs ys : List Element) (b c : Before) (v w h i : Bool) (k l : Class) → xs ≡ ys → b ≡ c → v ≡ w → h ≡ i → k ≡ l → ◌≡◌ {A = Rows.Row} (record { elements = xs; before = b; ends_in_word = v; high = h; class = k }) (record { elements = ys; before = c; ends_in_word = w; high = i; class = l })
+same_row xs ys b c v w h i k l p q r s t = cc

@@ -1,0 +1,165 @@
+-- What the parser's frames stand for: each is a level that was entered. A frame holds no element: what was read for it are
+-- the first of the elements that stand beside it, the uppermost first.
+use Rattle.std.specs.Prelude.{ℕ, zero, suc, ◌+◌, Bool, true, false, List, [], ◌∷◌, drop, reverse, take, option_map, Option, Some, None}
+use Rattle.latex2mathml_elements.specs.{Attributes.Above, Element.Element}
+use Rattle.latex2mathml_builder.specs.Names.{side_of, stretch_of}
+use Rattle.latex2mathml_tex_grammar.specs.Makes as makes
+use Rattle.latex2mathml_tex_grammar.specs.Makes.{Core, core, group, classed, operator_name, accent, brace, stack, fraction, square_root, root, between_delimiters, struck}
+use Rattle.latex2mathml_tex_grammar.specs.Reading.{Outcome, Read, Refused, ReadsAtoms}
+use Rattle.latex2mathml_tex_grammar.specs.{Formulas.formula_context, Meaning.FractionRule, Symbols.Style, Symbols.InText, Symbols.Relation, Units.Units}
+use Rattle.latex2mathml_tex_grammar.specs.Rows.{Operand, Row, empty_row, operand_of, row_element}
+use Rattle.latex2mathml_tex_grammar.specs.Rules as rules
+use Rattle.latex2mathml_tex_grammar.specs.Rules.{Context, Rule, gives, of_one, slashed, struck_atom, takes_delimiter, WholeText, InBraces, InBrackets, InDollars, InDelimiters}
+use Rattle.latex2mathml_tex_grammar.specs.Words.{Formula, Words, with_word, words_atom}
+use Rattle.latex2mathml_tex.specs.{Levels.AtomMade, Levels.as_operand, Levels.as_words, Levels.CoreMade, Levels.Level, Levels.OperandMade, Levels.PartMade, Levels.RuleLeads, Levels.ScriptsLead, Levels.Then}
+use Rattle.latex2mathml_tex.specs.Levels as level
+use Rattle.latex2mathml_tex.specs.Meanings.{alphabet_of, class_of, fraction_rule_of, limit_place_of, style_of}
+use Rattle.latex2mathml_tex.specs.Models.{context_of, core_with, row_with, script_count, scripts_with, top, words_with}
+use Rattle.latex2mathml_tex.specs.{Delimiters.delimiter_text, declared.atoms.Core.Core as CodeCore, declared.atoms.Scripts.Scripts}
+use Rattle.latex2mathml_tex.specs.declared.parse.frames.{Ending.Ending, First.First, Frame.Frame, Last.Last}
+use Rattle.latex2mathml_tex.specs.declared.parse.frames.Ending.TheVariants as ending
+use Rattle.latex2mathml_tex.specs.declared.parse.frames.First.TheVariants as first
+use Rattle.latex2mathml_tex.specs.declared.parse.frames.Frame.TheVariants as frame
+use Rattle.latex2mathml_tex.specs.declared.parse.frames.Last.TheVariants as last
+use Rattle.latex2mathml_builder.specs.declared.attributes.Side.{Side}
+use Rattle.latex2mathml_builder.specs.declared.attributes.Side.TheVariants as side
+
+-- a formula: its units, and its style
+pub record Start : Type 0 where
+  pub units : Units
+  pub style : Style
+
+-- what the whole formula comes to
+abbrev pub Whole : Start → Outcome Row → Type 0
+Whole s = ReadsAtoms WholeText (formula_context s.style) empty_row s.units
+
+-- the level of the whole formula
+abbrev pub whole_level : Start → Level
+whole_level s = level.row WholeText (formula_context s.style) empty_row (Whole s)
+
+-- Rows
+
+abbrev pub ending_of : Ending → ℕ → rules.Ending
+ending_of ending.Text place = WholeText
+ending_of ending.Group place = InBraces place
+ending_of ending.Operand place = InBraces place
+ending_of ending.Degree place = InBrackets place
+ending_of (ending.Delimiters opening) place = InDelimiters place
+ending_of (ending.Formula ws) place = InDollars place
+
+-- the context of what is due at a level
+abbrev pub context_at : Level → Context
+context_at (level.row e c xs K) = c
+context_at (level.operand place c K) = c
+context_at (level.core place c K) = c
+context_at (level.part K) = formula_context (InText)
+context_at (level.words place a K) = formula_context (InText)
+
+-- what follows the atoms between delimiters
+abbrev pub after_delimiters : List ℕ → Row → Rule
+after_delimiters opening row = takes_delimiter (λ closing. gives (between_delimiters opening closing row))
+
+-- where the outcome of a row leads, within this level; these elements stand below the row's own
+abbrev pub RowMade : Start → Ending → ℕ → List Element → Level → Outcome Row → Type 0
+RowMade s ending.Text place xs l = Whole s
+RowMade s ending.Group place xs l = Then (λ row. gives (core (group (operand_of row)))) (CoreMade l)
+RowMade s ending.Operand place xs l = λ o. OperandMade l (as_operand o)
+RowMade s ending.Degree place xs l = Then (λ row. of_one place (context_at l) (λ x. root (row_element row.elements) x.element)) (CoreMade l)
+RowMade s (ending.Delimiters opening) place xs l = Then (after_delimiters (delimiter_text opening)) (CoreMade l)
+RowMade s (ending.Formula ws) place xs l = λ o. PartMade l (as_words (words_with ws xs) o)
+
+-- Operands
+
+-- what the last operand makes; the first one is the uppermost element here
+abbrev pub made_of : Last → List Element → Operand → Core
+made_of last.Group xs y = core (group y)
+made_of last.SquareRoot xs y = square_root y.element
+made_of last.Root xs y = root (top xs) y.element
+made_of (last.Accent s c w) xs y = accent (side_of s) c (stretch_of w) y.element
+made_of (last.Brace s c) xs y = brace (side_of s) c y.element
+made_of (last.OperatorName limits) xs y = operator_name (limit_place_of limits) y
+made_of last.Slash xs y = slashed y (struck y.element)
+made_of (last.Classed class) xs y = classed (class_of class) y
+made_of (last.Fraction rule own) xs y = fraction (fraction_rule_of rule) (option_map style_of own) (top xs) y.element
+made_of (last.Stack s) xs y = stack (side_of s) y.class (top xs) y.element
+made_of last.StackedRelation xs y = stack Above Relation (top xs) y.element
+
+-- what follows the first of two operands, which stands at a place, in this context, at a level of that context
+abbrev pub after_first : First → ℕ → Context → Context → Operand → Rule
+after_first (first.Fraction rule own) place c outer x =
+    of_one place c (λ y. fraction (fraction_rule_of rule) (option_map style_of own) x.element y.element)
+after_first (first.Stack s) place c outer x = of_one place outer (λ y. stack (side_of s) y.class x.element y.element)
+after_first first.StackedRelation place c outer x = of_one place outer (λ y. stack Above Relation x.element y.element)
+
+-- how many marks of primes stand above the other elements of a script that is read
+abbrev pub primes_put : Side → ℕ → ℕ
+primes_put side.Below primes = 0
+primes_put side.Above zero = 0
+primes_put side.Above (suc n) = 1
+
+-- a superscript behind the mark that stands uppermost, if there are primes
+abbrev pub behind_mark : ℕ → List Element → Element → Element
+behind_mark zero xs x = x
+behind_mark (suc n) xs x = row_element (x ∷ top xs ∷ [])
+
+-- the scripts with this element on a side
+abbrev pub with_script : Side → makes.Scripts → List Element → Element → makes.Scripts
+with_script side.Below scripts xs x = record scripts { below = Some x }
+with_script side.Above scripts xs x = record scripts { above = Some (behind_mark scripts.primes xs x) }
+
+-- the elements beside a script's frame without the mark of primes
+abbrev pub past_primes : Side → Scripts → List Element → List Element
+past_primes s scripts xs = drop (primes_put s scripts.primes) xs
+
+-- the atom that scripts stand on
+abbrev pub base_of : CodeCore → Scripts → List Element → Core
+base_of c scripts xs = core_with c (top (drop (script_count scripts) xs))
+
+-- where the outcome of a script's operand leads
+abbrev pub ScriptMade : Level → CodeCore → Scripts → Side → List Element → Outcome Operand → Type 0
+ScriptMade l c scripts s xs (Read x m) =
+    ScriptsLead l (base_of c scripts (past_primes s scripts xs)).atom (with_script s (scripts_with scripts (past_primes s scripts xs)) xs x.element) m
+ScriptMade l c scripts s xs (Refused r) = AtomMade l (Refused r)
+
+-- Frames
+
+-- the level within a frame
+abbrev pub enter : Start → Frame → List Element → Level → Level
+enter s (frame.Row e place c row) xs l = level.row (ending_of e place) (context_of c) (row_with row xs) (RowMade s e place (drop row.count xs) l)
+enter s (frame.Last made place c) xs l = level.operand place (context_of c) (Then (λ y. gives (made_of made xs y)) (CoreMade l))
+enter s (frame.First one place c) xs l = level.operand place (context_of c) (Then (after_first one place (context_of c) (context_at l)) (CoreMade l))
+enter s (frame.Negation place c) xs l = level.core place (context_of c) (Then (λ x. struck_atom place x (struck x.atom.element)) (CoreMade l))
+enter s (frame.Script base scripts on place c) xs l = level.operand place (context_of c) (ScriptMade l base scripts on xs)
+enter s frame.Text xs l = level.part (Then (λ ws. gives (core (words_atom ws))) (CoreMade l))
+enter s (frame.Words place a) xs l = level.words place (option_map alphabet_of a) (PartMade l)
+
+-- how many of the elements beside it belong to a frame
+abbrev pub ending_count : Ending → ℕ
+ending_count (ending.Formula ws) = ws.count
+ending_count e = 0
+
+abbrev pub last_count : Last → ℕ
+last_count last.Root = 1
+last_count (last.Fraction rule own) = 1
+last_count (last.Stack s) = 1
+last_count last.StackedRelation = 1
+last_count l = 0
+
+abbrev pub element_count : Frame → ℕ
+element_count (frame.Row e place c row) = row.count + ending_count e
+element_count (frame.Last made place c) = last_count made
+element_count (frame.Script base scripts on place c) = primes_put on scripts.primes + (script_count scripts + 1)
+element_count f = 0
+
+-- the level inside all frames, the innermost first
+abbrev pub inside_all : Start → List Frame → List Element → Level
+inside_all s [] xs = whole_level s
+inside_all s (f ∷ fs) xs = enter s f xs (inside_all s fs (drop (element_count f) xs))
+
+-- .. and the innermost last, as on the stack
+abbrev pub inside : Start → List Frame → List Element → Level
+inside s fs xs = inside_all s (reverse fs) xs
+
+-- the level within one more frame
+abbrev pub within : Start → List Frame → Frame → List Element → Level
+within s fs f xs = enter s f xs (inside s fs (drop (element_count f) xs))

@@ -1,0 +1,32 @@
+-- The innermost frame of a stack of frames.
+use Rattle.std.specs.Prelude.{◌≡◌, List, [], ◌∷◌, ◌++◌, false, None}
+use Rattle.latex2mathml_tex.specs.declared.atoms.{Context.Context, Row.Row}
+use Rattle.latex2mathml_tex.specs.declared.atoms.Before.TheVariants as before
+use Rattle.latex2mathml_tex.specs.declared.meaning.Class.TheVariants as class
+use Rattle.latex2mathml_tex.specs.declared.meaning.Style.{Style}
+use Rattle.latex2mathml_tex.specs.declared.meaning.Style.TheVariants as style
+use Rattle.latex2mathml_tex.specs.declared.parse.frames.Frame.{Frame}
+use Rattle.latex2mathml_tex.specs.declared.parse.frames.Ending.TheVariants as ending
+use Rattle.latex2mathml_tex.specs.declared.parse.frames.Frame.TheVariants as frame
+
+-- a row without atoms
+abbrev pub empty_row : Row
+empty_row = record { count = 0; before = before.Nothing; ends_in_word = false; high = false; class = class.Ordinary }
+
+-- the row of a whole formula of this style, before its first atom
+abbrev pub begun_row : Style → Frame
+begun_row s = frame.Row ending.Text 0 (record { style = s; alphabet = None }) empty_row
+
+-- The frame is the innermost of these, and those are the others; where there is none, it is the row of the whole formula.
+pub data IsInnermost (s : Style) (fs : List Frame) (f : Frame) (others : List Frame) : Type 0 where
+  none_begun : fs ≡ [] → others ≡ [] → f ≡ begun_row s → IsInnermost s fs f others
+  on_top : fs ≡ others ++ f ∷ [] → IsInnermost s fs f others
+
+-- in what the parts of a frame are read; words are read in none
+abbrev pub frame_context : Frame → Context
+frame_context (frame.Row e place c row) = c
+frame_context (frame.Last made place c) = c
+frame_context (frame.First one place c) = c
+frame_context (frame.Negation place c) = c
+frame_context (frame.Script base scripts on place c) = c
+frame_context f = record { style = style.InText; alphabet = None }

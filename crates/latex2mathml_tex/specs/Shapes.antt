@@ -1,0 +1,24 @@
+-- Changes of the uppermost elements.
+use Rattle.std.specs.Prelude.{ℕ, zero, suc, List, [], ◌∷◌, Some}
+use Rattle.std.specs.Str.{encode_utf8_all}
+use Rattle.latex2mathml_elements.specs.{Attributes.Attributes, Attributes.Stretch, Attributes.plain, Element.Element, Element.Mo, Element.token}
+
+-- an operator with this text
+abbrev pub delimiter_element : Attributes → List ℕ → Element
+delimiter_element a text = token Mo a text
+
+-- a mark that stretches or does not
+abbrev pub mark_element : ℕ → Stretch → Element
+mark_element mark stretch = token Mo (record plain { stretch = Some stretch }) (encode_utf8_all (mark ∷ []))
+
+-- the element below so many others changed
+abbrev pub changed_at : (Element → Element) → ℕ → List Element → List Element
+changed_at f depth [] = []
+changed_at f zero (x ∷ xs) = f x ∷ xs
+changed_at f (suc depth) (x ∷ xs) = x ∷ changed_at f depth xs
+
+-- the first so many changed
+abbrev pub mapped_first : (Element → Element) → ℕ → List Element → List Element
+mapped_first f count [] = []
+mapped_first f zero (x ∷ xs) = x ∷ xs
+mapped_first f (suc count) (x ∷ xs) = f x ∷ mapped_first f count xs

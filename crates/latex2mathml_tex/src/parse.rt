@@ -1,0 +1,140 @@
+//! Units to elements: one loop over a stack of frames. Each step is proved to lead to what the definitions say about the
+//! units that were left before it.
+ghost use Rattle.std.specs.Prelude.{◌≡◌, ◌+◌, [], IfOk, IsTrue, Some};
+ghost use Rattle.std.specs.Str.{chars};
+ghost use Rattle.latex2mathml_tex_grammar.specs.{Cutting.units_of, Next.past_space, Next.refusal_here};
+ghost use Rattle.latex2mathml_tex_grammar.specs.Refusal.{MissingDelimiter, refusal_at};
+ghost use Rattle.latex2mathml_tex.specs.{Errors.refusal_of, Frames.Start, Frames.element_count, Left.units_at, Levels.Leads, Meanings.style_of, Taking.kind_of};
+ghost use Rattle.latex2mathml_tex.specs.Steps.{HasElements, Holds, IsStep, frame_weight, left_of, level_within, takes};
+
+pub(crate) mod frames;
+mod leaves;
+
+use crate::atoms::{Core, Operand, Scripts, Words};
+use crate::error::{TexError, TexErrorKind};
+use crate::input::Input;
+use crate::meaning::{Alphabet, Style};
+use crate::parse::frames::{Frame, Frames};
+use crate::unit::{Fault, Next};
+use latex2mathml_builder::builder::Builder;
+use std::alloc::{AllocError, Global};
+use std::mem;
+
+/// What the next step has to do.
+#[derive(Clone, Copy)]
+pub(crate) enum State {
+    /// To read what is due.
+    Next,
+    /// To give the innermost frame an atom without scripts.
+    Core(Core),
+    /// To go on after an atom with these scripts, in the innermost row.
+    Atom(Core, Scripts),
+    /// To give the innermost frame an operand.
+    Operand(Operand),
+    /// To read one part of words behind these, in this alphabet; this place takes it.
+    Word(Words, usize, Option<Alphabet>),
+    /// To give the innermost frame these words.
+    Words(Words),
+    /// Nothing: the formula is read. Its elements are so many.
+    End(usize),
+    /// Nothing: the formula is refused.
+    Refused,
+}
+
+/// Reads a formula.
+#[derive(Drop)]
+pub(crate) struct Parser<'a> {
+    pub(crate) alloc: Global,
+    pub(crate) input: Input<'a>,
+    /// The style of the whole formula.
+    pub(crate) style: Style,
+    pub(crate) frames: Frames,
+    pub(crate) builder: Builder,
+    /// Why the formula is refused. It lies here so that what each step returns is small.
+    refusal: TexError,
+}
+
+impl<'a> Parser<'a> {
+    /// A parser that has read nothing of a text.
+    pub(crate) fn new(alloc: Global, text: &'a str, style: Style) -> Parser<'a>
+        ensures units { units_at result.input ≡ units_of 0 (chars text.now) }
+        ensures style { result.style ≡ style }
+        ensures frames { result.frames.stack.items ≡ [] }
+    {
+        Parser {
+            alloc,
+            input: Input::new(text),
+            style,
+            frames: Frames::new(alloc),
+            builder: Builder::new(alloc),
+            refusal: out_of_memory(),
+        }
+    }
+
+    /// Takes out why the formula is refused.
+    #[cold]
+    pub(crate) fn refusal(&mut self) -> TexError
+        ensures { result ≡ self.old.refusal }
+    {
+        mem::replace(&mut self.refusal, out_of_memory())
+    }
+
+    /// Begins something. What it waits for is due then.
+    pub(crate) fn open(&mut self, frame: Frame) -> Result<State, AllocError>
+        requires elements { HasElements (element_count frame) self.old }
+        requires taken { IsTrue (takes State.Next frame) }
+        ensures holds { (s : Start) → s.style ≡ style_of self.old.style → Leads (level_within frame 0 s self.old) (left_of self.old) → IfOk result (Holds s self.new) }
+        ensures step { IsStep (frame_weight frame + 2) self.old self.new result }
+    {
+        self.frames.push(frame)?;
+        Ok(State::Next)
+    }
+
+    /// Refuses the formula.
+    #[cold]
+    pub(crate) fn refuse(&mut self, kind: TexErrorKind, place: usize) -> State
+        ensures state { result ≡ State.Refused }
+        ensures parser { self.new ≡ record self.old { refusal = record { kind = kind; place = place } } }
+    {
+        self.refusal = TexError { kind, place };
+        State::Refused
+    }
+
+    /// Refuses what is no unit.
+    #[cold]
+    pub(crate) fn refuse_fault(&mut self, fault: Fault, place: usize) -> State
+        ensures state { result ≡ State.Refused }
+        ensures refusal { refusal_of self.new.refusal ≡ Some (refusal_at (kind_of fault) place) }
+        ensures parser { self.new ≡ record self.old { refusal = self.new.refusal } }
+    {
+        let kind = match fault {
+            Fault::LoneBackslash => TexErrorKind::LoneBackslash,
+            Fault::Forbidden(c) => TexErrorKind::ForbiddenCharacter(c),
+        };
+        self.refuse(kind, place)
+    }
+
+    /// Refuses the formula because no delimiter stands next. What is no unit there is refused first.
+    #[cold]
+    pub(crate) fn refuse_delimiter(&mut self) -> State
+        ensures state { result ≡ State.Refused }
+        ensures refusal { refusal_of self.new.refusal ≡ Some (refusal_here MissingDelimiter (past_space (units_at self.old.input))) }
+        ensures parser { self.new ≡ record self.old { input = self.new.input; refusal = self.new.refusal } }
+    {
+        let kind = TexErrorKind::MissingDelimiter;
+        self.input.skip_space();
+        match self.input.next {
+            Next::Unit(unit) => self.refuse(kind, unit.place),
+            Next::End(place) => self.refuse(kind, place),
+            Next::Fault(fault, place) => self.refuse_fault(fault, place),
+        }
+    }
+}
+
+/// The error that is there before any other.
+fn out_of_memory() -> TexError {
+    TexError {
+        kind: TexErrorKind::OutOfMemory,
+        place: 0,
+    }
+}

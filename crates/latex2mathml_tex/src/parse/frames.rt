@@ -1,0 +1,176 @@
+//! What was begun, and how much of it was read.
+ghost use Rattle.std.specs.Prelude.{◌≡◌, ℕ, ◌∷◌, ◌++◌, [], List, OnOk};
+ghost use Rattle.latex2mathml_tex_grammar.specs.Starts.{ends};
+ghost use Rattle.latex2mathml_tex.specs.Frames.{ending_of};
+ghost use Rattle.latex2mathml_tex.specs.Innermost.{IsInnermost, begun_row, frame_context};
+ghost use Rattle.latex2mathml_tex.specs.Taking.{piece_of};
+
+use crate::atoms::{Context, Core, Row, Scripts, Words};
+use crate::meaning::{Alphabet, Class, FractionRule, LimitPlace, Style};
+use crate::unit::Piece;
+use latex2mathml_builder::attributes::{Side, Stretch};
+use std::alloc::{AllocError, Global};
+
+/// Up to what the atoms of a row stand, and what the row is for.
+#[derive(Clone, Copy)]
+pub(crate) enum Ending {
+    /// The whole text.
+    Text,
+    /// A brace: the row is a group, which is an atom.
+    Group,
+    /// A brace: the row is an operand.
+    Operand,
+    /// A bracket: the row is the degree of a root.
+    Degree,
+    /// `\right`: the row stands between delimiters, of which this is the opening one.
+    Delimiters(Option<char>),
+    /// A dollar sign: the row is a formula behind these words.
+    Formula(Words),
+}
+
+/// What a command makes of its last operand.
+#[derive(Clone, Copy)]
+pub(crate) enum Last {
+    Group,
+    SquareRoot,
+    /// The degree stands below.
+    Root,
+    Accent(Side, char, Stretch),
+    Brace(Side, char),
+    OperatorName(LimitPlace),
+    /// A stroke through it.
+    Slash,
+    Classed(Class),
+    /// A denominator; the numerator stands below.
+    Fraction(FractionRule, Option<Style>),
+    /// A base; its mark stands below.
+    Stack(Side),
+    /// A base; what stands above it stands below.
+    StackedRelation,
+}
+
+/// What the first of two operands is.
+#[derive(Clone, Copy)]
+pub(crate) enum First {
+    /// A numerator.
+    Fraction(FractionRule, Option<Style>),
+    /// A mark.
+    Stack(Side),
+    /// What stands above a relation.
+    StackedRelation,
+}
+
+/// Something that was begun at a place, and what it waits for.
+#[derive(Clone, Copy)]
+pub(crate) enum Frame {
+    /// The atoms of a row, up to its ending.
+    Row(Ending, usize, Context, Row),
+    /// The last operand of a command, in this context.
+    Last(Last, usize, Context),
+    /// The first of two, in this context.
+    First(First, usize, Context),
+    /// An atom that is negated.
+    Negation(usize, Context),
+    /// The operand of a script of this atom, on this side of it.
+    Script(Core, Scripts, Side, usize, Context),
+    /// One part of words, which are all that a command takes.
+    Text,
+    /// Words up to a brace, in this alphabet.
+    Words(usize, Option<Alphabet>),
+}
+
+impl Ending {
+    /// Whether the unit is the ending.
+    pub(crate) fn is(self, piece: Piece) -> bool
+        ensures { (place : ℕ) → result ≡ ends (ending_of self place) (piece_of piece.entry) }
+    {
+        match self {
+            Ending::Text => false,
+            Ending::Group | Ending::Operand => matches!(piece, Piece::Close),
+            Ending::Degree => matches!(piece, Piece::Character(']')),
+            Ending::Delimiters(_) => matches!(piece, Piece::Command("right")),
+            Ending::Formula(_) => matches!(piece, Piece::Character('$')),
+        }
+    }
+}
+
+impl Frame {
+    /// In what the frame's parts are read. Words are read in none.
+    pub(crate) fn context(self) -> Context
+        ensures { result ≡ frame_context self }
+    {
+        match self {
+            Frame::Row(_, _, context, _)
+            | Frame::Last(_, _, context)
+            | Frame::First(_, _, context)
+            | Frame::Negation(_, context)
+            | Frame::Script(_, _, _, _, context) => context,
+            Frame::Text | Frame::Words(_, _) => Context {
+                style: Style::InText,
+                alphabet: None,
+            },
+        }
+    }
+}
+
+/// What was begun, the innermost last. Where nothing was begun, the row of the whole formula is the innermost.
+#[derive(Drop)]
+pub(crate) struct Frames {
+    stack: Vec<Frame>,
+}
+
+impl Frames {
+    /// Nothing was begun.
+    pub(crate) fn new(alloc: Global) -> Frames
+        ensures { result.stack.items ≡ [] }
+    {
+        Frames {
+            stack: Vec::new(alloc),
+        }
+    }
+
+    pub(crate) fn clear(&mut self)
+        ensures { self.new.stack.items ≡ [] }
+    {
+        self.stack.clear();
+    }
+
+    /// Begins something.
+    pub(crate) fn push(&mut self, frame: Frame) -> Result<(), AllocError>
+        ensures { OnOk result (self.new.stack.items ≡ self.old.stack.items ++ frame ∷ []) }
+    {
+        self.stack.push(frame)?;
+        Ok(())
+    }
+
+    /// The innermost frame, in a formula of this style.
+    pub(crate) fn innermost(&self, style: Style) -> Frame
+        ensures { (others : List Frame) × IsInnermost style self.now.stack.items result others }
+    {
+        match self.stack.as_slice().last() {
+            Some(&frame) => frame,
+            None => text_row(style),
+        }
+    }
+
+    /// Takes off the innermost frame, in a formula of this style.
+    pub(crate) fn take(&mut self, style: Style) -> Frame
+        ensures { IsInnermost style self.old.stack.items result self.new.stack.items }
+    {
+        match self.stack.pop() {
+            Some(frame) => frame,
+            None => text_row(style),
+        }
+    }
+}
+
+/// The row of a whole formula of this style, before its first atom.
+fn text_row(style: Style) -> Frame
+    ensures { result ≡ begun_row style }
+{
+    let context = Context {
+        style,
+        alphabet: None,
+    };
+    Frame::Row(Ending::Text, 0, context, Row::empty())
+}

@@ -1,0 +1,438 @@
+//! The elements of atoms, rows and constructs, as the builder's uppermost elements.
+ghost use Rattle.std.specs.Prelude.{◌≡◌, ◌+◌, ◌≤◌, ◌&&◌, ◌∷◌, [], false, true, IfOk, OnOk, drop, length, option_map, take};
+ghost use Rattle.latex2mathml_elements.specs.{Attributes.plain, Element.Element, Element.pair};
+ghost use Rattle.latex2mathml_elements.specs.Attributes as attributes;
+ghost use Rattle.latex2mathml_builder.specs.Built.{elements_in};
+ghost use Rattle.latex2mathml_builder.specs.Names.{attributes_of, pair_of, side_of, size_of, stretch_of};
+ghost use Rattle.latex2mathml_tex_grammar.specs.Atoms;
+ghost use Rattle.latex2mathml_tex_grammar.specs.Makes;
+ghost use Rattle.latex2mathml_tex_grammar.specs.Meaning;
+ghost use Rattle.latex2mathml_tex_grammar.specs.Rows;
+ghost use Rattle.latex2mathml_tex.specs.Meanings.{class_of, fraction_rule_of, style_of};
+ghost use Rattle.latex2mathml_tex.specs.Models.{before_of, core_with, kind_of, row_with, top};
+ghost use Rattle.latex2mathml_tex.specs.Shapes.{changed_at, delimiter_element, mapped_first, mark_element};
+ghost use Rattle.latex2mathml_tex.specs.Delimiters.{delimiter_text};
+
+use crate::atoms::{Before, Core, Kind, Row};
+use crate::meaning::{Class, FractionRule, Style};
+use latex2mathml_builder::attributes::{Attributes, Form, Side, Size, Space, Stretch};
+use latex2mathml_builder::builder::Builder;
+use latex2mathml_builder::tag::{Container, Pair, Token};
+use std::alloc::AllocError;
+
+/// Puts an operator that is a delimiter, or empty.
+pub(crate) fn put_delimiter(
+    builder: &mut Builder,
+    attributes: Attributes,
+    delimiter: Option<char>,
+) -> Result<(), AllocError>
+    ensures { OnOk result (elements_in builder.new
+        ≡ delimiter_element (attributes_of attributes) (delimiter_text delimiter) ∷ elements_in builder.old) }
+{
+    match delimiter {
+        Some(c) => builder.character(Token::Mo, attributes, c),
+        None => builder.token(Token::Mo, attributes),
+    }
+}
+
+/// A delimiter within others.
+pub(crate) fn put_divider(builder: &mut Builder, delimiter: Option<char>) -> Result<(), AllocError>
+    ensures { OnOk result (elements_in builder.new ≡ (Makes.divider (delimiter_text delimiter)).element ∷ elements_in builder.old) }
+{
+    let attributes = Attributes {
+        stretch: Some(Stretch::Stretching),
+        fence: true,
+        space: Some(Space::Narrow),
+        ..Attributes::plain()
+    };
+    put_delimiter(builder, attributes, delimiter)
+}
+
+/// A delimiter of this size.
+pub(crate) fn put_sized(
+    builder: &mut Builder,
+    size: Size,
+    class: Class,
+    delimiter: Option<char>,
+) -> Result<(), AllocError>
+    ensures { OnOk result (elements_in builder.new
+        ≡ (Makes.sized (size_of size) (class_of class) (delimiter_text delimiter)).atom.element ∷ elements_in builder.old) }
+{
+    let form = match class {
+        Class::Opening => Some(Form::Prefix),
+        Class::Closing => Some(Form::Postfix),
+        _ => None,
+    };
+    let attributes = Attributes {
+        form,
+        stretch: Some(Stretch::Stretching),
+        size: Some(size),
+        space: Some(Space::NoSpace),
+        ..Attributes::plain()
+    };
+    put_delimiter(builder, attributes, delimiter)
+}
+
+/// Makes one element of so many.
+pub(crate) fn put_row(builder: &mut Builder, count: usize) -> Result<(), AllocError>
+    requires { count ≤ length (elements_in builder.old) }
+    ensures { OnOk result (elements_in builder.new
+        ≡ Rows.row_element (take count (elements_in builder.old)) ∷ drop count (elements_in builder.old)) }
+{
+    if count == 1 {
+        return Ok(());
+    }
+    builder.container(Container::Mrow, Attributes::plain(), count)
+}
+
+/// Puts the uppermost element between delimiters, which stretch if it is high.
+pub(crate) fn enclose(
+    builder: &mut Builder,
+    high: bool,
+    opening: Option<char>,
+    closing: Option<char>,
+) -> Result<(), AllocError>
+    requires { 1 ≤ length (elements_in builder.old) }
+    ensures { OnOk result (elements_in builder.new
+        ≡ Makes.fenced high (delimiter_text opening) (delimiter_text closing) (top (elements_in builder.old)) ∷ drop 1 (elements_in builder.old)) }
+{
+    let stretch = if high {
+        Stretch::Stretching
+    } else {
+        Stretch::Rigid
+    };
+    put_delimiter(
+        builder,
+        Attributes {
+            form: Some(Form::Prefix),
+            stretch: Some(stretch),
+            ..Attributes::plain()
+        },
+        opening,
+    )?;
+    put_delimiter(
+        builder,
+        Attributes {
+            form: Some(Form::Postfix),
+            stretch: Some(stretch),
+            ..Attributes::plain()
+        },
+        closing,
+    )?;
+    builder.fence()
+}
+
+/// Makes the dividers among the uppermost elements, which are so many, no higher than a letter.
+pub(crate) fn lower_dividers(builder: &mut Builder, count: usize)
+    ensures { elements_in builder.new ≡ mapped_first Makes.lowered_divider count (elements_in builder.old) }
+{
+    'elements: for depth in 0..count {
+        lower_divider(builder, depth);
+    }
+}
+
+/// Makes the element below so many others no higher than a letter, if it is a divider.
+fn lower_divider(builder: &mut Builder, depth: usize)
+    ensures { elements_in builder.new ≡ changed_at Makes.lowered_divider depth (elements_in builder.old) }
+{
+    if let Some((_, attributes)) = builder.token_at(depth)
+        && attributes.fence
+    {
+        builder.give(
+            depth,
+            Attributes {
+                stretch: Some(Stretch::Rigid),
+                ..attributes
+            },
+        );
+    }
+}
+
+/// Keeps the browser from moving the limits of the operator below so many elements.
+pub(crate) fn fix_limits(builder: &mut Builder, depth: usize)
+    ensures { elements_in builder.new ≡ changed_at (Makes.fixed_base Meaning.Stacked) depth (elements_in builder.old) }
+{
+    let Some((tag, attributes)) = builder.token_at(depth) else {
+        return;
+    };
+    if let Token::Mo = tag {
+        builder.give(
+            depth,
+            Attributes {
+                limits_stay: true,
+                ..attributes
+            },
+        );
+    }
+}
+
+/// In scripts a sign has no space around it.
+fn tighten(builder: &mut Builder, style: Style)
+    ensures { elements_in builder.new ≡ changed_at (Atoms.tight (style_of style)) 0 (elements_in builder.old) }
+{
+    match style {
+        Style::InScript => remove_space(builder),
+        Style::InDisplay | Style::InText => {}
+    }
+}
+
+fn remove_space(builder: &mut Builder)
+    ensures { elements_in builder.new ≡ changed_at Atoms.without_space 0 (elements_in builder.old) }
+{
+    if let Some((_, attributes)) = builder.token_at(0) {
+        builder.give(
+            0,
+            Attributes {
+                space: Some(Space::NoSpace),
+                ..attributes
+            },
+        );
+    }
+}
+
+fn make_prefix(builder: &mut Builder)
+    ensures { elements_in builder.new ≡ changed_at Atoms.as_prefix 0 (elements_in builder.old) }
+{
+    if let Some((_, attributes)) = builder.token_at(0) {
+        builder.give(
+            0,
+            Attributes {
+                form: Some(Form::Prefix),
+                ..attributes
+            },
+        );
+    }
+}
+
+/// Gives the uppermost element what its atom has there: a prefix, or no space.
+fn adapt(builder: &mut Builder, style: Style, before: Before, kind: Kind)
+    ensures { elements_in builder.new ≡ changed_at (Atoms.element_there (style_of style) (before_of before) (kind_of kind)) 0 (elements_in builder.old) }
+{
+    match kind {
+        Kind::SignOf(class) => match before.class_there(class) {
+            Class::Binary | Class::Relation | Class::Punctuation => tighten(builder, style),
+            _ => {}
+        },
+        Kind::PlusOrMinus => {
+            if before.begins_operand() {
+                make_prefix(builder);
+            } else {
+                tighten(builder, style);
+            }
+        }
+        _ => {}
+    }
+}
+
+/// A row with an atom after it, whose element is uppermost.
+pub(crate) fn with_atom(
+    builder: &mut Builder,
+    style: Style,
+    row: Row,
+    core: Core,
+) -> Result<Row, AllocError>
+    requires { row.count + 1 ≤ length (elements_in builder.old) }
+    ensures row { IfOk result (λ longer. row_with longer (elements_in builder.new)
+        ≡ Rows.with_atom (style_of style) (row_with row (drop 1 (elements_in builder.old))) (core_with core (top (elements_in builder.old))).atom) }
+    ensures below { IfOk result (λ longer. drop longer.count (elements_in builder.new) ≡ drop (row.count + 1) (elements_in builder.old)) }
+    ensures count { IfOk result (λ longer. longer.count ≤ length (elements_in builder.new)) }
+{
+    let count = put_behind(builder, style, row, core.kind)?;
+    Ok(Row {
+        count,
+        before: row.before.past(core.kind),
+        ends_in_word: core.kind.is_letters(),
+        high: row.high || core.high,
+        class: if row.count == 0 {
+            core.kind.class()
+        } else {
+            Class::Ordinary
+        },
+    })
+}
+
+/// Makes the uppermost element the last one of a row. Returns how many there are then.
+fn put_behind(
+    builder: &mut Builder,
+    style: Style,
+    row: Row,
+    kind: Kind,
+) -> Result<usize, AllocError>
+    requires { row.count + 1 ≤ length (elements_in builder.old) }
+    ensures elements { IfOk result (λ count. take count (elements_in builder.new)
+        ≡ Rows.put (row.ends_in_word && Atoms.is_letters (kind_of kind)) (style_of style) (before_of row.before) (Atoms.atom (kind_of kind) false (top (elements_in builder.old))) (take row.count (drop 1 (elements_in builder.old)))) }
+    ensures below { IfOk result (λ count. drop count (elements_in builder.new) ≡ drop (row.count + 1) (elements_in builder.old)) }
+    ensures count { IfOk result (λ count. count ≤ length (elements_in builder.new)) }
+{
+    if continues_word(row, kind) {
+        return Ok(join_word(builder, row.count));
+    }
+    adapt(builder, style, row.before, kind);
+    if row.before.is_parted(kind) {
+        builder.space_below(3)?;
+        // all elements of a row are among those of the builder, so their number has room in a `usize`
+        let _ = builder.len();
+        return Ok(row.count + 2);
+    }
+    let _ = builder.len();
+    Ok(row.count + 1)
+}
+
+/// Whether an atom of this kind is one word with the last element of a row.
+fn continues_word(row: Row, kind: Kind) -> bool
+    ensures { result ≡ (row.ends_in_word && Atoms.is_letters (kind_of kind)) }
+{
+    row.ends_in_word && kind.is_letters()
+}
+
+/// Joins the uppermost element to the last of so many below it, if there is one and both hold a text. Returns how many there
+/// are then.
+fn join_word(builder: &mut Builder, count: usize) -> usize
+    requires { count + 1 ≤ length (elements_in builder.old) }
+    ensures elements { take result (elements_in builder.new)
+        ≡ Rows.join (top (elements_in builder.old)) (take count (drop 1 (elements_in builder.old))) }
+    ensures below { drop result (elements_in builder.new) ≡ drop (count + 1) (elements_in builder.old) }
+    ensures count { result ≤ length (elements_in builder.new) }
+{
+    if count > 0 && builder.join() {
+        return count;
+    }
+    let _ = builder.len();
+    count + 1
+}
+
+/// A mark on the uppermost element.
+pub(crate) fn put_accent(
+    builder: &mut Builder,
+    side: Side,
+    mark: char,
+    stretch: Stretch,
+) -> Result<(), AllocError>
+    requires { 1 ≤ length (elements_in builder.old) }
+    ensures { OnOk result (elements_in builder.new
+        ≡ (Makes.accent (side_of side) mark (stretch_of stretch) (top (elements_in builder.old))).atom.element ∷ drop 1 (elements_in builder.old)) }
+{
+    let attributes = Attributes {
+        accent: Some(side),
+        ..Attributes::plain()
+    };
+    put_mark(builder, side, mark, stretch, attributes)
+}
+
+/// A brace on the uppermost element.
+pub(crate) fn put_brace(builder: &mut Builder, side: Side, mark: char) -> Result<(), AllocError>
+    requires { 1 ≤ length (elements_in builder.old) }
+    ensures { OnOk result (elements_in builder.new
+        ≡ (Makes.brace (side_of side) mark (top (elements_in builder.old))).atom.element ∷ drop 1 (elements_in builder.old)) }
+{
+    put_mark(
+        builder,
+        side,
+        mark,
+        Stretch::Stretching,
+        Attributes::plain(),
+    )
+}
+
+fn put_mark(
+    builder: &mut Builder,
+    side: Side,
+    mark: char,
+    stretch: Stretch,
+    attributes: Attributes,
+) -> Result<(), AllocError>
+    requires { 1 ≤ length (elements_in builder.old) }
+    ensures { OnOk result (elements_in builder.new
+        ≡ Makes.on_side (side_of side) (attributes_of attributes) (top (elements_in builder.old)) (mark_element mark (stretch_of stretch)) ∷ drop 1 (elements_in builder.old)) }
+{
+    builder.character(
+        Token::Mo,
+        Attributes {
+            stretch: Some(stretch),
+            ..Attributes::plain()
+        },
+        mark,
+    )?;
+    builder.pair(pair_on(side), attributes, false)
+}
+
+/// The element below the uppermost one as a mark on it.
+pub(crate) fn put_stack(builder: &mut Builder, side: Side) -> Result<(), AllocError>
+    requires { 2 ≤ length (elements_in builder.old) }
+    ensures { OnOk result (elements_in builder.new
+        ≡ Makes.on_side (side_of side) plain (top (elements_in builder.old)) (top (drop 1 (elements_in builder.old))) ∷ drop 2 (elements_in builder.old)) }
+{
+    builder.pair(pair_on(side), Attributes::plain(), true)
+}
+
+/// A fraction of the two uppermost elements, which may have a style of its own.
+pub(crate) fn put_fraction(
+    builder: &mut Builder,
+    rule: FractionRule,
+    own: Option<Style>,
+) -> Result<(), AllocError>
+    requires { 2 ≤ length (elements_in builder.old) }
+    ensures { OnOk result (elements_in builder.new
+        ≡ (Makes.fraction (fraction_rule_of rule) (option_map style_of own) (top (drop 1 (elements_in builder.old))) (top (elements_in builder.old))).atom.element ∷ drop 2 (elements_in builder.old)) }
+{
+    put_quotient(builder, rule)?;
+    if let Some(style) = own {
+        let attributes = Attributes {
+            display: Some(style.is_display()),
+            ..Attributes::plain()
+        };
+        builder.container(Container::Mstyle, attributes, 1)?;
+    }
+    Ok(())
+}
+
+/// A fraction of the two uppermost elements.
+fn put_quotient(builder: &mut Builder, rule: FractionRule) -> Result<(), AllocError>
+    requires { 2 ≤ length (elements_in builder.old) }
+    ensures { OnOk result (elements_in builder.new
+        ≡ Makes.fraction_element (fraction_rule_of rule) (top (drop 1 (elements_in builder.old))) (top (elements_in builder.old)) ∷ drop 2 (elements_in builder.old)) }
+{
+    match rule {
+        FractionRule::Bar => builder.pair(Pair::Mfrac, Attributes::plain(), false),
+        FractionRule::NoBar => {
+            let attributes = Attributes {
+                no_line: true,
+                ..Attributes::plain()
+            };
+            builder.pair(Pair::Mfrac, attributes, false)?;
+            enclose(builder, true, Some('('), Some(')'))
+        }
+    }
+}
+
+/// Puts a mark for so many primes.
+pub(crate) fn put_primes(builder: &mut Builder, primes: usize) -> Result<(), AllocError>
+    ensures { OnOk result (elements_in builder.new ≡ Makes.prime_mark primes ∷ elements_in builder.old) }
+{
+    let attributes = Attributes {
+        space: Some(Space::NoSpace),
+        ..Attributes::plain()
+    };
+    match primes {
+        2 => builder.character(Token::Mo, attributes, '″'),
+        3 => builder.character(Token::Mo, attributes, '‴'),
+        4 => builder.character(Token::Mo, attributes, '⁗'),
+        primes => {
+            builder.token(Token::Mo, attributes)?;
+            for _ in 0..primes {
+                builder.push('′')?;
+            }
+            Ok(())
+        }
+    }
+}
+
+/// The element of a mark on this side of its base.
+fn pair_on(side: Side) -> Pair
+    ensures { (a : attributes.Attributes) (x y : Element) → Makes.on_side (side_of side) a x y ≡ pair (pair_of result) a x y }
+{
+    match side {
+        Side::Above => Pair::Mover,
+        Side::Below => Pair::Munder,
+    }
+}
