@@ -256,21 +256,12 @@ impl Builder {
             ≡ triple_with (triple_of tag) (attributes_of attributes) is_exchanged (reverse (take 3 (elements_in self.old))) ∷ drop 3 (elements_in self.old)) }
     {
         let first = self.settled.as_slice().len();
-        self.wrap(
-            3,
-            false,
-            Part::Triple(tag, attributes, first, is_exchanged),
-        )
+        self.wrap(3, false, Part::Triple(tag, attributes, first, is_exchanged))
     }
 
     /// Puts an element in place of so many of the uppermost ones, which become settled, the first two of them exchanged if
     /// they are to be.
-    fn wrap(
-        &mut self,
-        count: usize,
-        is_exchanged: bool,
-        whole: Part,
-    ) -> Result<(), AllocError>
+    fn wrap(&mut self, count: usize, is_exchanged: bool, whole: Part) -> Result<(), AllocError>
         requires some { 0 < count }
         requires all { count ≤ length (elements_in self.old) }
         requires fits { Fits self.old.texts (length self.old.settled + count) whole }
@@ -321,11 +312,7 @@ impl Builder {
 }
 
 /// Appends parts, the first two of them exchanged if they are to be.
-fn settle(
-    settled: &mut Vec<Part>,
-    parts: &[Part],
-    is_exchanged: bool,
-) -> Result<(), AllocError>
+fn settle(settled: &mut Vec<Part>, parts: &[Part], is_exchanged: bool) -> Result<(), AllocError>
     ensures items { OnOk result (settled.new.items ≡ settled.old.items ++ ordered is_exchanged parts.now) }
     ensures err { OnErr result (settled.new.items ≡ settled.old.items) }
 {

@@ -44,31 +44,48 @@ fn fraction_in_a_row(rt: HostRuntime) -> Result<(), Fail> {
 }
 
 #[test]
-fn three_and_what_stands_below(rt: HostRuntime) -> Result<(), Fail> {
+fn operator_with_limits(rt: HostRuntime) -> Result<(), Fail> {
     let mut builder = Builder::new(rt.alloc());
     let mut works = Works::new(rt.alloc());
     let mut out = String::new(rt.alloc());
     let plain = Attributes::plain();
-    builder.text(Token::Mo, plain, "∑")?;
-    builder.text(Token::Mi, plain, "n")?;
-    builder.text(Token::Mn, plain, "0")?;
     let limits = Attributes {
         limits_stay: true,
         ..plain
     };
+    builder.text(Token::Mo, plain, "∑")?;
+    builder.text(Token::Mi, plain, "n")?;
+    builder.text(Token::Mn, plain, "0")?;
     builder.give(2, limits);
     builder.triple(Triple::Munderover, plain, true)?;
-    builder.space_below(18)?;
-    builder.text(Token::Mtext, plain, "a")?;
-    builder.fence()?;
-    builder.write(3, &mut works, &mut out)?;
+    builder.write(1, &mut works, &mut out)?;
     assert!(rt;
         out.as_str()
-            == "<munderover><mo movablelimits=\"false\">∑</mo><mn>0</mn><mi>n</mi></munderover><mspace width=\"1em\"/><mtext>a</mtext>",
+            == "<munderover><mo movablelimits=\"false\">∑</mo><mn>0</mn><mi>n</mi></munderover>",
         "{out}"
     );
-    assert!(rt; builder.token_at(0).is_some() && builder.token_at(1).is_none());
-    assert!(rt; builder.len() == 3);
+    assert!(rt; builder.token_at(0).is_none());
+    Ok(())
+}
+
+#[test]
+fn space_below_and_fence(rt: HostRuntime) -> Result<(), Fail> {
+    let mut builder = Builder::new(rt.alloc());
+    let mut works = Works::new(rt.alloc());
+    let mut out = String::new(rt.alloc());
+    let plain = Attributes::plain();
+    builder.text(Token::Mi, plain, "b")?;
+    builder.text(Token::Mo, plain, "(")?;
+    builder.text(Token::Mo, plain, ")")?;
+    builder.fence()?;
+    assert!(rt; builder.len() == 1);
+    builder.space_below(18)?;
+    assert!(rt; builder.token_at(0).is_none() && builder.len() == 2);
+    builder.write(2, &mut works, &mut out)?;
+    assert!(rt;
+        out.as_str() == "<mspace width=\"1em\"/><mrow><mo>(</mo><mi>b</mi><mo>)</mo></mrow>",
+        "{out}"
+    );
     Ok(())
 }
 

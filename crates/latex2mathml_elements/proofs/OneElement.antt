@@ -1,13 +1,12 @@
 -- The print of an element is one element that obeys the child table.
-use Rattle.std.proofs.Common.{◌≡◌, ℕ, ℤ, Bool, true, false, ◌&&◌, IsTrue, List, [], ◌∷◌, ◌++◌, Option, Some, None, refl, sym, ap, ◌∙◌, append_assoc, append-nil, codes, cond, map}
+use Rattle.std.proofs.Common.{◌≡◌, ℕ, ℤ, Bool, true, false, ◌&&◌, IsTrue, List, [], ◌∷◌, ◌++◌, Option, refl, sym, ap, ◌∙◌, append_assoc, append-nil, codes, map}
 use Rattle.std.specs.List.{list_all}
 use Rattle.latex2mathml_elements.specs.Attributes.{Attributes}
 use Rattle.latex2mathml_elements.specs.Element.{Token, Mi, Mn, Mo, Mtext, Container, Mrow, Msqrt, Mstyle, Pair, Mfrac, Mroot, Msub, Msup, Munder, Mover, Triple, Msubsup, Munderover, Element, Elements, token, space, container, pair, triple, none, more as one_more}
 use Rattle.latex2mathml_elements.specs.Laws.{PrintAsElements}
-use Rattle.latex2mathml_elements.specs.Print.{container_name, end_tag, formula_print, pair_name, print, prints, start_tag, token_name, triple_name}
+use Rattle.latex2mathml_elements.specs.Print.{container_name, formula_print, pair_name, print, prints, start_tag, token_name, triple_name}
 use Rattle.latex2mathml_elements.proofs.Settings.{settings}
-use Rattle.latex2mathml_tokens.specs.Escape.{content}
-use Rattle.latex2mathml_trees.specs.{MathSchema.child_table, MathSchema.IsMathElement, Width.width_text}
+use Rattle.latex2mathml_trees.specs.{MathSchema.child_table, MathSchema.IsMathElement}
 use Rattle.latex2mathml_trees.specs.Markup.{Name, attribute, plain, open_tag, empty_tag, above, add, at_start, lowest, name_of, IsElement, OpenElements, Runs, is_attribute, is_name}
 use Rattle.latex2mathml_trees.proofs.Runs.{closed, content_leads, ending_as, joined, more, more-above, more-append, obeying, single, spelled_as, staying}
 use Rattle.latex2mathml_trees.proofs.ValueTexts.{beside, no_text, plain_before, plain_width}

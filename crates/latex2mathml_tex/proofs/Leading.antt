@@ -1,18 +1,18 @@
 -- Where what is due leads, step by step, whatever it is for.
-use Rattle.std.proofs.Common.{◌≡◌, ℕ, Bool, true, false, IsTrue, IsFalse, List, [], ◌∷◌, Option, Some, None, refl, sym, ap, ◌∙◌, subst}
+use Rattle.std.proofs.Common.{◌≡◌, ℕ, IsTrue, IsFalse, List, [], ◌∷◌, Option, Some, None}
 use Rattle.latex2mathml_elements.specs.Element.{Element}
 use Rattle.latex2mathml_tex_grammar.specs.{Atoms.Atom, Delimiters.delimiter_of}
-use Rattle.latex2mathml_tex_grammar.specs.Makes.{Core, core, number, divider, Scripts, no_scripts, scripted}
+use Rattle.latex2mathml_tex_grammar.specs.Makes.{Core, number, divider, Scripts, no_scripts, scripted}
 use Rattle.latex2mathml_tex_grammar.specs.{Meaning.Beside, Next.past_space, Next.next_are, Next.digits_next, Next.refusal_here}
-use Rattle.latex2mathml_tex_grammar.specs.Reading.{Outcome, Read, Refused, ReadsRule, rule_gives, rule_refuses, operand_read, operand_refused, core_read, core_refused, core_missing, core_stopped, atoms_read, atoms_refused, words_read, words_refused, units_taken, units_missing, digits_taken, delimiter_taken, delimiter_missing, ReadsOperand, group_operand, group_refused, digit_operand, other_operand, other_refused, no_operand, operand_at_end, operand_stopped, ReadsScripts, scripts_end, mark_taken, script_read, script_refused, second_script, ReadsAtom, divider_read, divider_refused, on_empty_row, base_read, base_refused, ReadsAtoms, text_ends, never_ended, atoms_stopped, atoms_end, atom_read, atom_refused, ReadsWord, word_stands, group_of_words, formula_read, formula_refused, words_in_alphabet, no_word, word_missing, word_at_end, word_stopped, ReadsWords, words_end, words_never_ended, words_stopped, word_read, word_refused}
+use Rattle.latex2mathml_tex_grammar.specs.Reading.{Outcome, Read, Refused, ReadsRule, rule_gives, rule_refuses, operand_read, operand_refused, core_read, core_refused, core_missing, core_stopped, atoms_read, atoms_refused, words_read, words_refused, units_taken, units_missing, digits_taken, delimiter_taken, delimiter_missing, group_operand, group_refused, digit_operand, other_operand, other_refused, no_operand, operand_at_end, operand_stopped, scripts_end, mark_taken, script_read, script_refused, second_script, ReadsAtom, divider_read, divider_refused, on_empty_row, base_read, base_refused, text_ends, never_ended, atoms_stopped, atoms_end, atom_read, atom_refused, word_stands, group_of_words, formula_read, formula_refused, words_in_alphabet, no_word, word_missing, word_at_end, word_stopped, words_end, words_never_ended, words_stopped, word_read, word_refused}
 use Rattle.latex2mathml_tex_grammar.specs.Refusal.{Kind, MissingArgument, UnclosedBrace, MissingDelimiter, Refusal, refusal_at}
-use Rattle.latex2mathml_tex_grammar.specs.Rows.{Operand, Row, empty_row, operand_of, row_element, single, with_atom}
+use Rattle.latex2mathml_tex_grammar.specs.Rows.{Operand, Row, empty_row, single}
 use Rattle.latex2mathml_tex_grammar.specs.Rules.{Context, in_context, styled, Ending, InBraces, InDollars, Rule, gives, refuses, reads_operand, reads_core, reads_atoms, reads_words, takes_if, takes_digits, takes_delimiter, rule}
 use Rattle.latex2mathml_tex_grammar.specs.Starts.{DividerStart, ScriptStart, RuleStart, NoStart, GroupStart, DigitStart, OtherStart, atom_start, operand_start, mark_of, GoesOn, TakesOperand, Twice, step_of_mark, step_next, empty_base, ends, unended, is_close}
 use Rattle.latex2mathml_tex_grammar.specs.Symbols.{InText, InScript, Alphabet}
 use Rattle.latex2mathml_tex_grammar.specs.Units.{Piece, Unit, Units, Next, End, Stop}
-use Rattle.latex2mathml_tex_grammar.specs.Words.{Word, Formula, Words, no_words, with_word, IsWord, BeginsGroup, EndsGroup, BeginsFormula, TakesWords, NoWord, word_rule}
-use Rattle.latex2mathml_tex.specs.Levels.{AtomMade, CoreMade, Leads, Level, OperandMade, PartMade, RuleLeads, ScriptsLead, Then, WordLeads, as_operand, as_words, row, operand, part, words}
+use Rattle.latex2mathml_tex_grammar.specs.Words.{Word, Words, no_words, with_word, IsWord, BeginsGroup, EndsGroup, BeginsFormula, TakesWords, NoWord, word_rule}
+use Rattle.latex2mathml_tex.specs.Levels.{AtomMade, CoreMade, Leads, Level, PartMade, RuleLeads, ScriptsLead, Then, WordLeads, as_operand, as_words, row, operand, part, words}
 use Rattle.latex2mathml_tex.specs.Levels.{core as core_level}
 
 -- A rule that leads somewhere

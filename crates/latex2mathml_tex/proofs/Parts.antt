@@ -1,5 +1,5 @@
 -- The two parts of the command table are sorted, and a look-up in them is one in the table.
-use Rattle.std.proofs.Common.{◌≡◌, ℕ, ◌<◌, true, List, map, length, refl, sym, ap, ◌∙◌, arith}
+use Rattle.std.proofs.Common.{◌≡◌, ◌<◌, true, List, map, length, refl, ap, ◌∙◌, arith}
 use Rattle.std.proofs.lemmas.List.{length-map}
 use Rattle.latex2mathml_tex_grammar.specs.{CommandsUpToL.commands_up_to_l, CommandsFromM.commands_from_m, Sorted.ascending}
 use Rattle.latex2mathml_tex.specs.{declared.meaning.Entry.Entry, Meanings.entry_of}

@@ -1,9 +1,9 @@
 -- How texts begin: what each branch of the reader has found is what the definitions say.
-use Rattle.std.proofs.Common.{◌≡◌, ℕ, ◌+◌, Bool, true, false, List, [], ◌∷◌, ◌++◌, codes, refl, sym, ap, subst, ◌∙◌, arith, append_assoc, append-nil, Some, None}
+use Rattle.std.proofs.Common.{◌≡◌, ℕ, ◌+◌, true, false, List, [], ◌∷◌, ◌++◌, codes, refl, sym, ap, subst, ◌∙◌, arith, append_assoc, Some, None}
 use Rattle.std.proofs.lemmas.Bool.Decides.{nat_tests}
 use Rattle.std.specs.{Char.is_ascii_alphabetic, Str.byte, Str.encode_utf8_all}
 use Rattle.latex2mathml_tex_grammar.specs.Refusal.{LoneBackslash, ForbiddenCharacter, refusal_at}
-use Rattle.latex2mathml_tex_grammar.specs.Units.{Piece, Space, Command, IsRun, is_space, is_in_line, is_forbidden, symbol_name, head, Stops, Spells, white_space, comment, last_comment, symbol_command, letter_command, IsRefusedAt, lone_backslash, forbidden, forbidden_name}
+use Rattle.latex2mathml_tex_grammar.specs.Units.{Space, Command, IsRun, is_space, is_in_line, is_forbidden, symbol_name, head, Stops, Spells, white_space, comment, last_comment, symbol_command, letter_command, IsRefusedAt, lone_backslash, forbidden, forbidden_name}
 use Rattle.latex2mathml_tex.specs.Taking.{IsCommentEnd}
 
 place_plus_zero : (place : ℕ) → place ≡ place + 0

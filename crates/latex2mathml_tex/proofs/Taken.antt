@@ -1,11 +1,10 @@
 -- What a start of a text takes from its units.
 use Rattle.std.proofs.Common.{◌≡◌, ℕ, ◌+◌, ◌-◌, ◌≤◌, List, [], ◌∷◌, ◌++◌, length, Some, None, refl, sym, ap, ◌∙◌, arith}
-use Rattle.std.specs.Str.{chars, encode_utf8_all, IsUtf8}
-use Rattle.latex2mathml_tex_grammar.specs.{Cutting.units_of, Cutting.adds, Refusal.Refusal}
-use Rattle.latex2mathml_tex_grammar.specs.Units.{Piece, Units, Next, End, Stop, unit, behind, Spells, IsRefusedAt, lone_backslash, forbidden, forbidden_name, at_end, refused}
+use Rattle.std.specs.Str.{chars, IsUtf8}
+use Rattle.latex2mathml_tex_grammar.specs.{Cutting.units_of, Refusal.Refusal}
+use Rattle.latex2mathml_tex_grammar.specs.Units.{Piece, Next, End, Stop, unit, behind, Spells, IsRefusedAt, lone_backslash, forbidden, forbidden_name, at_end, refused}
 use Rattle.latex2mathml_tex_grammar.proofs.OneList.{units_are, units_behind}
 use Rattle.latex2mathml_tex.proofs.Texts.{text_length}
-use Rattle.latex2mathml_tex.specs.Taking.{Takes}
 
 pub nothing_left : (place : ℕ) (text : List ℕ) → text ≡ [] → units_of place text ≡ End place
 nothing_left place text e = units_are place text (End place) (at_end e refl)

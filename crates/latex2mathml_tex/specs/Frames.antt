@@ -1,16 +1,16 @@
 -- What the parser's frames stand for: each is a level that was entered. A frame holds no element: what was read for it are
 -- the first of the elements that stand beside it, the uppermost first.
-use Rattle.std.specs.Prelude.{ℕ, zero, suc, ◌+◌, Bool, true, false, List, [], ◌∷◌, drop, reverse, take, option_map, Option, Some, None}
+use Rattle.std.specs.Prelude.{ℕ, zero, suc, ◌+◌, List, [], ◌∷◌, drop, reverse, option_map, Some}
 use Rattle.latex2mathml_elements.specs.{Attributes.Above, Element.Element}
 use Rattle.latex2mathml_builder.specs.Names.{side_of, stretch_of}
 use Rattle.latex2mathml_tex_grammar.specs.Makes as makes
 use Rattle.latex2mathml_tex_grammar.specs.Makes.{Core, core, group, classed, operator_name, accent, brace, stack, fraction, square_root, root, between_delimiters, struck}
 use Rattle.latex2mathml_tex_grammar.specs.Reading.{Outcome, Read, Refused, ReadsAtoms}
-use Rattle.latex2mathml_tex_grammar.specs.{Formulas.formula_context, Meaning.FractionRule, Symbols.Style, Symbols.InText, Symbols.Relation, Units.Units}
+use Rattle.latex2mathml_tex_grammar.specs.{Formulas.formula_context, Symbols.Style, Symbols.InText, Symbols.Relation, Units.Units}
 use Rattle.latex2mathml_tex_grammar.specs.Rows.{Operand, Row, empty_row, operand_of, row_element}
 use Rattle.latex2mathml_tex_grammar.specs.Rules as rules
 use Rattle.latex2mathml_tex_grammar.specs.Rules.{Context, Rule, gives, of_one, slashed, struck_atom, takes_delimiter, WholeText, InBraces, InBrackets, InDollars, InDelimiters}
-use Rattle.latex2mathml_tex_grammar.specs.Words.{Formula, Words, with_word, words_atom}
+use Rattle.latex2mathml_tex_grammar.specs.Words.{words_atom}
 use Rattle.latex2mathml_tex.specs.{Levels.AtomMade, Levels.as_operand, Levels.as_words, Levels.CoreMade, Levels.Level, Levels.OperandMade, Levels.PartMade, Levels.RuleLeads, Levels.ScriptsLead, Levels.Then}
 use Rattle.latex2mathml_tex.specs.Levels as level
 use Rattle.latex2mathml_tex.specs.Meanings.{alphabet_of, class_of, fraction_rule_of, limit_place_of, style_of}

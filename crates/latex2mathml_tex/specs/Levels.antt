@@ -7,7 +7,7 @@ use Rattle.latex2mathml_tex_grammar.specs.Reading.{Outcome, Read, Refused, Reads
 use Rattle.latex2mathml_tex_grammar.specs.Refusal.{Refusal}
 use Rattle.latex2mathml_tex_grammar.specs.Rows.{Operand, Row, operand_of, row_element, single, with_atom}
 use Rattle.latex2mathml_tex_grammar.specs.Rules.{Context, Ending, Rule, gives, reads_core}
-use Rattle.latex2mathml_tex_grammar.specs.Symbols.{Alphabet, Style}
+use Rattle.latex2mathml_tex_grammar.specs.Symbols.{Alphabet}
 use Rattle.latex2mathml_tex_grammar.specs.Units.{Units}
 use Rattle.latex2mathml_tex_grammar.specs.Words.{Formula, Words, with_word}
 

@@ -1,6 +1,6 @@
 -- What the parser's values are in the definitions. A value holds no element: its elements are the first of those that stand
 -- beside it, the uppermost first.
-use Rattle.std.specs.Prelude.{ℕ, zero, suc, ◌+◌, Bool, true, false, List, [], ◌∷◌, drop, option_map, Option, Some, None, take}
+use Rattle.std.specs.Prelude.{ℕ, ◌+◌, Bool, true, false, List, [], ◌∷◌, drop, option_map, Option, Some, None, take}
 use Rattle.latex2mathml_elements.specs.Element.{Element}
 use Rattle.latex2mathml_builder.specs.Stacks.{no_element}
 use Rattle.latex2mathml_tex_grammar.specs.Atoms as atoms

@@ -1,5 +1,5 @@
 -- Numbers, digit by digit.
-use Rattle.std.specs.Prelude.{ℕ, List, [], ◌∷◌, Option, Some, None}
+use Rattle.std.specs.Prelude.{ℕ, [], ◌∷◌, Option, Some, None}
 use Rattle.std.specs.Str.{byte}
 use Rattle.latex2mathml_tex_grammar.specs.{Alphabets.in_alphabet, Commands.symbol_of, Symbols.Alphabet}
 use Rattle.latex2mathml_tex_grammar.specs.Rules.{Context, Rule, a_digit, a_symbol, decimal, takes_if}

@@ -1,26 +1,23 @@
 -- What the parser's steps keep: what holds of each state, and what falls.
-use Rattle.std.specs.Prelude.{◌≡◌, ℕ, suc, ◌+◌, ◌*◌, ◌<◌, ◌≤◌, Bool, true, false, IsTrue, IfOk, IfSome, List, [], ◌∷◌, drop, length, option_map, reverse, Result, sum_by, take, Option, Some, None}
+use Rattle.std.specs.Prelude.{◌≡◌, ℕ, ◌+◌, ◌*◌, ◌<◌, ◌≤◌, Bool, true, false, IsTrue, IfOk, IfSome, List, [], ◌∷◌, drop, length, option_map, reverse, Result, sum_by, take, Option}
 use Rattle.std.specs.declared.alloc.AllocError.{AllocError}
 use Rattle.latex2mathml_elements.specs.Element.{Element}
 use Rattle.latex2mathml_builder.specs.Built.{elements_in}
-use Rattle.latex2mathml_builder.specs.declared.attributes.Side.{Side}
-use Rattle.latex2mathml_tex_grammar.specs.Atoms.{Atom}
-use Rattle.latex2mathml_tex_grammar.specs.Makes.{Core, Scripts, core, divider}
-use Rattle.latex2mathml_tex_grammar.specs.Next.{past_space}
-use Rattle.latex2mathml_tex_grammar.specs.Reading.{Outcome, Read, Refused, ReadsAtoms}
-use Rattle.latex2mathml_tex_grammar.specs.{Refusal.Refusal, Rows.Row, Starts.unended}
-use Rattle.latex2mathml_tex_grammar.specs.Rules.{Rule, a_number, gives, rule, takes_delimiter}
-use Rattle.latex2mathml_tex_grammar.specs.Units.{Units, Next, End, Stop}
-use Rattle.latex2mathml_tex.specs.{Errors.refusal_of, Innermost.IsInnermost, Taking.piece_of, Taking.unit_of}
-use Rattle.latex2mathml_tex.specs.Frames.{RowMade, Start, Whole, base_of, context_at, element_count, ending_count, ending_of, inside, within}
+use Rattle.latex2mathml_tex_grammar.specs.Makes.{core}
+use Rattle.latex2mathml_tex_grammar.specs.Reading.{Read, Refused}
+use Rattle.latex2mathml_tex_grammar.specs.{Rows.Row}
+use Rattle.latex2mathml_tex_grammar.specs.Rules.{Rule, a_number}
+use Rattle.latex2mathml_tex_grammar.specs.Units.{Units, End}
+use Rattle.latex2mathml_tex.specs.{Errors.refusal_of}
+use Rattle.latex2mathml_tex.specs.Frames.{Start, Whole, base_of, element_count, inside, within}
 use Rattle.latex2mathml_tex.specs.Left.{unit_count, units_at}
-use Rattle.latex2mathml_tex.specs.Levels.{AtomMade, CoreMade, Leads, Level, OperandMade, PartMade, RuleLeads, ScriptsLead, WordLeads, as_atom}
+use Rattle.latex2mathml_tex.specs.Levels.{CoreMade, Leads, Level, OperandMade, PartMade, RuleLeads, ScriptsLead, WordLeads}
 use Rattle.latex2mathml_tex.specs.Meanings.{alphabet_of, style_of}
-use Rattle.latex2mathml_tex.specs.Models.{context_of, core_with, operand_with, row_with, script_count, scripts_with, top, words_with}
+use Rattle.latex2mathml_tex.specs.Models.{context_of, core_with, operand_with, script_count, scripts_with, top, words_with}
 use Rattle.latex2mathml_tex.specs.Numbers.{after_point}
-use Rattle.latex2mathml_tex.specs.declared.{atoms.Context.Context, atoms.Core.Core as CodeCore, atoms.Row.Row as CodeRow, meaning.Alphabet.Alphabet as CodeAlphabet, parse.Parser.Parser, parse.State.State, unit.Unit.Unit}
+use Rattle.latex2mathml_tex.specs.declared.{atoms.Context.Context, meaning.Alphabet.Alphabet as CodeAlphabet, parse.Parser.Parser, parse.State.State}
 use Rattle.latex2mathml_tex.specs.declared.parse.State.TheVariants as state
-use Rattle.latex2mathml_tex.specs.declared.parse.frames.{Ending.Ending, Frame.Frame}
+use Rattle.latex2mathml_tex.specs.declared.parse.frames.{Frame.Frame}
 use Rattle.latex2mathml_tex.specs.declared.parse.frames.Ending.TheVariants as ending
 use Rattle.latex2mathml_tex.specs.declared.parse.frames.Frame.TheVariants as frame
 

@@ -1,6 +1,6 @@
 -- Atoms, and what each is to those beside it: the space between them, prefix signs, words of upright letters.
-use Rattle.std.specs.Prelude.{ℕ, Bool, true, false, Option, Some, if◌then◌else◌}
-use Rattle.latex2mathml_elements.specs.{Attributes.Attributes, Attributes.Prefix, Attributes.NoSpace, Element.Element, Element.token}
+use Rattle.std.specs.Prelude.{Bool, true, false, Some, if◌then◌else◌}
+use Rattle.latex2mathml_elements.specs.{Attributes.Prefix, Attributes.NoSpace, Element.Element, Element.token}
 use Rattle.latex2mathml_tex_grammar.specs.Symbols.{Class, Ordinary, Operator, Binary, Relation, Opening, Closing, Punctuation, Inner, Style, InScript}
 
 -- what an atom is to its neighbours

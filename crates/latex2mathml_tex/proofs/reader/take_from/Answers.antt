@@ -1,4 +1,4 @@
-use Rattle.std.proofs.Common.{◌≡◌, ◌≤◌, ◌+◌, length, refl, sym, ◌∙◌, arith, rules}
+use Rattle.std.proofs.Common.{◌≤◌, length, sym, ◌∙◌, arith, rules}
 use Rattle.std.specs.Str.{IsUtf8}
 use Rattle.latex2mathml_tex.specs.Taking.{piece_of}
 use Rattle.latex2mathml_tex.proofs.Taken.{comment_skipped, end_within, nothing_left, piece_taken, refused_some, refused_there}

@@ -1,4 +1,4 @@
-use Rattle.std.proofs.Common.{◌≡◌, ◌+◌, ◌≤◌, ◌∙◌, suc, ap, arith, length, pos}
+use Rattle.std.proofs.Common.{◌≡◌, ◌∙◌, suc, ap, arith, length, pos}
 use Rattle.latex2mathml_builder.specs.Built.{elements_in}
 use Rattle.latex2mathml_elements.specs.Element.{space}
 use Rattle.latex2mathml_tex.proofs.Shaping.{length_changed, length_parted}

@@ -1,7 +1,6 @@
-use Rattle.std.proofs.Common.{rules, ◌≡◌, ◌<◌, ◌∙◌, ◌||◌, ◌&&◌, arith, drop, take}
+use Rattle.std.proofs.Common.{rules, ◌≡◌, ◌∙◌, ◌||◌, ◌&&◌, arith, drop, take}
 use Rattle.latex2mathml_builder.specs.Built.{elements_in}
 use Rattle.latex2mathml_tex_grammar.specs.Atoms
-use Rattle.latex2mathml_tex_grammar.specs.Rows
 use Rattle.latex2mathml_tex.specs.{Meanings.style_of, Models.before_of, Models.kind_of, Models.top}
 use Rattle.latex2mathml_tex.proofs.Shaping.{class_behind, put_high, same_row}
 use Rattle.latex2mathml_tex.proofs.shapes.with_atom.Goals as goal

@@ -1,5 +1,5 @@
-use Rattle.std.proofs.Common.{[], ◌∷◌, refl, sym, ◌∙◌}
-use Rattle.latex2mathml_tex_grammar.specs.Units.{character, forbidden}
+use Rattle.std.proofs.Common.{[], ◌∷◌, refl}
+use Rattle.latex2mathml_tex_grammar.specs.Units.{character}
 use Rattle.latex2mathml_tex.proofs.Starts.{forbidden_here}
 use Rattle.latex2mathml_tex.proofs.reader.slices.character.Goals as goal
 

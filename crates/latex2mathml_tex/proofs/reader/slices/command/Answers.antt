@@ -1,4 +1,4 @@
-use Rattle.std.proofs.Common.{[], ◌∷◌, ap, ◌∙◌}
+use Rattle.std.proofs.Common.{◌∷◌, ap, ◌∙◌}
 use Rattle.latex2mathml_tex.proofs.Starts.{forbidden_named, letters_named, symbol_named}
 use Rattle.latex2mathml_tex.proofs.reader.slices.command.Goals as goal
 
