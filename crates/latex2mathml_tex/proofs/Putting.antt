@@ -20,7 +20,7 @@ core_put s p b c x k e f g = record {
 -- .. and so much is left to do, if no unit came back
 pub core_step : (p : Parser) (i : Input) (b : Built) (c : CodeCore) (x : Element) → CanBegin 0 p → elements_in b ≡ x ∷ elements_of p → unit_count (units_at i) ≤ unit_count (left_of p) → Follows (to_do p + 13) (record p { input = i; builder = b }) (state.Core c)
 core_step p i b c x begins e h = record {
-  ready = record { elements = rw e (omega (arith, begins.elements)); taken = begins.taken };
+  ready = record { elements = rw e (omega (arith, begins.elements)); may_come = record { accepted = begins.awaits.accepted; nested = begins.awaits.nested } };
   falls = omega (arith, h);
 }
 

@@ -1,5 +1,7 @@
 -- The refusals that errors report.
 use Rattle.std.specs.Prelude.{Option, Some, None, option_map, string_bytes}
+use Rattle.latex2mathml_builder.specs.declared.attributes.Side.{Side}
+use Rattle.latex2mathml_builder.specs.declared.attributes.Side.TheVariants as side
 use Rattle.latex2mathml_tex_grammar.specs.Refusal as refusal
 use Rattle.latex2mathml_tex.specs.declared.error.{TexError.TexError, TexErrorKind.TexErrorKind}
 use Rattle.latex2mathml_tex.specs.declared.error.TexErrorKind.TheVariants as kind
@@ -31,3 +33,8 @@ kind_of_error kind.OutOfMemory = None
 -- the refusal that an error reports
 abbrev pub refusal_of : TexError → Option refusal.Refusal
 refusal_of error = option_map (λ k. refusal.refusal_at k error.place) (kind_of_error error.kind)
+
+-- why a second script on this side is refused
+abbrev pub second_on : Side → TexErrorKind
+second_on side.Below = kind.SecondSubscript
+second_on side.Above = kind.SecondSuperscript

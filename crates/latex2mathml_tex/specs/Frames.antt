@@ -1,6 +1,6 @@
 -- What the parser's frames stand for: each is a level that was entered. A frame holds no element: what was read for it are
 -- the first of the elements that stand beside it, the uppermost first.
-use Rattle.std.specs.Prelude.{ℕ, zero, suc, ◌+◌, List, [], ◌∷◌, drop, reverse, option_map, Some}
+use Rattle.std.specs.Prelude.{ℕ, zero, suc, ◌+◌, Bool, IsFalse, List, [], ◌∷◌, drop, reverse, option_map, Some}
 use Rattle.latex2mathml_elements.specs.{Attributes.Above, Element.Element}
 use Rattle.latex2mathml_builder.specs.Names.{side_of, stretch_of}
 use Rattle.latex2mathml_tex_grammar.specs.Makes as makes
@@ -115,10 +115,16 @@ past_primes s scripts xs = drop (primes_put s scripts.primes) xs
 abbrev pub base_of : CodeCore → Scripts → List Element → Core
 base_of c scripts xs = core_with c (top (drop (script_count scripts) xs))
 
--- where the outcome of a script's operand leads
+-- whether a script stands on this side
+abbrev pub has_script : Side → Scripts → Bool
+has_script side.Below scripts = scripts.below
+has_script side.Above scripts = scripts.above
+
+-- where the outcome of a script's operand leads; it is read where no script stands on this side
 abbrev pub ScriptMade : Level → CodeCore → Scripts → Side → List Element → Outcome Operand → Type 0
 ScriptMade l c scripts s xs (Read x m) =
-    ScriptsLead l (base_of c scripts (past_primes s scripts xs)).atom (with_script s (scripts_with scripts (past_primes s scripts xs)) xs x.element) m
+    IsFalse (has_script s scripts)
+    × ScriptsLead l (base_of c scripts (past_primes s scripts xs)).atom (with_script s (scripts_with scripts (past_primes s scripts xs)) xs x.element) m
 ScriptMade l c scripts s xs (Refused r) = AtomMade l (Refused r)
 
 -- Frames

@@ -1,23 +1,31 @@
 -- What the parser's steps keep: what holds of each state, and what falls.
-use Rattle.std.specs.Prelude.{◌≡◌, ℕ, ◌+◌, ◌*◌, ◌<◌, ◌≤◌, Bool, true, false, IsTrue, IfOk, IfSome, List, [], ◌∷◌, drop, length, option_map, reverse, Result, sum_by, take, Option}
+use Rattle.std.specs.Prelude.{◌≡◌, ℕ, ◌+◌, ◌*◌, ◌<◌, ◌≤◌, Bool, true, false, IsTrue, IfOk, IfSome, List, [], ◌∷◌, ◌&&◌, ⊤, drop, length, option_map, reverse, Result, sum_by, take, Option, Some, None}
 use Rattle.std.specs.declared.alloc.AllocError.{AllocError}
 use Rattle.latex2mathml_elements.specs.Element.{Element}
 use Rattle.latex2mathml_builder.specs.Built.{elements_in}
-use Rattle.latex2mathml_tex_grammar.specs.Makes.{core}
+use Rattle.latex2mathml_builder.specs.declared.attributes.Side.{Side}
+use Rattle.latex2mathml_tex_grammar.specs.Atoms.{Atom}
+use Rattle.latex2mathml_tex_grammar.specs.Makes.{Scripts, core, divider}
+use Rattle.latex2mathml_tex_grammar.specs.Next.{past_space}
 use Rattle.latex2mathml_tex_grammar.specs.Reading.{Read, Refused}
-use Rattle.latex2mathml_tex_grammar.specs.{Rows.Row}
-use Rattle.latex2mathml_tex_grammar.specs.Rules.{Rule, a_number}
-use Rattle.latex2mathml_tex_grammar.specs.Units.{Units, End}
-use Rattle.latex2mathml_tex.specs.{Errors.refusal_of}
-use Rattle.latex2mathml_tex.specs.Frames.{Start, Whole, base_of, element_count, inside, within}
+use Rattle.latex2mathml_tex_grammar.specs.{Refusal.Refusal, Rows.Row, Starts.unended}
+use Rattle.latex2mathml_tex_grammar.specs.Rules.{Rule, a_number, gives, rule, takes_delimiter}
+use Rattle.latex2mathml_tex_grammar.specs.{Symbols.Alphabet, Symbols.Class, Words.Word, Words.with_word}
+use Rattle.latex2mathml_tex_grammar.specs.Starts as starts
+use Rattle.latex2mathml_tex_grammar.specs.Units as grammar
+use Rattle.latex2mathml_tex_grammar.specs.Units.{Units, Next, End, Stop}
+use Rattle.latex2mathml_tex.specs.{Errors.refusal_of, Innermost.IsInnermost, Taking.piece_of, Taking.unit_of}
+use Rattle.latex2mathml_tex.specs.Frames.{RowMade, ScriptMade, Start, Whole, after_first, base_of, context_at, element_count, ending_count, ending_of, inside, primes_put, within}
 use Rattle.latex2mathml_tex.specs.Left.{unit_count, units_at}
-use Rattle.latex2mathml_tex.specs.Levels.{CoreMade, Leads, Level, OperandMade, PartMade, RuleLeads, ScriptsLead, WordLeads}
-use Rattle.latex2mathml_tex.specs.Meanings.{alphabet_of, style_of}
-use Rattle.latex2mathml_tex.specs.Models.{context_of, core_with, operand_with, script_count, scripts_with, top, words_with}
+use Rattle.latex2mathml_tex.specs.Levels.{AtomMade, CoreMade, Leads, Level, OperandMade, PartMade, RuleLeads, ScriptsLead, Then, WordLeads, as_atom}
+use Rattle.latex2mathml_tex.specs.Meanings.{alphabet_of, limit_place_of, style_of}
+use Rattle.latex2mathml_tex.specs.Models.{context_of, core_with, operand_with, row_with, script_count, scripts_with, top, words_with}
 use Rattle.latex2mathml_tex.specs.Numbers.{after_point}
-use Rattle.latex2mathml_tex.specs.declared.{atoms.Context.Context, meaning.Alphabet.Alphabet as CodeAlphabet, parse.Parser.Parser, parse.State.State}
+use Rattle.latex2mathml_tex.specs.declared.{atoms.Context.Context, atoms.Core.Core as CodeCore, atoms.Operand.Operand as CodeOperand, atoms.Row.Row as CodeRow, atoms.Scripts.Scripts as CodeScripts, atoms.Words.Words as CodeWords, meaning.Alphabet.Alphabet as CodeAlphabet, parse.Parser.Parser, parse.State.State, parse.scripts.Mark.Mark, unit.Unit.Unit}
+use Rattle.latex2mathml_tex.specs.declared.parse.scripts.Mark.TheVariants as mark
+use Rattle.latex2mathml_builder.specs.declared.attributes.Side.TheVariants as side
 use Rattle.latex2mathml_tex.specs.declared.parse.State.TheVariants as state
-use Rattle.latex2mathml_tex.specs.declared.parse.frames.{Frame.Frame}
+use Rattle.latex2mathml_tex.specs.declared.parse.frames.{Ending.Ending, First.First, Frame.Frame}
 use Rattle.latex2mathml_tex.specs.declared.parse.frames.Ending.TheVariants as ending
 use Rattle.latex2mathml_tex.specs.declared.parse.frames.Frame.TheVariants as frame
 
@@ -73,61 +81,97 @@ pub record Begins (r : Rule) (n : ℕ) (s : Start) (p : Parser) : Type 0 where
   pub style : s.style ≡ style_of p.style
   pub leads : GoesOnBy r n s p
 
--- whether the state is one for this frame
-abbrev pub takes : State → Frame → Bool
-takes state.Next frame.Text = false
-takes state.Next (frame.Words place a) = false
-takes state.Next f = true
-takes (state.Core core) frame.Text = false
-takes (state.Core core) (frame.Words place a) = false
-takes (state.Core core) f = true
-takes (state.Atom core scripts) (frame.Row e place c row) = true
-takes (state.Atom core scripts) f = false
-takes (state.Operand operand) (frame.Last made place c) = true
-takes (state.Operand operand) (frame.First one place c) = true
-takes (state.Operand operand) (frame.Script base scripts on place c) = true
-takes (state.Operand operand) f = false
-takes (state.Word ws place a) frame.Text = true
-takes (state.Word ws place a) (frame.Words begun b) = true
-takes (state.Word ws place a) f = false
-takes (state.Words ws) frame.Text = true
-takes (state.Words ws) (frame.Words place a) = true
-takes (state.Words ws) f = false
-takes (state.End count) f = true
-takes state.Refused f = true
+-- .. in this context, which is that of the level
+pub record BeginsIn (c : Context) (r : Rule) (n : ℕ) (s : Start) (p : Parser) : Type 0 where
+  pub style : s.style ≡ style_of p.style
+  pub context : context_of c ≡ context_at (level n s p)
+  pub leads : GoesOnBy r n s p
 
--- .. and for a row
-abbrev pub takes_row : State → Bool
-takes_row state.Next = true
-takes_row (state.Core core) = true
-takes_row (state.Atom core scripts) = true
-takes_row (state.Operand operand) = false
-takes_row (state.Word ws place a) = false
-takes_row (state.Words ws) = false
-takes_row (state.End count) = true
-takes_row state.Refused = true
+-- what a frame is given, and what it makes
+pub data Made : Type 0 where
+  core_made : Made
+  atom_made : Made
+  operand_made : Made
+  words_made : Made
 
--- .. and for the innermost of these frames, or for the row of the whole formula
-abbrev pub first_takes : State → List Frame → Bool
-first_takes st [] = takes_row st
-first_takes st (f ∷ fs) = takes st f
+-- whether the frame waits for it
+abbrev pub accepts : Made → Frame → Bool
+accepts core_made frame.Text = false
+accepts core_made (frame.Words place a) = false
+accepts core_made f = true
+accepts atom_made (frame.Row e place c row) = true
+accepts atom_made f = false
+accepts operand_made (frame.Last made place c) = true
+accepts operand_made (frame.First one place c) = true
+accepts operand_made (frame.Script base scripts on place c) = true
+accepts operand_made f = false
+accepts words_made frame.Text = true
+accepts words_made (frame.Words place a) = true
+accepts words_made f = false
 
-abbrev pub takes_innermost : State → List Frame → Bool
-takes_innermost st fs = first_takes st (reverse fs)
+-- .. where no frame is, it is for the row of the whole formula
+abbrev pub for_row : Made → Bool
+for_row core_made = true
+for_row atom_made = true
+for_row operand_made = false
+for_row words_made = false
 
--- there are elements for all frames, and n more
+-- whether the first of these frames waits for it
+abbrev pub first_accepts : Made → List Frame → Bool
+first_accepts m [] = for_row m
+first_accepts m (f ∷ fs) = accepts m f
+
+abbrev pub row_makes : Ending → Made
+row_makes ending.Operand = operand_made
+row_makes (ending.Formula ws) = words_made
+row_makes e = core_made
+
+abbrev pub makes : Frame → Made
+makes (frame.Row e place c row) = row_makes e
+makes (frame.Script base scripts on place c) = atom_made
+makes (frame.Words place a) = words_made
+makes f = core_made
+
+-- whether each of these frames, the innermost first, makes what the next one waits for
+abbrev pub are_nested : List Frame → Bool
+are_nested [] = true
+are_nested (f ∷ fs) = first_accepts (makes f) fs && are_nested fs
+
+-- the innermost frame waits for it, and each frame makes what the one around it waits for
+pub record Awaits (m : Made) (p : Parser) : Type 0 where
+  pub accepted : IsTrue (first_accepts m (reverse p.frames.stack.items))
+  pub nested : IsTrue (are_nested (reverse p.frames.stack.items))
+
+-- what a state gives the innermost frame; where nothing was read, it is a core that is to be read
+abbrev pub given_by : State → Made
+given_by (state.Atom core scripts) = atom_made
+given_by (state.Operand operand) = operand_made
+given_by (state.Word ws place a) = words_made
+given_by (state.Words ws) = words_made
+given_by st = core_made
+
+-- There are elements for all frames, and n more.
 abbrev pub HasElements : ℕ → Parser → Type 0
 HasElements n p = sum_by element_count p.frames.stack.items + n ≤ length (elements_of p)
 
--- The state can come next.
+-- The state can come next. The formula may end in any frame.
+abbrev pub MayCome : State → Parser → Type 0
+MayCome (state.End count) p = ⊤
+MayCome state.Refused p = ⊤
+MayCome st p = Awaits (given_by st) p
+
 pub record Ready (p : Parser) (st : State) : Type 0 where
   pub elements : HasElements (state_count st) p
-  pub taken : IsTrue (takes_innermost st p.frames.stack.items)
+  pub may_come : MayCome st p
 
--- There are elements for all frames, and n more; and an atom may begin.
-pub record CanBegin (n : ℕ) (p : Parser) : Type 0 where
+-- There are elements for all frames, and n more; and the innermost frame waits for this.
+pub record CanMake (m : Made) (n : ℕ) (p : Parser) : Type 0 where
   pub elements : HasElements n p
-  pub taken : IsTrue (takes_innermost state.Next p.frames.stack.items)
+  pub awaits : Awaits m p
+
+-- .. an atom may begin
+abbrev pub CanBegin : ℕ → Parser → Type 0
+CanBegin = CanMake core_made
 
 -- a number begins with this digit, in a context of this alphabet
 abbrev pub NumberBegins : Option CodeAlphabet → ℕ → Start → Parser → Type 0
@@ -136,6 +180,99 @@ NumberBegins a digit s p = (c : Context) × (option_map alphabet_of a ≡ (conte
 -- a point was taken, in a context of this alphabet
 abbrev pub PointBegins : Option CodeAlphabet → Start → Parser → Type 0
 PointBegins a s p = (c : Context) × (option_map alphabet_of a ≡ (context_of c).alphabet) × Begins (after_point (context_of c)) 0 s p
+
+-- the frame is the innermost one
+abbrev pub InnermostIs : Frame → Parser → Type 0
+InnermostIs f p = (others : List Frame) × IsInnermost p.style p.frames.stack.items f others
+
+-- the place that takes the operand, if the frame waits for one
+abbrev pub operand_place : Frame → Option ℕ
+operand_place (frame.Last made place c) = Some place
+operand_place (frame.First one place c) = Some place
+operand_place (frame.Script base scripts on place c) = Some place
+operand_place f = None
+
+-- .. and the innermost frame does
+abbrev pub AwaitsOperand : ℕ → Parser → Type 0
+AwaitsOperand place p = (f : Frame) × InnermostIs f p × (operand_place f ≡ Some place)
+
+abbrev pub AwaitsCore : ℕ → Parser → Type 0
+AwaitsCore place p = (c : Context) × InnermostIs (frame.Negation place c) p
+
+abbrev pub AwaitsAtom : Ending → ℕ → CodeRow → Parser → Type 0
+AwaitsAtom e place xs p = (c : Context) × InnermostIs (frame.Row e place c xs) p
+
+-- The unit was taken where what is due was to be read.
+pub record Took (u : Unit) (s : Start) (p : Parser) : Type 0 where
+  pub style : s.style ≡ style_of p.style
+  pub before : Units
+  pub next : past_space before ≡ Next (unit_of u) (left_of p)
+  pub leads : Leads (level 0 s p) before
+
+-- The unit that was taken begins an atom without scripts.
+abbrev pub BeginsUnit : Unit → Start → Parser → Type 0
+BeginsUnit u s p = Begins (rule u.place (context_at (level 0 s p)) (piece_of u.piece)) 0 s p
+
+-- the mark of a unit
+abbrev pub mark_model : Mark → starts.Mark
+mark_model mark.Prime = starts.Prime
+mark_model (mark.Script side.Below) = starts.Below
+mark_model (mark.Script side.Above) = starts.Above
+mark_model (mark.Limits limits) = starts.LimitsAt (limit_place_of limits)
+
+-- The mark was taken after an atom with these scripts.
+pub record TookMark (m : Mark) (place : ℕ) (l : Level) (base : Atom) (scripts : Scripts) (s : Start) (p : Parser) : Type 0 where
+  pub style : s.style ≡ style_of p.style
+  pub before : Units
+  pub unit : grammar.Unit
+  pub next : past_space before ≡ Next unit (left_of p)
+  pub is : starts.mark_of unit.piece ≡ Some (mark_model m)
+  pub at : unit.place ≡ place
+  pub leads : ScriptsLead l base scripts before
+
+-- The uppermost element is the operand of a script of this atom.
+pub record TookScript (c : CodeCore) (scripts : CodeScripts) (on : Side) (s : Start) (p : Parser) : Type 0 where
+  pub style : s.style ≡ style_of p.style
+  pub leads : (class : Class) (high : Bool) → ScriptMade (level (primes_put on scripts.primes + (script_count scripts + 2)) s p) c scripts on (drop 1 (elements_of p))
+      (Read (record { element = top (elements_of p); class = class; high = high }) (left_of p))
+
+-- The first of two operands was read; its element is uppermost.
+pub record FirstRead (one : First) (place : ℕ) (c : Context) (operand : CodeOperand) (s : Start) (p : Parser) : Type 0 where
+  pub style : s.style ≡ style_of p.style
+  pub leads : Then (after_first one place (context_of c) (context_at (level 1 s p))) (CoreMade (level 1 s p)) (Read (operand_with operand (top (elements_of p))) (left_of p))
+
+-- A unit that is this was taken at a place as a part of words behind these.
+pub record BeginsWordOf (ws : CodeWords) (piece : grammar.Piece) (place : ℕ) (a : Option Alphabet) (s : Start) (p : Parser) : Type 0 where
+  pub style : s.style ≡ style_of p.style
+  pub taken_at : ℕ
+  pub leads : WordLeads (level ws.count s p) taken_at a (words_with ws (elements_of p)) (Next (grammar.unit piece place) (left_of p))
+
+-- The words with this part behind them lead on.
+pub record WordGiven (ws : CodeWords) (w : Word) (s : Start) (p : Parser) : Type 0 where
+  pub style : s.style ≡ style_of p.style
+  pub leads : PartMade (level ws.count s p) (Read (with_word (words_with ws (elements_of p)) w) (left_of p))
+
+-- A delimiter within others is due.
+pub record BeginsDivider (s : Start) (p : Parser) : Type 0 where
+  pub style : s.style ≡ style_of p.style
+  pub leads : RuleLeads (takes_delimiter (λ text. gives (core (divider text)))) (λ o. AtomMade (level 0 s p) (as_atom o)) (left_of p)
+
+-- The uppermost element is that of an atom in the innermost row.
+pub record MadeAtom (c : CodeCore) (s : Start) (p : Parser) : Type 0 where
+  pub style : s.style ≡ style_of p.style
+  pub leads : AtomMade (level 1 s p) (Read (core_with c (top (elements_of p))).atom (left_of p))
+
+-- The row ends; its frame is taken off.
+pub record ClosesRow (e : Ending) (place : ℕ) (xs : CodeRow) (s : Start) (p : Parser) : Type 0 where
+  pub style : s.style ≡ style_of p.style
+  pub leads : RowMade s e place (drop xs.count (elements_of p)) (level (xs.count + ending_count e) s p) (Read (row_with xs (elements_of p)) (left_of p))
+
+-- The text ends in a row.
+pub record EndsText (e : Ending) (place : ℕ) (xs : CodeRow) (s : Start) (p : Parser) : Type 0 where
+  pub style : s.style ≡ style_of p.style
+  pub at : ℕ
+  pub ends : unended (ending_of e place) ≡ None → Whole s (Read (row_with xs (elements_of p)) (End at))
+  pub refuses : (r : Refusal) → unended (ending_of e place) ≡ Some r → Whole s (Refused r)
 
 -- how much a frame still brings; the row of the whole text may be begun where nothing is read
 abbrev pub frame_weight : Frame → ℕ
@@ -165,3 +302,8 @@ pub record Follows (bound : ℕ) (p : Parser) (st : State) : Type 0 where
 -- after a step, at most so much more is left to do than what was left before it
 abbrev pub IsStep : ℕ → Parser → Parser → Result State AllocError → Type 0
 IsStep more old new answer = IfOk answer (Follows (to_do old + more) new)
+
+-- the last state: the formula is read, or it is refused
+abbrev pub last_state : Option ℕ → State
+last_state (Some count) = state.End count
+last_state None = state.Refused

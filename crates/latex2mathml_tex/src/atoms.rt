@@ -5,9 +5,10 @@ ghost use Rattle.latex2mathml_tex_grammar.specs.Makes;
 ghost use Rattle.latex2mathml_tex_grammar.specs.Rows;
 ghost use Rattle.latex2mathml_tex_grammar.specs.Symbols.{smaller};
 ghost use Rattle.latex2mathml_tex.specs.Meanings.{class_of, limit_place_of, style_of};
-ghost use Rattle.latex2mathml_tex.specs.{Innermost.empty_row, Models.before_of, Models.kind_of};
+ghost use Rattle.latex2mathml_tex.specs.{Frames.has_script, Innermost.empty_row, Models.before_of, Models.kind_of};
 
 use crate::meaning::{Alphabet, Class, LimitPlace, Style};
+use latex2mathml_builder::attributes::Side;
 
 impl Style {
     /// The style of the parts of a fraction.
@@ -280,6 +281,16 @@ impl Scripts {
             above: false,
             is_exchanged: false,
             limits,
+        }
+    }
+
+    /// Whether a script stands on this side.
+    pub(crate) fn has(self, side: Side) -> bool
+        ensures { result ≡ has_script side self }
+    {
+        match side {
+            Side::Below => self.below,
+            Side::Above => self.above,
         }
     }
 }

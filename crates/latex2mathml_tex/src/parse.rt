@@ -5,10 +5,12 @@ ghost use Rattle.std.specs.Str.{chars};
 ghost use Rattle.latex2mathml_tex_grammar.specs.{Cutting.units_of, Next.past_space, Next.refusal_here};
 ghost use Rattle.latex2mathml_tex_grammar.specs.Refusal.{MissingDelimiter, refusal_at};
 ghost use Rattle.latex2mathml_tex.specs.{Errors.refusal_of, Frames.Start, Frames.element_count, Left.units_at, Levels.Leads, Meanings.style_of, Taking.kind_of};
-ghost use Rattle.latex2mathml_tex.specs.Steps.{HasElements, Holds, IsStep, frame_weight, left_of, level_within, takes};
+ghost use Rattle.latex2mathml_tex.specs.Steps.{CanMake, Holds, IsStep, accepts, core_made, frame_weight, left_of, level_within, makes};
 
 pub(crate) mod frames;
 mod leaves;
+pub(crate) mod scripts;
+mod words;
 
 use crate::atoms::{Core, Operand, Scripts, Words};
 use crate::error::{TexError, TexErrorKind};
@@ -81,8 +83,8 @@ impl<'a> Parser<'a> {
 
     /// Begins something. What it waits for is due then.
     pub(crate) fn open(&mut self, frame: Frame) -> Result<State, AllocError>
-        requires elements { HasElements (element_count frame) self.old }
-        requires taken { IsTrue (takes State.Next frame) }
+        requires can { CanMake (makes frame) (element_count frame) self.old }
+        requires accepts { IsTrue (accepts core_made frame) }
         ensures holds { (s : Start) → s.style ≡ style_of self.old.style → Leads (level_within frame 0 s self.old) (left_of self.old) → IfOk result (Holds s self.new) }
         ensures step { IsStep (frame_weight frame + 2) self.old self.new result }
     {

@@ -1,0 +1,120 @@
+-- An atom with its scripts: the base below them changed, and all of them made one element.
+use Rattle.std.proofs.Common.{◌≡◌, ℕ, ◌+◌, ◌-◌, ◌≤◌, Bool, false, true, zero, suc, List, [], ◌∷◌, Option, None, length, drop, arith, refl, sym, ap, ◌∙◌}
+use Rattle.std.proofs.lemmas.List.{length-drop}
+use Rattle.latex2mathml_elements.specs.Element.{Element}
+use Rattle.latex2mathml_tex_grammar.specs.Atoms.{Atom, Kind, atom}
+use Rattle.latex2mathml_tex_grammar.specs.Makes.{Scripts, are_stacked, fixed_base, scripted, scripted_atom, scripted_kind, superscript, with_scripts}
+use Rattle.latex2mathml_tex_grammar.specs.Meaning.{LimitPlace}
+use Rattle.latex2mathml_tex_grammar.specs.Symbols.{Style}
+use Rattle.latex2mathml_tex.proofs.Shaping.{length_changed}
+use Rattle.latex2mathml_tex.specs.Meanings.{limit_place_of}
+use Rattle.latex2mathml_tex.specs.Models.{element_above, element_below, one_if, script_count, scripts_with, top}
+use Rattle.latex2mathml_tex.specs.Shapes.{changed_at}
+use Rattle.latex2mathml_tex.specs.declared.atoms.Scripts.{Scripts as CodeScripts}
+use Rattle.latex2mathml_tex.specs.declared.meaning.LimitPlace.{LimitPlace as CodeLimitPlace}
+use Rattle.latex2mathml_tex.specs.declared.meaning.LimitPlace.TheVariants as code_limit_place
+
+-- a base whose limits may move stays what it is
+pub not_fixed : (limits : CodeLimitPlace) → (limits ≡ code_limit_place.Stacked → ⊥) → (x : Element) → fixed_base (limit_place_of limits) x ≡ x
+not_fixed code_limit_place.Stacked other x = absurd (other refl)
+not_fixed limits other x = refl
+
+next : (n : ℕ) → n + 1 ≡ suc n
+next n = omega arith
+
+drop_next : (n : ℕ) (xs : List Element) → drop (suc n) xs ≡ drop 1 (drop n xs)
+drop_next zero xs = refl
+drop_next (suc n) [] = refl
+drop_next (suc n) (x ∷ xs) = drop_next n xs
+
+-- The base changed
+
+module _ (f : Element → Element) where
+  base_changed : (n : ℕ) (xs : List Element) → n + 1 ≤ length xs → top (drop n (changed_at f n xs)) ≡ f (top (drop n xs))
+  base_changed n [] enough = absurd (omega (arith, enough))
+  base_changed zero (x ∷ xs) enough = refl
+  base_changed (suc n) (x ∷ xs) enough = base_changed n xs (omega (arith, enough))
+
+  -- .. which leaves what is below it, ..
+  below_changed : (n : ℕ) (xs : List Element) → drop (suc n) (changed_at f n xs) ≡ drop (suc n) xs
+  below_changed n [] = refl
+  below_changed zero (x ∷ xs) = refl
+  below_changed (suc n) (x ∷ xs) = below_changed n xs
+
+  -- .. and the scripts
+  subscript_kept : (below above is_exchanged : Bool) (xs : List Element) → element_below below above is_exchanged (changed_at f (one_if below + one_if above) xs) ≡ element_below below above is_exchanged xs
+  subscript_kept false above is_exchanged xs = refl
+  subscript_kept true false is_exchanged [] = refl
+  subscript_kept true false is_exchanged (x ∷ xs) = refl
+  subscript_kept true true is_exchanged [] = refl
+  subscript_kept true true false (x ∷ []) = refl
+  subscript_kept true true false (x ∷ y ∷ xs) = refl
+  subscript_kept true true true (x ∷ xs) = refl
+
+  superscript_kept : (below above is_exchanged : Bool) (xs : List Element) → element_above below above is_exchanged (changed_at f (one_if below + one_if above) xs) ≡ element_above below above is_exchanged xs
+  superscript_kept below false is_exchanged xs = refl
+  superscript_kept false true is_exchanged [] = refl
+  superscript_kept false true is_exchanged (x ∷ xs) = refl
+  superscript_kept true true is_exchanged [] = refl
+  superscript_kept true true false (x ∷ xs) = refl
+  superscript_kept true true true (x ∷ []) = refl
+  superscript_kept true true true (x ∷ y ∷ xs) = refl
+
+-- The atom
+
+no_subscript : (below above is_exchanged : Bool) (xs : List Element) → element_below below above is_exchanged xs ≡ None → below ≡ false
+no_subscript false above is_exchanged xs none = refl
+no_subscript true false is_exchanged xs none = cc
+no_subscript true true false xs none = cc
+no_subscript true true true xs none = cc
+
+no_superscript : (below above is_exchanged : Bool) (xs : List Element) → element_above below above is_exchanged xs ≡ None → above ≡ false
+no_superscript below false is_exchanged xs none = refl
+no_superscript false true is_exchanged xs none = cc
+no_superscript true true false xs none = cc
+no_superscript true true true xs none = cc
+
+with_some : (style : Style) (base : Atom) (scripts : Scripts) (below above : Option Element) → (below ≡ None → above ≡ None → ⊥) → atom (scripted_kind base.kind) true (with_scripts (are_stacked style scripts.limits) (fixed_base scripts.limits base.element) below above) ≡ scripted_atom style base scripts below above
+with_some style base scripts None None some = absurd (some refl refl)
+with_some style base scripts below above some = refl
+
+assembled : (style : Style) (base : Atom) (scripts : Scripts) (kind : Kind) (limits : LimitPlace) (x : Element) (below above : Option Element) → kind ≡ scripted_kind base.kind → x ≡ fixed_base limits base.element → limits ≡ scripts.limits → below ≡ scripts.below → above ≡ superscript scripts.primes scripts.above → (below ≡ None → above ≡ None → ⊥) → atom kind true (with_scripts (are_stacked style limits) x below above) ≡ scripted style base scripts
+assembled style base scripts kind limits x below above k p q r s some =
+    rw (k, p, q, r, s) (with_some style base scripts scripts.below (superscript scripts.primes scripts.above) (λ b a. some (r ∙ b) (s ∙ a)))
+
+-- scripts, and the same with a mark of their primes, each with the elements beside it
+module _ (scripts whole : CodeScripts) (xs ys : List Element) (same : scripts_with whole ys ≡ record (scripts_with scripts xs) { above = superscript scripts.primes (scripts_with scripts xs).above }) (base : drop (script_count whole) ys ≡ drop (script_count scripts) xs) (enough : script_count scripts + 1 ≤ length xs) where
+  room : script_count whole + 1 ≤ length ys
+  room =
+      let n = script_count whole in
+      let m = script_count scripts in
+      let left : length ys - n ≡ length xs - m = sym (length-drop n ys) ∙ ap length base ∙ length-drop m xs in
+      omega (arith, left, enough)
+
+  abbrev fixed : List Element
+  fixed = changed_at (fixed_base (limit_place_of whole.limits)) (script_count whole) ys
+
+  pub room_fixed : script_count whole + 1 ≤ length fixed
+  room_fixed = omega (arith, room, length_changed (fixed_base (limit_place_of whole.limits)) (script_count whole) ys)
+
+  pub left_below : drop (script_count whole + 1) fixed ≡ drop (script_count scripts + 1) xs
+  left_below =
+      ap (λ n. drop n fixed) (next (script_count whole))
+      ∙ below_changed (fixed_base (limit_place_of whole.limits)) (script_count whole) ys
+      ∙ drop_next (script_count whole) ys
+      ∙ ap (drop 1) base
+      ∙ sym (drop_next (script_count scripts) xs)
+      ∙ ap (λ n. drop n xs) (sym (next (script_count scripts)))
+
+  pub made : (style : Style) (kind scripted_as : Kind) (high is_stacked : Bool) (zs : List Element) → scripted_as ≡ scripted_kind kind → is_stacked ≡ are_stacked style (limit_place_of whole.limits) → zs ≡ fixed → (whole.below ≡ false → whole.above ≡ false → ⊥) → atom scripted_as true (with_scripts is_stacked (top (drop (script_count whole) zs)) (scripts_with whole zs).below (scripts_with whole zs).above) ≡ scripted style (atom kind high (top (drop (script_count scripts) xs))) (scripts_with scripts xs)
+  made style kind scripted_as high is_stacked zs k t z some =
+      let limits = limit_place_of whole.limits in
+      let f = fixed_base limits in
+      rw (t, z)
+      (assembled style (atom kind high (top (drop (script_count scripts) xs))) (scripts_with scripts xs) scripted_as limits _ _ _
+      k
+      (base_changed f (script_count whole) ys room ∙ ap (λ l. f (top l)) base)
+      (ap (λ s. s.limits) same)
+      (subscript_kept f whole.below whole.above whole.is_exchanged ys ∙ ap (λ s. s.below) same)
+      (superscript_kept f whole.below whole.above whole.is_exchanged ys ∙ ap (λ s. s.above) same)
+      (λ b a. some (no_subscript whole.below whole.above whole.is_exchanged fixed b) (no_superscript whole.below whole.above whole.is_exchanged fixed a)))

@@ -1,0 +1,238 @@
+//! Scripts: what stands after an atom.
+ghost use Rattle.std.specs.Prelude.{◌≡◌, ◌+◌, ◌≤◌, ◌∷◌, IfOk, None, OnOk, Some, drop, length, option_map};
+ghost use Rattle.latex2mathml_elements.specs.{Attributes.plain, Element.Element, Element.pair, Element.triple};
+ghost use Rattle.latex2mathml_builder.specs.{Built.elements_in, Names.pair_of, Names.triple_of};
+ghost use Rattle.latex2mathml_tex_grammar.specs.Makes;
+ghost use Rattle.latex2mathml_tex_grammar.specs.Starts;
+ghost use Rattle.latex2mathml_tex.specs.{Errors.second_on, Frames.Start, Frames.base_of, Frames.primes_put, Meanings.limit_place_of, Meanings.style_of, Shapes.changed_at, Taking.piece_of};
+ghost use Rattle.latex2mathml_tex.specs.Models.{core_with, script_count, scripts_with, top};
+ghost use Rattle.latex2mathml_tex.specs.Steps.{CanMake, Holds, IsStep, TookMark, TookScript, atom_made, elements_of, level, mark_model};
+
+use crate::atoms::{Core, Scripts};
+use crate::error::TexErrorKind;
+use crate::meaning::{LimitPlace, Style};
+use crate::parse::frames::Frame;
+use crate::parse::{Parser, State};
+use crate::shapes::{fix_limits, put_primes, put_row};
+use crate::unit::{Next, Piece};
+use latex2mathml_builder::attributes::{Attributes, Side};
+use latex2mathml_builder::builder::Builder;
+use latex2mathml_builder::tag::{Pair, Triple};
+use std::alloc::AllocError;
+
+/// What goes on with an atom.
+#[derive(Clone, Copy)]
+pub(crate) enum Mark {
+    Prime,
+    Script(Side),
+    /// Where its limits are to stand.
+    Limits(LimitPlace),
+}
+
+/// The mark that a unit is, if it is one.
+pub(crate) fn mark_of(piece: Piece) -> Option<Mark>
+    ensures { option_map mark_model result ≡ Starts.mark_of (piece_of piece.entry) }
+{
+    match piece {
+        Piece::Character('\'') => Some(Mark::Prime),
+        Piece::Character('_') => Some(Mark::Script(Side::Below)),
+        Piece::Character('^') => Some(Mark::Script(Side::Above)),
+        Piece::Command("limits") => Some(Mark::Limits(LimitPlace::Stacked)),
+        Piece::Command("nolimits") => Some(Mark::Limits(LimitPlace::Beside)),
+        _ => None,
+    }
+}
+
+impl<'a> Parser<'a> {
+    /// Goes on with a mark, which was taken.
+    pub(crate) fn take_mark(
+        &mut self,
+        mark: Mark,
+        place: usize,
+        core: Core,
+        scripts: Scripts,
+    ) -> Result<State, AllocError>
+        requires { CanMake atom_made (script_count scripts + 1) self.old }
+        ensures holds { (s : Start) → TookMark mark place (level (script_count scripts + 1) s self.old) (base_of core scripts (elements_of self.old)).atom (scripts_with scripts (elements_of self.old)) s self.old → IfOk result (Holds s self.new) }
+        ensures step { IsStep 13 self.old self.new result }
+    {
+        match mark {
+            Mark::Limits(limits) => Ok(State::Atom(core, Scripts { limits, ..scripts })),
+            Mark::Prime => {
+                if scripts.above {
+                    return Ok(self.refuse(TexErrorKind::SecondSuperscript, place));
+                }
+                // no text is so long that the number has no room
+                let Some(primes) = scripts.primes.checked_add(1) else {
+                    return Err(AllocError);
+                };
+                Ok(State::Atom(core, Scripts { primes, ..scripts }))
+            }
+            Mark::Script(side) => {
+                if scripts.has(side) {
+                    return Ok(self.refuse(second_on(side), place));
+                }
+                if let Side::Above = side
+                    && scripts.primes > 0
+                {
+                    put_primes(&mut self.builder, scripts.primes)?;
+                }
+                let context = self
+                    .frames
+                    .innermost(self.style)
+                    .context()
+                    .styled(Style::InScript);
+                self.open(Frame::Script(core, scripts, side, place, context))
+            }
+        }
+    }
+
+    /// Goes on after an operand that is a script.
+    pub(crate) fn with_script(
+        &mut self,
+        core: Core,
+        scripts: Scripts,
+        side: Side,
+    ) -> Result<State, AllocError>
+        requires { CanMake atom_made (primes_put side scripts.primes + (script_count scripts + 2)) self.old }
+        ensures holds { (s : Start) → TookScript core scripts side s self.old → IfOk result (Holds s self.new) }
+        ensures step { IsStep 3 self.old self.new result }
+    {
+        Ok(State::Atom(
+            core,
+            match side {
+                Side::Below => Scripts {
+                    below: true,
+                    is_exchanged: scripts.above,
+                    ..scripts
+                },
+                Side::Above => {
+                    if scripts.primes > 0 {
+                        put_row(&mut self.builder, 2)?;
+                    }
+                    Scripts {
+                        above: true,
+                        is_exchanged: false,
+                        ..scripts
+                    }
+                }
+            },
+        ))
+    }
+}
+
+/// Why a second script on this side is refused.
+fn second_on(side: Side) -> TexErrorKind
+    ensures { result ≡ second_on side }
+{
+    match side {
+        Side::Below => TexErrorKind::SecondSubscript,
+        Side::Above => TexErrorKind::SecondSuperscript,
+    }
+}
+
+/// An atom with its scripts, whose elements are uppermost, in this style.
+fn scripted(
+    builder: &mut Builder,
+    style: Style,
+    core: Core,
+    scripts: Scripts,
+) -> Result<Core, AllocError>
+    requires { script_count scripts + 1 ≤ length (elements_in builder.old) }
+    ensures atom { IfOk result (λ made. (core_with made (top (elements_in builder.new))).atom
+        ≡ Makes.scripted (style_of style) (base_of core scripts (elements_in builder.old)).atom (scripts_with scripts (elements_in builder.old))) }
+    ensures below { IfOk result (λ made. drop 1 (elements_in builder.new) ≡ drop (script_count scripts + 1) (elements_in builder.old)) }
+    ensures count { IfOk result (λ made. 1 ≤ length (elements_in builder.new)) }
+{
+    let scripts = with_primes(builder, scripts)?;
+    if !scripts.below && !scripts.above {
+        return Ok(core);
+    }
+    fix_base(builder, scripts);
+    put_scripts(builder, style.stacks(scripts.limits), scripts)?;
+    Ok(Core {
+        kind: core.kind.with_scripts(),
+        high: true,
+        limits: core.limits,
+    })
+}
+
+/// The scripts with a mark of the primes as the superscript, if they have no other one.
+fn with_primes(builder: &mut Builder, scripts: Scripts) -> Result<Scripts, AllocError>
+    ensures scripts { IfOk result (λ whole. scripts_with whole (elements_in builder.new)
+        ≡ record (scripts_with scripts (elements_in builder.old)) {
+          above = Makes.superscript scripts.primes (scripts_with scripts (elements_in builder.old)).above;
+        }) }
+    ensures below { IfOk result (λ whole. drop (script_count whole) (elements_in builder.new)
+        ≡ drop (script_count scripts) (elements_in builder.old)) }
+{
+    if scripts.above || scripts.primes == 0 {
+        return Ok(scripts);
+    }
+    put_primes(builder, scripts.primes)?;
+    Ok(Scripts {
+        above: true,
+        is_exchanged: false,
+        ..scripts
+    })
+}
+
+/// Keeps the browser from moving the limits of the base of these scripts, where they are to stay.
+fn fix_base(builder: &mut Builder, scripts: Scripts)
+    ensures { elements_in builder.new
+        ≡ changed_at (Makes.fixed_base (limit_place_of scripts.limits)) (script_count scripts) (elements_in builder.old) }
+{
+    if let LimitPlace::Stacked = scripts.limits {
+        fix_limits(
+            builder,
+            usize::from(scripts.below) + usize::from(scripts.above),
+        );
+    }
+}
+
+/// Makes one element of the uppermost ones, which are a base and these scripts.
+fn put_scripts(builder: &mut Builder, is_stacked: bool, scripts: Scripts) -> Result<(), AllocError>
+    requires { script_count scripts + 1 ≤ length (elements_in builder.old) }
+    ensures { OnOk result (elements_in builder.new
+        ≡ Makes.with_scripts is_stacked
+        (top (drop (script_count scripts) (elements_in builder.old)))
+        (scripts_with scripts (elements_in builder.old)).below
+        (scripts_with scripts (elements_in builder.old)).above
+        ∷ drop (script_count scripts + 1) (elements_in builder.old)) }
+{
+    let plain = Attributes::plain();
+    match (scripts.below, scripts.above) {
+        (false, false) => Ok(()),
+        (true, false) => builder.pair(pair_below(is_stacked), plain, false),
+        (false, true) => builder.pair(pair_above(is_stacked), plain, false),
+        (true, true) => builder.triple(triple_for(is_stacked), plain, scripts.is_exchanged),
+    }
+}
+
+/// The element of a base with a subscript.
+fn pair_below(is_stacked: bool) -> Pair
+    ensures { (base below : Element) → Makes.with_scripts is_stacked base (Some below) None
+        ≡ pair (pair_of result) plain base below }
+{
+    if is_stacked { Pair::Munder } else { Pair::Msub }
+}
+
+/// The element of a base with a superscript.
+fn pair_above(is_stacked: bool) -> Pair
+    ensures { (base above : Element) → Makes.with_scripts is_stacked base None (Some above)
+        ≡ pair (pair_of result) plain base above }
+{
+    if is_stacked { Pair::Mover } else { Pair::Msup }
+}
+
+/// The element of a base with a subscript and a superscript.
+fn triple_for(is_stacked: bool) -> Triple
+    ensures { (base below above : Element) → Makes.with_scripts is_stacked base (Some below) (Some above)
+        ≡ triple (triple_of result) plain base below above }
+{
+    if is_stacked {
+        Triple::Munderover
+    } else {
+        Triple::Msubsup
+    }
+}
