@@ -81,6 +81,10 @@ pub record Built : Type 0 where
   pub settled : List Part
   pub stack : List Part
 
+-- nothing at all
+abbrev pub nothing : Built
+nothing = record { texts = []; settled = []; stack = [] }
+
 -- the settled elements
 abbrev pub settled_in : Built → List Element
 settled_in b = settled_on b.texts [] b.settled

@@ -1,9 +1,9 @@
 //! The stack of open elements.
-ghost use Rattle.std.specs.Prelude.{◌≡◌, ◌+◌, ◌-◌, ◌<◌, ◌≤◌, ◌∷◌, ◌++◌, [], false, true, IfOk, MatchOption, None, OnErr, OnOk, Some, drop, length, reverse, take};
+ghost use Rattle.std.specs.Prelude.{◌≡◌, ◌⊎◌, ◌+◌, ◌-◌, ◌<◌, ◌≤◌, ◌∷◌, ◌++◌, [], false, true, IfOk, MatchOption, None, OnErr, OnOk, Some, drop, length, reverse, take};
 ghost use Rattle.std.specs.Char.{encode_utf8};
 ghost use Rattle.latex2mathml_elements.specs.{Attributes.plain, Element.Mrow};
 ghost use Rattle.latex2mathml_elements.specs.Element.{children, container, space, token};
-ghost use Rattle.latex2mathml_builder.specs.Built.{Fits, HasText, between, element_of, elements_in, is_token_part, settled_in};
+ghost use Rattle.latex2mathml_builder.specs.Built.{Fits, HasText, between, element_of, elements_in, is_token_part, nothing, settled_in};
 ghost use Rattle.latex2mathml_builder.specs.Names.{attributes_of, container_of, pair_of, token_of, triple_of};
 ghost use Rattle.latex2mathml_builder.specs.Stacks.{are_tokens, given, is_token, joined, lengthened, ordered, pair_with, token_at, triple_with};
 
@@ -16,7 +16,7 @@ use std::marker::Model;
 /// Elements that are open: each is one on its own, until an element is made of it. The last one is uppermost. By
 /// `elements_in`, contracts speak of the list of them, the uppermost first.
 ///
-/// An `Err` is out of memory. It leaves elements of which nothing is promised: `clear` drops them.
+/// An `Err` is out of memory, and leaves all as it was. Only `text` and `character` may leave their element without its text.
 #[derive(Drop)]
 pub struct Builder {
     /// The texts of the tokens, one after the other.
@@ -41,7 +41,7 @@ impl Model for Builder {
 impl Builder {
     /// No elements.
     pub fn new(alloc: Global) -> Builder
-        ensures elements { elements_in result ≡ [] }
+        ensures { result ≡ nothing }
     {
         Builder {
             texts: String::new(alloc),
@@ -50,9 +50,9 @@ impl Builder {
         }
     }
 
-    /// Drops all elements, and keeps their room.
+    /// Drops all elements, those that are children of others and all texts too, and keeps their room.
     pub fn clear(&mut self)
-        ensures elements { elements_in self.new ≡ [] }
+        ensures { self.new ≡ nothing }
     {
         self.texts.clear();
         self.settled.clear();
@@ -69,6 +69,7 @@ impl Builder {
     /// Puts an element that holds a text, which is empty at first.
     pub fn token(&mut self, tag: Token, attributes: Attributes) -> Result<(), AllocError>
         ensures elements { OnOk result (elements_in self.new ≡ token (token_of tag) (attributes_of attributes) [] ∷ elements_in self.old) }
+        ensures err { OnErr result (self.new ≡ self.old) }
     {
         let end = self.texts.len();
         self.stack.push(Part::Token(tag, attributes, end, end))?;
@@ -78,6 +79,7 @@ impl Builder {
     /// Puts an element that holds this text.
     pub fn text(&mut self, tag: Token, attributes: Attributes, text: &str) -> Result<(), AllocError>
         ensures elements { OnOk result (elements_in self.new ≡ token (token_of tag) (attributes_of attributes) text.now ∷ elements_in self.old) }
+        ensures err { OnErr result ((self.new ≡ self.old) ⊎ (elements_in self.new ≡ token (token_of tag) (attributes_of attributes) [] ∷ elements_in self.old)) }
     {
         self.token(tag, attributes)?;
         self.push_str(text)?;
@@ -92,6 +94,7 @@ impl Builder {
         c: char,
     ) -> Result<(), AllocError>
         ensures elements { OnOk result (elements_in self.new ≡ token (token_of tag) (attributes_of attributes) (encode_utf8 c) ∷ elements_in self.old) }
+        ensures err { OnErr result ((self.new ≡ self.old) ⊎ (elements_in self.new ≡ token (token_of tag) (attributes_of attributes) [] ∷ elements_in self.old)) }
     {
         self.token(tag, attributes)?;
         self.push(c)?;
@@ -102,6 +105,7 @@ impl Builder {
     pub fn push_str(&mut self, text: &str) -> Result<bool, AllocError>
         ensures elements { OnOk result (elements_in self.new ≡ lengthened text.now (elements_in self.old)) }
         ensures is_token { IfOk result (λ b. b ≡ is_token (elements_in self.old)) }
+        ensures err { OnErr result (self.new ≡ self.old) }
     {
         let Some(&Part::Token(tag, attributes, start, _)) = self.stack.as_slice().last() else {
             return Ok(false);
@@ -116,6 +120,7 @@ impl Builder {
     pub fn push(&mut self, c: char) -> Result<bool, AllocError>
         ensures elements { OnOk result (elements_in self.new ≡ lengthened (encode_utf8 c) (elements_in self.old)) }
         ensures is_token { IfOk result (λ b. b ≡ is_token (elements_in self.old)) }
+        ensures err { OnErr result (self.new ≡ self.old) }
     {
         let Some(&Part::Token(tag, attributes, start, _)) = self.stack.as_slice().last() else {
             return Ok(false);
@@ -129,6 +134,7 @@ impl Builder {
     /// Puts a space, in eighteenths of an em.
     pub fn space(&mut self, width: i32) -> Result<(), AllocError>
         ensures elements { OnOk result (elements_in self.new ≡ space width ∷ elements_in self.old) }
+        ensures err { OnErr result (self.new ≡ self.old) }
     {
         self.stack.push(Part::Space(width))?;
         Ok(())
@@ -138,6 +144,7 @@ impl Builder {
     pub fn space_below(&mut self, width: i32) -> Result<(), AllocError>
         requires { 0 < length (elements_in self.old) }
         ensures elements { OnOk result (elements_in self.new ≡ take 1 (elements_in self.old) ++ (space width ∷ drop 1 (elements_in self.old))) }
+        ensures err { OnErr result (self.new ≡ self.old) }
     {
         let last = self.stack.as_slice().len() - 1;
         self.stack.push(self.stack[last])?;
@@ -206,6 +213,7 @@ impl Builder {
         requires { count ≤ length (elements_in self.old) }
         ensures elements { OnOk result (elements_in self.new
             ≡ container (container_of tag) (attributes_of attributes) (children (reverse (take count (elements_in self.old)))) ∷ drop count (elements_in self.old)) }
+        ensures err { OnErr result (self.new ≡ self.old) }
     {
         if count == 0 {
             self.stack.push(Part::Container(tag, attributes, 0, 0))?;
@@ -225,6 +233,7 @@ impl Builder {
         requires { 2 ≤ length (elements_in self.old) }
         ensures elements { OnOk result (elements_in self.new
             ≡ pair_with (pair_of tag) (attributes_of attributes) (ordered is_exchanged (reverse (take 2 (elements_in self.old)))) ∷ drop 2 (elements_in self.old)) }
+        ensures err { OnErr result (self.new ≡ self.old) }
     {
         let first = self.settled.as_slice().len();
         self.wrap(2, is_exchanged, Part::Pair(tag, attributes, first))
@@ -235,6 +244,7 @@ impl Builder {
         requires { 3 ≤ length (elements_in self.old) }
         ensures elements { OnOk result (elements_in self.new
             ≡ container Mrow plain (children (ordered true (reverse (take 3 (elements_in self.old))))) ∷ drop 3 (elements_in self.old)) }
+        ensures err { OnErr result (self.new ≡ self.old) }
     {
         let first = self.settled.as_slice().len();
         self.wrap(
@@ -254,6 +264,7 @@ impl Builder {
         requires { 3 ≤ length (elements_in self.old) }
         ensures elements { OnOk result (elements_in self.new
             ≡ triple_with (triple_of tag) (attributes_of attributes) is_exchanged (reverse (take 3 (elements_in self.old))) ∷ drop 3 (elements_in self.old)) }
+        ensures err { OnErr result (self.new ≡ self.old) }
     {
         let first = self.settled.as_slice().len();
         self.wrap(3, false, Part::Triple(tag, attributes, first, is_exchanged))
@@ -268,6 +279,7 @@ impl Builder {
         requires no_token { is_token_part whole ≡ false }
         ensures elements { OnOk result (elements_in self.new
             ≡ element_of self.old.texts (settled_in self.old ++ ordered is_exchanged (reverse (take count (elements_in self.old)))) whole ∷ drop count (elements_in self.old)) }
+        ensures err { OnErr result (self.new ≡ self.old) }
     {
         let start = self.stack.as_slice().len() - count;
         settle(&mut self.settled, &self.stack[start..], is_exchanged)?;

@@ -1,6 +1,8 @@
 //! What is still to be written.
+ghost use Rattle.std.specs.Prelude.{◌≡◌, []};
 
 use std::alloc::Global;
+use std::marker::Model;
 
 /// Room for what is still to be written, which one formula leaves to the next.
 #[derive(Drop)]
@@ -8,9 +10,20 @@ pub struct Works {
     pub(crate) list: Vec<Work>,
 }
 
+impl Model for Works {
+    ghost use Rattle.std.specs.Prelude.{List};
+    ghost use Rattle.latex2mathml_builder.specs.declared.works.Work.{Work};
+
+    ghost Value = { List Work };
+
+    ghost view = { λ w. w.list.items };
+}
+
 impl Works {
     /// No room yet.
-    pub fn new(alloc: Global) -> Works {
+    pub fn new(alloc: Global) -> Works
+        ensures { result ≡ [] }
+    {
         Works {
             list: Vec::new(alloc),
         }

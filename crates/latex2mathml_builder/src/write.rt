@@ -15,11 +15,13 @@ use std::alloc::AllocError;
 
 impl Builder {
     /// Appends the markup of so many of the uppermost elements, the lowest of them first. It does not recurse: what is still
-    /// to be written stands in `works`. The only `Err` is out of memory, for that list or for the text.
+    /// to be written stands in `works`. The only `Err` is out of memory, for that list or for the text. It may leave a part of
+    /// the markup behind the text.
     #[tactic(auto, using(std::proofs::lemmas::Grind::common_steps), unfolding(crate::specs::Due::AreIn))]
     pub fn write(&self, count: usize, works: &mut Works, out: &mut String) -> Result<(), AllocError>
         requires { count ≤ length (elements_in self.now) }
-        ensures { OnOk result (string_bytes out.new ≡ string_bytes out.old ++ prints (children (reverse (take count (elements_in self.now))))) }
+        ensures markup { OnOk result (string_bytes out.new ≡ string_bytes out.old ++ prints (children (reverse (take count (elements_in self.now))))) }
+        ensures none { OnOk result (works.new ≡ []) }
     {
         let list = &mut works.list;
         list.clear();

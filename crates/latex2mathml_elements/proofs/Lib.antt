@@ -1,2 +1,4 @@
+pub mod Characters
 pub mod OneElement
+pub mod Plain
 pub mod Settings

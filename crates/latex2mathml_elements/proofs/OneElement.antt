@@ -5,7 +5,7 @@ use Rattle.latex2mathml_elements.specs.Attributes.{Attributes}
 use Rattle.latex2mathml_elements.specs.Element.{Token, Mi, Mn, Mo, Mtext, Container, Mrow, Msqrt, Mstyle, Pair, Mfrac, Mroot, Msub, Msup, Munder, Mover, Triple, Msubsup, Munderover, Element, Elements, token, space, container, pair, triple, none, more as one_more}
 use Rattle.latex2mathml_elements.specs.Laws.{PrintAsElements}
 use Rattle.latex2mathml_elements.specs.Print.{container_name, formula_print, pair_name, print, prints, start_tag, token_name, triple_name}
-use Rattle.latex2mathml_elements.proofs.Settings.{settings}
+use Rattle.latex2mathml_elements.proofs.{Characters.allowed_print, Characters.dollar_free, Settings.settings}
 use Rattle.latex2mathml_trees.specs.{MathSchema.child_table, MathSchema.IsMathElement}
 use Rattle.latex2mathml_trees.specs.Markup.{Name, attribute, plain, open_tag, empty_tag, above, add, at_start, lowest, name_of, IsElement, OpenElements, Runs, is_attribute, is_name}
 use Rattle.latex2mathml_trees.proofs.Runs.{closed, content_leads, ending_as, joined, more, more-above, more-append, obeying, single, spelled_as, staying}
@@ -122,4 +122,6 @@ unfolding IsMathElement
 print_as_elements = record {
   elements = λ x. (called x, element_runs x at_start);
   formulas = math_element;
+  dollars = dollar_free;
+  characters = allowed_print;
 }

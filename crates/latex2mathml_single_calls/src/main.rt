@@ -9,6 +9,7 @@ use latex2mathml::{
     DisplayStyle, FileFault, Reading, Stream, convert_html, latex_to_mathml,
     latex_to_mathml_counted, read_document, replace,
 };
+use latex2mathml_tex::tex_to_mathml;
 use std::alloc::{AllocError, Global};
 use std::fmt::Display;
 use std::process::ExitCode;
@@ -63,6 +64,13 @@ fn steps(rt: &HostRuntime, latex: &str) -> io::Result<()> {
     )
 }
 
+fn tex_formula(rt: &HostRuntime, tex: &str) -> io::Result<()> {
+    mark(rt.alloc(), BEGINNING)?;
+    let answer = tex_to_mathml(rt.alloc(), "", tex, DisplayStyle::Inline);
+    mark(rt.alloc(), END)?;
+    tell(rt, &answer)
+}
+
 fn document(rt: &HostRuntime, input: &str) -> io::Result<()> {
     mark(rt.alloc(), BEGINNING)?;
     let answer = replace(rt.alloc(), input);
@@ -110,6 +118,7 @@ fn call(rt: &HostRuntime) -> io::Result<bool> {
         "latex_to_mathml" => formula(rt, text)?,
         "latex_to_mathml_counted" => counted_formula(rt, text)?,
         "steps" => steps(rt, text)?,
+        "tex_to_mathml" => tex_formula(rt, text)?,
         "replace" => document(rt, text)?,
         "read_document" => read(rt, text)?,
         "convert_html" => files(rt, text)?,

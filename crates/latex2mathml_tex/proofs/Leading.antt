@@ -4,11 +4,11 @@ use Rattle.latex2mathml_elements.specs.Element.{Element}
 use Rattle.latex2mathml_tex_grammar.specs.{Atoms.Atom, Delimiters.delimiter_of}
 use Rattle.latex2mathml_tex_grammar.specs.Makes.{Core, number, divider, Scripts, no_scripts, scripted}
 use Rattle.latex2mathml_tex_grammar.specs.{Meaning.Beside, Next.past_space, Next.next_are, Next.digits_next, Next.refusal_here}
-use Rattle.latex2mathml_tex_grammar.specs.Reading.{Outcome, Read, Refused, ReadsRule, rule_gives, rule_refuses, operand_read, operand_refused, core_read, core_refused, core_missing, core_stopped, atoms_read, atoms_refused, words_read, words_refused, units_taken, units_missing, digits_taken, delimiter_taken, delimiter_missing, group_operand, group_refused, digit_operand, other_operand, other_refused, no_operand, operand_at_end, operand_stopped, scripts_end, mark_taken, script_read, script_refused, second_script, ReadsAtom, divider_read, divider_refused, on_empty_row, base_read, base_refused, text_ends, never_ended, atoms_stopped, atoms_end, atom_read, atom_refused, word_stands, group_of_words, formula_read, formula_refused, words_in_alphabet, no_word, word_missing, word_at_end, word_stopped, words_end, words_never_ended, words_stopped, word_read, word_refused}
+use Rattle.latex2mathml_tex_grammar.specs.Reading.{Outcome, Read, Refused, ReadsRule, rule_gives, rule_refuses, operand_read, operand_refused, core_read, core_refused, core_missing, core_stopped, atoms_read, atoms_refused, words_read, words_refused, units_taken, units_missing, digits_taken, delimiter_taken, delimiter_missing, group_operand, group_refused, digit_operand, other_operand, other_refused, no_operand, operand_at_end, operand_stopped, scripts_end, mark_taken, script_read, script_refused, mark_refused, ReadsAtom, divider_read, divider_refused, on_empty_row, base_read, base_refused, text_ends, never_ended, atoms_stopped, atoms_end, atom_read, atom_refused, word_stands, group_of_words, formula_read, formula_refused, words_in_alphabet, no_word, word_missing, word_at_end, word_stopped, words_end, words_never_ended, words_stopped, word_read, word_refused}
 use Rattle.latex2mathml_tex_grammar.specs.Refusal.{Kind, MissingArgument, UnclosedBrace, MissingDelimiter, Refusal, refusal_at}
 use Rattle.latex2mathml_tex_grammar.specs.Rows.{Operand, Row, empty_row, single}
 use Rattle.latex2mathml_tex_grammar.specs.Rules.{Context, in_context, styled, Ending, InBraces, InDollars, Rule, gives, refuses, reads_operand, reads_core, reads_atoms, reads_words, takes_if, takes_digits, takes_delimiter, rule}
-use Rattle.latex2mathml_tex_grammar.specs.Starts.{DividerStart, ScriptStart, RuleStart, NoStart, GroupStart, DigitStart, OtherStart, atom_start, operand_start, mark_of, GoesOn, TakesOperand, Twice, step_of_mark, step_next, empty_base, ends, unended, is_close}
+use Rattle.latex2mathml_tex_grammar.specs.Starts.{DividerStart, ScriptStart, RuleStart, NoStart, GroupStart, DigitStart, OtherStart, atom_start, operand_start, mark_of, GoesOn, TakesOperand, Forbidden, step_of_mark, step_next, empty_base, ends, unended, is_close}
 use Rattle.latex2mathml_tex_grammar.specs.Symbols.{InText, InScript, Alphabet}
 use Rattle.latex2mathml_tex_grammar.specs.Units.{Piece, Unit, Units, Next, End, Stop}
 use Rattle.latex2mathml_tex_grammar.specs.Words.{Word, Words, no_words, with_word, IsWord, BeginsGroup, EndsGroup, BeginsFormula, TakesWords, NoWord, word_rule}
@@ -87,7 +87,7 @@ module _ {ending : Ending} {c : Context} {xs : Row} {K : Outcome Row → Type 0}
   pub divider_missing : {u : Unit} {m : Units} → past_space l ≡ Next u m → IsFalse (ends ending u.piece) → atom_start ending u.piece ≡ DividerStart → next_are (delimiter_of ∷ []) m ≡ None → Leads (row ending c xs K) l → K (Refused (refusal_here MissingDelimiter (past_space m)))
   divider_missing p e s d k = atom_due p e k _ (divider_refused s (delimiter_missing d))
 
-  pub scripts_due : {u : Unit} {m : Units} → past_space l ≡ Next u m → IsFalse (ends ending u.piece) → atom_start ending u.piece ≡ ScriptStart → Leads (row ending c xs K) l → ScriptsLead (row ending c xs K) empty_base (no_scripts Beside) (Next u m)
+  pub scripts_due : {u : Unit} {m : Units} → past_space l ≡ Next u m → IsFalse (ends ending u.piece) → atom_start ending u.piece ≡ ScriptStart → Leads (row ending c xs K) l → ScriptsLead (row ending c xs K) empty_base (no_scripts empty_base.kind Beside) (Next u m)
   scripts_due p e s k = λ o d. atom_due p e k o (on_empty_row s d)
 
   base_made : {u : Unit} {m : Units} → past_space l ≡ Next u m → IsFalse (ends ending u.piece) → atom_start ending u.piece ≡ RuleStart → Leads (row ending c xs K) l → (o : Outcome Core) → ReadsRule (rule u.place c u.piece) m o → CoreMade (row ending c xs K) o
@@ -111,8 +111,8 @@ module _ (ending : Ending) (c : Context) (xs : Row) (K : Outcome Row → Type 0)
   pub marked : {base : Atom} {scripts more : Scripts} {u : Unit} {m : Units} → past_space l ≡ Next u m → step_of_mark scripts (mark_of u.piece) ≡ Some (GoesOn more) → ScriptsLead (row ending c xs K) base scripts l → ScriptsLead (row ending c xs K) base more m
   marked p e k = λ o d. k o (mark_taken p e d)
 
-  pub script_twice : {base : Atom} {scripts : Scripts} {kind : Kind} {u : Unit} {m : Units} → past_space l ≡ Next u m → step_of_mark scripts (mark_of u.piece) ≡ Some (Twice kind) → ScriptsLead (row ending c xs K) base scripts l → K (Refused (refusal_at kind u.place))
-  script_twice p e k = k _ (second_script p e)
+  pub script_twice : {base : Atom} {scripts : Scripts} {kind : Kind} {u : Unit} {m : Units} → past_space l ≡ Next u m → step_of_mark scripts (mark_of u.piece) ≡ Some (Forbidden kind) → ScriptsLead (row ending c xs K) base scripts l → K (Refused (refusal_at kind u.place))
+  script_twice p e k = k _ (mark_refused p e)
 
   pub script_due : {base : Atom} {scripts : Scripts} {with_operand : Element → Scripts} {u : Unit} {m : Units} → past_space l ≡ Next u m → step_of_mark scripts (mark_of u.piece) ≡ Some (TakesOperand with_operand) → ScriptsLead (row ending c xs K) base scripts l → Leads (operand u.place (styled c InScript) (ScriptLeads (row ending c xs K) base with_operand)) m
   script_due p e k (Read x n) d = λ o ds. k o (script_read p e d ds)

@@ -8,11 +8,11 @@ use Rattle.latex2mathml_tex_grammar.specs.{Atoms.Atom, Meaning.LimitPlace, Next.
 use Rattle.latex2mathml_tex_grammar.specs.Symbols as class
 use Rattle.latex2mathml_tex_grammar.specs.Makes.{Scripts, behind_primes, prime_mark}
 use Rattle.latex2mathml_tex_grammar.specs.Reading.{Outcome, Read, Refused}
-use Rattle.latex2mathml_tex_grammar.specs.Refusal.{Kind, Refusal, SecondSubscript, SecondSuperscript, refusal_at}
+use Rattle.latex2mathml_tex_grammar.specs.Refusal.{Kind, LimitsWithoutOperator, Refusal, SecondSubscript, SecondSuperscript, refusal_at}
 use Rattle.latex2mathml_tex_grammar.specs.Rows.{Operand, row_element}
 use Rattle.latex2mathml_tex_grammar.specs.Rules.{styled}
 use Rattle.latex2mathml_tex_grammar.specs.Starts as starts
-use Rattle.latex2mathml_tex_grammar.specs.Starts.{GoesOn, TakesOperand, Twice, mark_of, step_of, step_of_mark}
+use Rattle.latex2mathml_tex_grammar.specs.Starts.{GoesOn, TakesOperand, Forbidden, mark_of, step_of, step_of_mark}
 use Rattle.latex2mathml_tex_grammar.specs.Units.{Unit, Units, Next}
 use Rattle.latex2mathml_tex.specs.Frames.{RowMade, ScriptMade, Start, Whole, base_of, behind_mark, context_at, element_count, enter, has_script, inside, inside_all, primes_put, with_script, within}
 use Rattle.latex2mathml_tex.specs.{Errors.second_on, Innermost.frame_context}
@@ -35,22 +35,22 @@ use Rattle.latex2mathml_tex.proofs.Leading.{ScriptLeads, marked, script_due, scr
 -- A formula that is refused at any level is refused as a whole
 
 module _ (r : Refusal) where
-  core_refuses : (l : Level) → CoreMade l (Refused r) → Refuses l r
+  pub core_refuses : (l : Level) → CoreMade l (Refused r) → Refuses l r
   core_refuses (row e c xs K) k = k
   core_refuses (operand place c K) k = k
   core_refuses (core_level place c K) k = k
   core_refuses (part K) k = absurd k
   core_refuses (words place a K) k = absurd k
 
-  operand_refuses : (l : Level) → OperandMade l (Refused r) → Refuses l r
+  pub operand_refuses : (l : Level) → OperandMade l (Refused r) → Refuses l r
   operand_refuses (operand place c K) k = k
   operand_refuses l k = absurd k
 
-  atom_refuses : (l : Level) → AtomMade l (Refused r) → Refuses l r
+  pub atom_refuses : (l : Level) → AtomMade l (Refused r) → Refuses l r
   atom_refuses (row e c xs K) k = k
   atom_refuses l k = absurd k
 
-  part_refuses : (l : Level) → PartMade l (Refused r) → Refuses l r
+  pub part_refuses : (l : Level) → PartMade l (Refused r) → Refuses l r
   part_refuses (part K) k = k
   part_refuses (words place a K) k = k
   part_refuses l k = absurd k
@@ -84,7 +84,7 @@ module _ (base : Atom) (scripts : Scripts) (before m : Units) (u : Unit) (p : pa
   goes_on (row e c xs K) h k = marked e c xs K p h k
   goes_on l h k = absurd k
 
-  pub comes_twice : (l : Level) {kind : Kind} → step_of_mark scripts (mark_of u.piece) ≡ Some (Twice kind) → ScriptsLead l base scripts before → Refuses l (refusal_at kind u.place)
+  pub comes_twice : (l : Level) {kind : Kind} → step_of_mark scripts (mark_of u.piece) ≡ Some (Forbidden kind) → ScriptsLead l base scripts before → Refuses l (refusal_at kind u.place)
   comes_twice (row e c xs K) h k = script_twice e c xs K p h k
   comes_twice l h k = absurd k
 
@@ -94,11 +94,17 @@ module _ (base : Atom) (scripts : Scripts) (before m : Units) (u : Unit) (p : pa
 
 -- What a mark does after these scripts
 
-limits_step : (scripts : Scripts) (place : LimitPlace) (below above : Option Element) → step_of scripts below above (starts.LimitsAt place) ≡ GoesOn (record scripts { limits = place })
-limits_step scripts place None None = refl
-limits_step scripts place None (Some y) = refl
-limits_step scripts place (Some x) None = refl
-limits_step scripts place (Some x) (Some y) = refl
+limits_step : (scripts : Scripts) (place : LimitPlace) (below above : Option Element) → scripts.takes_limits ≡ true → step_of scripts below above (starts.LimitsAt place) ≡ GoesOn (record scripts { limits = place })
+limits_step scripts place None None e = rw e refl
+limits_step scripts place None (Some y) e = rw e refl
+limits_step scripts place (Some x) None e = rw e refl
+limits_step scripts place (Some x) (Some y) e = rw e refl
+
+no_limits_step : (scripts : Scripts) (place : LimitPlace) (below above : Option Element) → scripts.takes_limits ≡ false → step_of scripts below above (starts.LimitsAt place) ≡ Forbidden LimitsWithoutOperator
+no_limits_step scripts place None None e = rw e refl
+no_limits_step scripts place None (Some y) e = rw e refl
+no_limits_step scripts place (Some x) None e = rw e refl
+no_limits_step scripts place (Some x) (Some y) e = rw e refl
 
 none_below : (above exchanged : Bool) (xs : List Element) → element_below false above exchanged xs ≡ None
 none_below above exchanged xs = refl
@@ -119,7 +125,7 @@ above_step : (scripts : Scripts) (below : Option Element) → step_of scripts be
 above_step scripts None = refl
 above_step scripts (Some x) = refl
 
-second_prime : (scripts : Scripts) (o : Option Element) (below exchanged : Bool) (xs : List Element) → step_of scripts o (element_above below true exchanged xs) starts.Prime ≡ Twice SecondSuperscript
+second_prime : (scripts : Scripts) (o : Option Element) (below exchanged : Bool) (xs : List Element) → step_of scripts o (element_above below true exchanged xs) starts.Prime ≡ Forbidden SecondSuperscript
 second_prime scripts None false exchanged xs = refl
 second_prime scripts None true false xs = refl
 second_prime scripts None true true xs = refl
@@ -127,7 +133,7 @@ second_prime scripts (Some x) false exchanged xs = refl
 second_prime scripts (Some x) true false xs = refl
 second_prime scripts (Some x) true true xs = refl
 
-second_above : (scripts : Scripts) (o : Option Element) (below exchanged : Bool) (xs : List Element) → step_of scripts o (element_above below true exchanged xs) starts.Above ≡ Twice SecondSuperscript
+second_above : (scripts : Scripts) (o : Option Element) (below exchanged : Bool) (xs : List Element) → step_of scripts o (element_above below true exchanged xs) starts.Above ≡ Forbidden SecondSuperscript
 second_above scripts None false exchanged xs = refl
 second_above scripts None true false xs = refl
 second_above scripts None true true xs = refl
@@ -135,7 +141,7 @@ second_above scripts (Some x) false exchanged xs = refl
 second_above scripts (Some x) true false xs = refl
 second_above scripts (Some x) true true xs = refl
 
-second_below : (scripts : Scripts) (o : Option Element) (above exchanged : Bool) (xs : List Element) → step_of scripts (element_below true above exchanged xs) o starts.Below ≡ Twice SecondSubscript
+second_below : (scripts : Scripts) (o : Option Element) (above exchanged : Bool) (xs : List Element) → step_of scripts (element_below true above exchanged xs) o starts.Below ≡ Forbidden SecondSubscript
 second_below scripts None false exchanged xs = refl
 second_below scripts None true false xs = refl
 second_below scripts None true true xs = refl
@@ -185,10 +191,10 @@ module _ (s : Start) (p : Parser) (c : CodeCore) (scripts : CodeScripts) (m : Ma
   step_is : (g : TookIt) (k : starts.Mark) → mark_model m ≡ k → step_of_mark read (mark_of g.unit.piece) ≡ Some (step_of read read.below read.above k)
   step_is g k e = ap (λ o. step_of_mark read o) (g.is ∙ ap (λ k. Some k) e)
 
-  pub limits_taken : (limits : CodeLimitPlace) → m ≡ mark.Limits limits → TookIt → Holds s p (state.Atom c (record scripts { limits = limits }))
-  limits_taken limits e g = record {
+  pub limits_taken : (limits : CodeLimitPlace) → m ≡ mark.Limits limits → scripts.takes_limits ≡ true → TookIt → Holds s p (state.Atom c (record scripts { limits = limits }))
+  limits_taken limits e some g = record {
     style = g.style;
-    claims = goes_on _ read g.before _ g.unit g.next at_row (step_is g (starts.LimitsAt (limit_place_of limits)) (ap mark_model e) ∙ ap (λ x. Some x) (limits_step read (limit_place_of limits) read.below read.above)) g.leads;
+    claims = goes_on _ read g.before _ g.unit g.next at_row (step_is g (starts.LimitsAt (limit_place_of limits)) (ap mark_model e) ∙ ap (λ x. Some x) (limits_step read (limit_place_of limits) read.below read.above some)) g.leads;
   }
 
   -- no script stands above
@@ -201,8 +207,14 @@ module _ (s : Start) (p : Parser) (c : CodeCore) (scripts : CodeScripts) (m : Ma
       record { style = g.style; claims = goes_on _ read g.before _ g.unit g.next at_row (step_is g starts.Prime (ap mark_model e) ∙ ap (λ x. Some x) same) g.leads }
 
   -- .. a second script
-  second : (k : starts.Mark) (kind : Kind) → mark_model m ≡ k → step_of read read.below read.above k ≡ Twice kind → TookIt → Whole s (Refused (refusal_at kind place))
+  second : (k : starts.Mark) (kind : Kind) → mark_model m ≡ k → step_of read read.below read.above k ≡ Forbidden kind → TookIt → Whole s (Refused (refusal_at kind place))
   second k kind e same g = subst (λ at. Whole s (Refused (refusal_at kind at))) g.at (all_refuse (refusal_at kind g.unit.place) s (reverse p.frames.stack.items) _ (comes_twice _ read g.before _ g.unit g.next at_row (step_is g k e ∙ ap (λ x. Some x) same) g.leads))
+
+  pub limits_refused : (limits : CodeLimitPlace) → m ≡ mark.Limits limits → scripts.takes_limits ≡ false → TookIt → Holds s (refused_for error.LimitsWithoutOperator) state.Refused
+  limits_refused limits e none g = record {
+    style = g.style;
+    claims = second (starts.LimitsAt (limit_place_of limits)) LimitsWithoutOperator (ap mark_model e) (no_limits_step read (limit_place_of limits) read.below read.above none) g;
+  }
 
   pub prime_refused : m ≡ mark.Prime → scripts.above ≡ true → TookIt → Holds s (refused_for error.SecondSuperscript) state.Refused
   prime_refused e one g = record {
@@ -279,10 +291,10 @@ module _ (s : Start) (p : Parser) (c : CodeCore) (scripts : CodeScripts) (m : Ma
 -- Behind the operand of a script
 
 -- these scripts
-abbrev scripts_of : ℕ → Bool → Bool → Bool → CodeLimitPlace → CodeScripts
-scripts_of primes below above exchanged limits = record { primes = primes; below = below; above = above; is_exchanged = exchanged; limits = limits }
+abbrev scripts_of : Bool → ℕ → Bool → Bool → Bool → CodeLimitPlace → CodeScripts
+scripts_of takes primes below above exchanged limits = record { primes = primes; below = below; above = above; is_exchanged = exchanged; limits = limits; takes_limits = takes }
 
-module _ (s : Start) (fs : List Frame) (c : CodeCore) (limits : CodeLimitPlace) (m : Units) where
+module _ (s : Start) (fs : List Frame) (c : CodeCore) (takes : Bool) (limits : CodeLimitPlace) (m : Units) where
   -- what stands behind them leads on; their elements are uppermost
   abbrev AllLead : CodeScripts → List Element → Type 0
   AllLead scripts xs = ScriptsLead (inside s fs (drop (script_count scripts + 1) xs)) (base_of c scripts xs).atom (scripts_with scripts xs) m
@@ -291,7 +303,7 @@ module _ (s : Start) (fs : List Frame) (c : CodeCore) (limits : CodeLimitPlace) 
   abbrev ScriptLeadsOn : CodeScripts → Side → List Element → Type 0
   ScriptLeadsOn scripts on xs = (class : Class) (high : Bool) → ScriptMade (inside s fs (drop (primes_put on scripts.primes + (script_count scripts + 2)) xs)) c scripts on (drop 1 xs) (Read (record { element = top xs; class = class; high = high }) m)
 
-  below_read : (primes : ℕ) (below above exchanged : Bool) (xs : List Element) → ScriptLeadsOn (scripts_of primes below above exchanged limits) side.Below xs → AllLead (scripts_of primes true above above limits) xs
+  below_read : (primes : ℕ) (below above exchanged : Bool) (xs : List Element) → ScriptLeadsOn (scripts_of takes primes below above exchanged limits) side.Below xs → AllLead (scripts_of takes primes true above above limits) xs
   below_read primes true above exchanged xs k = cc (k class.Ordinary false).0
   below_read primes false true exchanged [] k = (k class.Ordinary false).1
   below_read primes false true exchanged (x ∷ []) k = (k class.Ordinary false).1
@@ -299,7 +311,7 @@ module _ (s : Start) (fs : List Frame) (c : CodeCore) (limits : CodeLimitPlace) 
   below_read primes false false exchanged [] k = (k class.Ordinary false).1
   below_read primes false false exchanged (x ∷ xs) k = (k class.Ordinary false).1
 
-  above_read : (below above exchanged : Bool) (xs : List Element) → ScriptLeadsOn (scripts_of 0 below above exchanged limits) side.Above xs → AllLead (scripts_of 0 below true false limits) xs
+  above_read : (below above exchanged : Bool) (xs : List Element) → ScriptLeadsOn (scripts_of takes 0 below above exchanged limits) side.Above xs → AllLead (scripts_of takes 0 below true false limits) xs
   above_read below true exchanged xs k = cc (k class.Ordinary false).0
   above_read true false exchanged [] k = (k class.Ordinary false).1
   above_read true false exchanged (x ∷ []) k = (k class.Ordinary false).1
@@ -308,30 +320,30 @@ module _ (s : Start) (fs : List Frame) (c : CodeCore) (limits : CodeLimitPlace) 
   above_read false false exchanged (x ∷ xs) k = (k class.Ordinary false).1
 
   -- .. behind a mark of primes
-  behind_read : (primes : ℕ) (below above exchanged : Bool) (xs : List Element) → 2 ≤ length xs → ScriptLeadsOn (scripts_of (suc primes) below above exchanged limits) side.Above xs → AllLead (scripts_of (suc primes) below true false limits) (row_element (take 2 xs) ∷ drop 2 xs)
+  behind_read : (primes : ℕ) (below above exchanged : Bool) (xs : List Element) → 2 ≤ length xs → ScriptLeadsOn (scripts_of takes (suc primes) below above exchanged limits) side.Above xs → AllLead (scripts_of takes (suc primes) below true false limits) (row_element (take 2 xs) ∷ drop 2 xs)
   behind_read primes below true exchanged xs enough k = cc (k class.Ordinary false).0
   behind_read primes below above exchanged [] enough k = absurd (omega arith)
   behind_read primes below above exchanged (x ∷ []) enough k = absurd (omega arith)
   behind_read primes true false exchanged (x ∷ y ∷ xs) enough k = (k class.Ordinary false).1
   behind_read primes false false exchanged (x ∷ y ∷ xs) enough k = (k class.Ordinary false).1
 
-  any_above_read : (primes : ℕ) (below above exchanged : Bool) (xs : List Element) → primes ≡ 0 → ScriptLeadsOn (scripts_of primes below above exchanged limits) side.Above xs → AllLead (scripts_of primes below true false limits) xs
+  any_above_read : (primes : ℕ) (below above exchanged : Bool) (xs : List Element) → primes ≡ 0 → ScriptLeadsOn (scripts_of takes primes below above exchanged limits) side.Above xs → AllLead (scripts_of takes primes below true false limits) xs
   any_above_read zero below above exchanged xs none k = above_read below above exchanged xs k
   any_above_read (suc primes) below above exchanged xs none k = absurd (omega (arith, none))
 
-  any_behind_read : (primes : ℕ) (below above exchanged : Bool) (xs ys : List Element) → 0 < primes → 2 ≤ length xs → ys ≡ row_element (take 2 xs) ∷ drop 2 xs → ScriptLeadsOn (scripts_of primes below above exchanged limits) side.Above xs → AllLead (scripts_of primes below true false limits) ys
+  any_behind_read : (primes : ℕ) (below above exchanged : Bool) (xs ys : List Element) → 0 < primes → 2 ≤ length xs → ys ≡ row_element (take 2 xs) ∷ drop 2 xs → ScriptLeadsOn (scripts_of takes primes below above exchanged limits) side.Above xs → AllLead (scripts_of takes primes below true false limits) ys
   any_behind_read zero below above exchanged xs ys some enough e k = absurd (omega (arith, some))
   any_behind_read (suc primes) below above exchanged xs ys some enough e k = rw e (behind_read primes below above exchanged xs enough k)
 
 module _ (s : Start) (p : Parser) (c : CodeCore) (scripts : CodeScripts) where
   pub script_below : (on : Side) → on ≡ side.Below → TookScript c scripts on s p → Holds s p (state.Atom c (record scripts { below = true; is_exchanged = scripts.above }))
-  script_below side.Below e g = record { style = g.style; claims = below_read s p.frames.stack.items c scripts.limits (left_of p) scripts.primes scripts.below scripts.above scripts.is_exchanged (elements_of p) g.leads }
+  script_below side.Below e g = record { style = g.style; claims = below_read s p.frames.stack.items c scripts.takes_limits scripts.limits (left_of p) scripts.primes scripts.below scripts.above scripts.is_exchanged (elements_of p) g.leads }
   script_below side.Above e g = cc e
 
   pub script_above : (on : Side) → on ≡ side.Above → scripts.primes ≡ 0 → TookScript c scripts on s p → Holds s p (state.Atom c (record scripts { above = true; is_exchanged = false }))
-  script_above side.Above e none g = record { style = g.style; claims = any_above_read s p.frames.stack.items c scripts.limits (left_of p) scripts.primes scripts.below scripts.above scripts.is_exchanged (elements_of p) none g.leads }
+  script_above side.Above e none g = record { style = g.style; claims = any_above_read s p.frames.stack.items c scripts.takes_limits scripts.limits (left_of p) scripts.primes scripts.below scripts.above scripts.is_exchanged (elements_of p) none g.leads }
   script_above side.Below e none g = cc e
 
   pub script_behind : (b : Built) (on : Side) → on ≡ side.Above → 0 < scripts.primes → 2 ≤ length (elements_of p) → elements_in b ≡ row_element (take 2 (elements_of p)) ∷ drop 2 (elements_of p) → TookScript c scripts on s p → Holds s (record p { builder = b }) (state.Atom c (record scripts { above = true; is_exchanged = false }))
-  script_behind b side.Above e some enough put g = record { style = g.style; claims = any_behind_read s p.frames.stack.items c scripts.limits (left_of p) scripts.primes scripts.below scripts.above scripts.is_exchanged (elements_of p) (elements_in b) some enough put g.leads }
+  script_behind b side.Above e some enough put g = record { style = g.style; claims = any_behind_read s p.frames.stack.items c scripts.takes_limits scripts.limits (left_of p) scripts.primes scripts.below scripts.above scripts.is_exchanged (elements_of p) (elements_in b) some enough put g.leads }
   script_behind b side.Below e some enough put g = cc e

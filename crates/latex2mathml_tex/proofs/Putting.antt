@@ -1,10 +1,10 @@
 -- What holds of the parser where an element is put.
-use Rattle.std.proofs.Common.{◌≡◌, ℕ, ◌+◌, ◌≤◌, false, List, ◌∷◌, Option, Some, None, ap, ◌∙◌, arith}
+use Rattle.std.proofs.Common.{◌≡◌, ℕ, ◌+◌, ◌≤◌, false, List, ◌∷◌, Option, Some, None, sym, ap, ◌∙◌, arith}
 use Rattle.latex2mathml_elements.specs.Element.{Element}
 use Rattle.latex2mathml_builder.specs.Built.{Built, elements_in}
 use Rattle.latex2mathml_tex_grammar.specs.{Atoms.Plain, Atoms.atom, Makes.Core, Makes.core, Makes.number, Next.digits_next, Next.next_are, Symbols.Alphabet, Symbols.Ordinary, Units.Piece}
 use Rattle.latex2mathml_tex_grammar.specs.Rules.{Rule, gives, takes_digits, takes_if}
-use Rattle.latex2mathml_tex.specs.{Frames.Start, Left.unit_count, Left.units_at, Models.core_with}
+use Rattle.latex2mathml_tex.specs.{Frames.Start, Left.unit_count, Left.units_at, Models.core_with, Shapes.IsPut}
 use Rattle.latex2mathml_tex.specs.Steps.{Begins, CanBegin, Follows, Holds, elements_of, left_of, to_do}
 use Rattle.latex2mathml_tex.specs.declared.{atoms.Core.Core as CodeCore, input.Input.Input, parse.Parser.Parser}
 use Rattle.latex2mathml_tex.specs.declared.parse.State.TheVariants as state
@@ -16,6 +16,17 @@ core_put s p b c x k e f g = record {
   style = g.style;
   claims = rw (e, f) (given g.leads);
 }
+
+-- an element is all of an atom
+pub is_put : (c : CodeCore) (x : Element) (k : Core) (old new : List Element) → new ≡ x ∷ old → core_with c x ≡ k → IsPut c k old new
+is_put c x k old new e f = record {
+  element = e ∙ ap (λ (j : Core). j.atom.element ∷ old) f;
+  is = ap (λ (j : Core). core_with c j.atom.element) (sym f) ∙ f;
+}
+
+-- .. and what was put is what the parser then has
+pub put_held : (s : Start) (p : Parser) (b : Built) (c : CodeCore) (k : Core) → IsPut c k (elements_of p) (elements_in b) → Begins (gives k) 0 s p → Holds s (record p { builder = b }) (state.Core c)
+put_held s p b c k is g = core_put s p b c k.atom.element k is.element is.is g
 
 -- .. and so much is left to do, if no unit came back
 pub core_step : (p : Parser) (i : Input) (b : Built) (c : CodeCore) (x : Element) → CanBegin 0 p → elements_in b ≡ x ∷ elements_of p → unit_count (units_at i) ≤ unit_count (left_of p) → Follows (to_do p + 13) (record p { input = i; builder = b }) (state.Core c)

@@ -60,6 +60,10 @@ pub no_space : (x : Element) → token_of_element x ≡ None → Atoms.without_s
 no_space (token t a text) h = cc
 no_space x h = refl
 
+pub no_sign_alone : (style : Style) (class : Class) (x : Element) → token_of_element x ≡ None → Atoms.lone_sign style class x ≡ x
+no_sign_alone style class (token Mo a text) h = cc
+no_sign_alone style class x h = refl
+
 pub no_divider : (x : Element) → token_of_element x ≡ None → Makes.lowered_divider x ≡ x
 no_divider (token t a text) h = cc
 no_divider x h = refl
@@ -76,15 +80,21 @@ no_fence (token t b text) u a h none =
 no_fence x u a h none = refl
 
 -- .. what is no operator, ..
-pub no_operator : (tag : CodeToken) → (tag ≡ code_token.Mo → ⊥) → (x : Element) (a : Attributes) → token_of_element x ≡ Some (token_of tag, a) → Makes.fixed_base Meaning.Stacked x ≡ x
-no_operator tag other (token Mo b text) a h =
-    let tags : ◌≡◌ {A = Token × Attributes} (Mo, b) (token_of tag, a) = cc in
-    absurd (clash tag other (ap (λ p. p.0) tags))
-  where
-    clash : (tag : CodeToken) → (tag ≡ code_token.Mo → ⊥) → Mo ≡ token_of tag → ⊥
-    clash code_token.Mo other h = other refl
-    clash tag other h = cc
-no_operator tag other x a h = refl
+module _ (tag : CodeToken) (other : tag ≡ code_token.Mo → ⊥) where
+  clash : (tag : CodeToken) → (tag ≡ code_token.Mo → ⊥) → Mo ≡ token_of tag → ⊥
+  clash code_token.Mo other h = other refl
+  clash tag other h = cc
+
+  is_operator : (a b : Attributes) → ◌≡◌ {A = Token × Attributes} (Mo, b) (token_of tag, a) → ⊥
+  is_operator a b tags = clash tag other (ap (λ p. p.0) tags)
+
+  pub no_operator : (x : Element) (a : Attributes) → token_of_element x ≡ Some (token_of tag, a) → Makes.fixed_base Meaning.Stacked x ≡ x
+  no_operator (token Mo b text) a h = absurd (is_operator a b cc)
+  no_operator x a h = refl
+
+  pub no_operator_alone : (style : Style) (class : Class) (x : Element) (a : Attributes) → token_of_element x ≡ Some (token_of tag, a) → Atoms.lone_sign style class x ≡ x
+  no_operator_alone style class (token Mo b text) a h = absurd (is_operator a b cc)
+  no_operator_alone style class x a h = refl
 
 -- .. a sign that has its space in scripts too, ..
 pub spaced_sign : (style : Style) (class : CodeClass) → (class ≡ code_class.Binary → ⊥) → (class ≡ code_class.Relation → ⊥) → (class ≡ code_class.Punctuation → ⊥) → (x : Element) → Atoms.sign_there style (class_of class) x ≡ x
@@ -92,6 +102,12 @@ spaced_sign style code_class.Binary b r p x = absurd (b refl)
 spaced_sign style code_class.Relation b r p x = absurd (r refl)
 spaced_sign style code_class.Punctuation b r p x = absurd (p refl)
 spaced_sign style class b r p x = refl
+
+-- .. what is neither a binary sign nor a relation, ..
+pub no_base_changed : (style : Style) (class : Class) (own : CodeClass) → (own ≡ code_class.Binary → ⊥) → (own ≡ code_class.Relation → ⊥) → (x : Element) → Atoms.element_as style class (class_of own) x ≡ x
+no_base_changed style class code_class.Binary b r x = absurd (b refl)
+no_base_changed style class code_class.Relation b r x = absurd (r refl)
+no_base_changed style class own b r x = refl
 
 -- .. and what is no sign
 pub no_sign : (style : Style) (before : Before) (kind : CodeKind) → ((class : CodeClass) → kind ≡ code_kind.SignOf class → ⊥) → (kind ≡ code_kind.PlusOrMinus → ⊥) → (x : Element) → Atoms.element_there style before (kind_of kind) x ≡ x

@@ -3,7 +3,7 @@ use Rattle.std.proofs.Common.{◌≡◌, ℕ, ◌+◌, ◌<◌, ◌/◌, ◌==�
 use Rattle.std.specs.Prelude.{⊤}
 use Rattle.std.proofs.lemmas.{Bool.ltb-true, Bool.Decides.nat_tests, List.map-append, List.length-take, List.length-drop}
 use Rattle.latex2mathml_tex_grammar.specs.{Commands.entry_symbol, Sorted.ascending_numbers, Sorted.below_first, Symbols.Symbol}
-use Rattle.latex2mathml_tex.specs.{declared.signs.table.SignEntry.SignEntry, Signs.entry_of}
+use Rattle.latex2mathml_tex.specs.{declared.signs.SignEntry.SignEntry, Signs.entry_of}
 
 abbrev Entries : Type 0
 Entries = List (ℕ × Symbol)

@@ -4,10 +4,10 @@ use Rattle.std.specs.List.{range_with_len}
 use Rattle.std.proofs.lemmas.{List.length-map, List.get_or-map, List.FromFn.get_or-map-range_with_len, List.FromFn.length-map-range_with_len}
 use Rattle.latex2mathml_tex_grammar.specs.{Commands.entry_symbol, Commands.symbol_of, Signs.sign_entries, Sorted.ascending_numbers}
 use Rattle.latex2mathml_tex_grammar.proofs.Tables.{ascending-sign_entries}
-use Rattle.latex2mathml_tex.specs.{declared.meaning.Symbol.Symbol, declared.signs.table.SignEntry.SignEntry, Signs.ascii_symbols, Signs.entry_of}
+use Rattle.latex2mathml_tex.specs.{declared.meaning.Symbol.Symbol, declared.signs.SignEntry.SignEntry, Signs.ascii_symbols, Signs.entry_of}
 use Rattle.latex2mathml_tex.specs.Meanings as meanings
 
-length-sign_entries : length sign_entries ≡ 469
+length-sign_entries : length sign_entries ≡ 479
 unfolding sign_entries
 length-sign_entries = refl
 

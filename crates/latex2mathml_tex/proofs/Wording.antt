@@ -2,7 +2,7 @@
 use Rattle.std.proofs.Common.{◌≡◌, ℕ, ◌+◌, ◌<◌, ◌≤◌, Bool, false, true, zero, suc, IsTrue, IsFalse, List, [], ◌∷◌, Option, Some, length, take, drop, option_map, reverse, refl, sym, ap, ◌∙◌, arith}
 use Rattle.latex2mathml_elements.specs.{Attributes.plain, Element.Element, Element.Mtext, Element.token}
 use Rattle.latex2mathml_builder.specs.{Built.Built, Built.elements_in, Stacks.is_token, Stacks.lengthened}
-use Rattle.latex2mathml_tex_grammar.specs.{Makes.Core, Rows.row_element, Symbols.Alphabet}
+use Rattle.latex2mathml_tex_grammar.specs.{Makes.Core, Rows.empty_row, Rows.row_element, Rows.single, Rows.with_atom, Symbols.Alphabet, Symbols.InText}
 use Rattle.latex2mathml_tex_grammar.specs.Reading.{Outcome, Read, Refused, word_stopped}
 use Rattle.latex2mathml_tex_grammar.specs.Refusal.{Kind, Refusal, UnclosedBrace, refusal_at}
 use Rattle.latex2mathml_tex_grammar.specs.Rules.{gives}
@@ -11,22 +11,21 @@ use Rattle.latex2mathml_tex_grammar.specs.Units as grammar
 use Rattle.latex2mathml_tex_grammar.specs.Units.{Piece}
 use Rattle.latex2mathml_tex_grammar.specs.Words.{Word, Words, Shown, Formula, IsWord, NoWord, TakesWords, with_text, with_word, word_rule, words_element}
 use Rattle.latex2mathml_tex.specs.{Errors.refusal_of, Left.units_at}
-use Rattle.latex2mathml_tex.specs.Frames.{Start, Whole, element_count, enter, inside, inside_all}
-use Rattle.latex2mathml_tex.specs.Levels.{AtomMade, CoreMade, Level, OperandMade, PartMade, Refuses, WordLeads, row, operand, part, words}
-use Rattle.latex2mathml_tex.specs.Levels.{core as core_level}
-use Rattle.latex2mathml_tex.specs.{Meanings.alphabet_of, Meanings.style_of, Models.core_with, Models.words_with}
+use Rattle.latex2mathml_tex.specs.Frames.{Start, Whole, inside}
+use Rattle.latex2mathml_tex.specs.Levels.{Level, PartMade, WordLeads, words}
+use Rattle.latex2mathml_tex.specs.{Meanings.alphabet_of, Meanings.style_of, Models.core_with, Models.row_with, Models.top, Models.words_with, Shapes.IsPut}
 use Rattle.latex2mathml_tex.specs.Steps.{Begins, BeginsWordOf, CanMake, Follows, Holds, WordGiven, elements_of, left_of, level, to_do, words_made}
-use Rattle.latex2mathml_tex.specs.declared.{atoms.Core.Core as CodeCore, atoms.Words.Words as CodeWords, input.Input.Input, meaning.Alphabet.Alphabet as CodeAlphabet, parse.Parser.Parser}
+use Rattle.latex2mathml_tex.specs.declared.{atoms.Core.Core as CodeCore, atoms.Row.Row as CodeRow, atoms.Words.Words as CodeWords, input.Input.Input, meaning.Alphabet.Alphabet as CodeAlphabet, parse.Parser.Parser}
 use Rattle.latex2mathml_tex.specs.declared.parse.State.TheVariants as state
 use Rattle.latex2mathml_tex.specs.declared.parse.frames.Frame.{Frame}
 use Rattle.latex2mathml_tex.specs.declared.parse.frames.Frame.TheVariants as frame
-use Rattle.latex2mathml_tex.specs.declared.parse.frames.Ending.TheVariants as ending
 use Rattle.std.proofs.lemmas.List.{reverse-append}
 use Rattle.latex2mathml_tex.specs.Innermost.{IsInnermost, none_begun, on_top}
 use Rattle.latex2mathml_tex.specs.declared.{meaning.Style.Style as CodeStyle, parse.frames.Frames.Frames}
 use Rattle.latex2mathml_tex_grammar.specs.Starts.{is_close}
 use Rattle.latex2mathml_tex.proofs.Leading.{given, word_given, word_refused_at, words_ended, words_halted, words_in_alphabet_due, words_unended, word_due}
-use Rattle.latex2mathml_tex.proofs.Opening.{into_frame, out_of_frame}
+use Rattle.latex2mathml_tex.proofs.Marks as marks
+use Rattle.latex2mathml_tex.proofs.{Marks.all_refuse, Opening.into_frame, Opening.out_of_frame}
 
 -- A text behind words
 
@@ -80,60 +79,25 @@ word_step p b n new x can one e = record {
   falls = omega arith;
 }
 
+-- The row of one symbol
+
+pub symbol_row : (c : CodeCore) (k : Core) (old put made whole : List Element) (none one : CodeRow) → IsPut c k old put → none.count ≡ 0 → row_with none (drop 1 put) ≡ empty_row → row_with one made ≡ with_atom InText (row_with none (drop 1 put)) (core_with c (top put)).atom → drop one.count made ≡ drop (none.count + 1) put → whole ≡ row_element (take one.count made) ∷ drop one.count made → whole ≡ (single InText k.atom).element ∷ old
+symbol_row c k old put made whole none one is zero_count empty longer below e =
+    let x = (core_with c (top put)).atom in
+    let is_atom : x ≡ k.atom = ap (λ xs. (core_with c (top xs)).atom) is.element ∙ ap (λ (j : Core). j.atom) is.is in
+    let is_row : row_with one made ≡ with_atom InText empty_row k.atom = longer ∙ ap (λ r. with_atom InText r x) empty ∙ ap (with_atom InText empty_row) is_atom in
+    let elements : take one.count made ≡ (with_atom InText empty_row k.atom).elements = ap (λ r. r.elements) is_row in
+    let others : drop one.count made ≡ old = below ∙ ap (λ n. drop (n + 1) put) zero_count ∙ ap (drop 1) is.element in
+    e ∙ ap (λ xs. row_element xs ∷ drop one.count made) elements ∙ ap (λ xs. (single InText k.atom).element ∷ xs) others
+
+pub formula_put : (s : Start) (p : Parser) (b : Built) (ws : CodeWords) (x : Element) → elements_in b ≡ x ∷ elements_of p → WordGiven ws (Formula x) s p → Holds s (record p { builder = b }) (state.Words (record { count = ws.count + 1; ends_in_text = false }))
+formula_put s p b ws x e g = word_put s p b ws (record { count = ws.count + 1; ends_in_text = false }) (Formula x) (ap (take (ws.count + 1)) e ∙ take_more ws.count x (elements_of p)) refl (ap (drop (ws.count + 1)) e ∙ drop_more ws.count x (elements_of p)) g
+
 -- Refusals
-
-core_refused : (l : Level) (r : Refusal) → CoreMade l (Refused r) → Refuses l r
-core_refused (row e c xs K) r k = k
-core_refused (operand place c K) r k = k
-core_refused (core_level place c K) r k = k
-core_refused (part K) r k = absurd k
-core_refused (words place a K) r k = absurd k
-
-atom_refused : (l : Level) (r : Refusal) → AtomMade l (Refused r) → Refuses l r
-atom_refused (row e c xs K) r k = k
-atom_refused (operand place c K) r k = absurd k
-atom_refused (core_level place c K) r k = absurd k
-atom_refused (part K) r k = absurd k
-atom_refused (words place a K) r k = absurd k
-
-operand_refused : (l : Level) (r : Refusal) → OperandMade l (Refused r) → Refuses l r
-operand_refused (operand place c K) r k = k
-operand_refused (row e c xs K) r k = absurd k
-operand_refused (core_level place c K) r k = absurd k
-operand_refused (part K) r k = absurd k
-operand_refused (words place a K) r k = absurd k
-
-part_refused : (l : Level) (r : Refusal) → PartMade l (Refused r) → Refuses l r
-part_refused (part K) r k = k
-part_refused (words place a K) r k = k
-part_refused (row e c xs K) r k = absurd k
-part_refused (operand place c K) r k = absurd k
-part_refused (core_level place c K) r k = absurd k
-
--- what is refused within a frame is refused around it
-refused_around : (s : Start) (f : Frame) (xs : List Element) (l : Level) (r : Refusal) → (Refuses l r → Whole s (Refused r)) → Refuses (enter s f xs l) r → Whole s (Refused r)
-refused_around s (frame.Row ending.Text place c begun) xs l r around k = k
-refused_around s (frame.Row ending.Group place c begun) xs l r around k = around (core_refused l r k)
-refused_around s (frame.Row ending.Operand place c begun) xs l r around k = around (operand_refused l r k)
-refused_around s (frame.Row ending.Degree place c begun) xs l r around k = around (core_refused l r k)
-refused_around s (frame.Row (ending.Delimiters opening) place c begun) xs l r around k = around (core_refused l r k)
-refused_around s (frame.Row (ending.Formula ws) place c begun) xs l r around k = around (part_refused l r k)
-refused_around s (frame.Last made place c) xs l r around k = around (core_refused l r k)
-refused_around s (frame.First one place c) xs l r around k = around (core_refused l r k)
-refused_around s (frame.Negation place c) xs l r around k = around (core_refused l r k)
-refused_around s (frame.Script base scripts on place c) xs l r around k = around (atom_refused l r k)
-refused_around s frame.Text xs l r around k = around (core_refused l r k)
-refused_around s (frame.Words place a) xs l r around k = around (part_refused l r k)
-
-refused_inside : (s : Start) (fs : List Frame) (xs : List Element) (r : Refusal) → Refuses (inside_all s fs xs) r → Whole s (Refused r)
-refused_inside s [] xs r k = k
-refused_inside s (f ∷ fs) xs r k =
-    let below = drop (element_count f) xs in
-    refused_around s f xs (inside_all s fs below) r (refused_inside s fs below r) k
 
 -- a part of words that is refused
 pub part_refuses : (s : Start) (p : Parser) (n : ℕ) (r : Refusal) → PartMade (level n s p) (Refused r) → Whole s (Refused r)
-part_refuses s p n r k = refused_inside s (reverse p.frames.stack.items) (drop n (elements_of p)) r (part_refused (level n s p) r k)
+part_refuses s p n r k = all_refuse r s (reverse p.frames.stack.items) (drop n (elements_of p)) (marks.part_refuses r (level n s p) k)
 
 pub words_refused : (s : Start) (p q : Parser) (n : ℕ) (r : Refusal) → s.style ≡ style_of p.style → q.style ≡ p.style → refusal_of q.refusal ≡ Some r → PartMade (level n s p) (Refused r) → Holds s q state.Refused
 words_refused s p q n r e f h k = record { style = e ∙ ap style_of (sym f); claims = rw h (part_refuses s p n r k) }
@@ -175,7 +139,7 @@ module _ (s : Start) (p : Parser) (ws : CodeWords) (place : ℕ) (a : Option Cod
   pub braces_unended : (q : Parser) (at : ℕ) → left_of p ≡ grammar.End at → q.style ≡ p.style → refusal_of q.refusal ≡ Some (refusal_at UnclosedBrace place) → Holds s q state.Refused
   braces_unended q at e f g = record {
     style = h.style ∙ ap style_of (sym f);
-    claims = rw g (refused_inside s (reverse others) (drop ws.count (elements_of p)) (refusal_at UnclosedBrace place) (part_refused around (refusal_at UnclosedBrace place) (words_unended {K = PartMade around} (rw e at within_braces))));
+    claims = rw g (all_refuse (refusal_at UnclosedBrace place) s (reverse others) (drop ws.count (elements_of p)) (marks.part_refuses (refusal_at UnclosedBrace place) around (words_unended {K = PartMade around} (rw e at within_braces))));
   }
 
   pub word_behind : (u : grammar.Unit) (l : grammar.Units) → left_of p ≡ grammar.Next u l → IsFalse (is_close u.piece) → Holds s p (state.Word ws place a)

@@ -1,5 +1,5 @@
 -- The refusals that errors report.
-use Rattle.std.specs.Prelude.{Option, Some, None, option_map, string_bytes}
+use Rattle.std.specs.Prelude.{IfErr, IfSome, Option, Result, Some, None, option_map, string_bytes}
 use Rattle.latex2mathml_builder.specs.declared.attributes.Side.{Side}
 use Rattle.latex2mathml_builder.specs.declared.attributes.Side.TheVariants as side
 use Rattle.latex2mathml_tex_grammar.specs.Refusal as refusal
@@ -28,11 +28,20 @@ kind_of_error kind.OutsideTable = Some refusal.OutsideTable
 kind_of_error (kind.MisplacedCharacter c) = Some (refusal.MisplacedCharacter c)
 kind_of_error (kind.CommandInWords name) = Some (refusal.CommandInWords (string_bytes name))
 kind_of_error (kind.CharacterInWords c) = Some (refusal.CharacterInWords c)
+kind_of_error kind.DefinitionsGiven = Some refusal.DefinitionsGiven
 kind_of_error kind.OutOfMemory = None
 
 -- the refusal that an error reports
 abbrev pub refusal_of : TexError → Option refusal.Refusal
 refusal_of error = option_map (λ k. refusal.refusal_at k error.place) (kind_of_error error.kind)
+
+-- the error is out of memory, or this holds of the refusal that it reports
+abbrev pub IfRefused : {A : Type 0} → Result A TexError → (refusal.Refusal → Type 0) → Type 0
+IfRefused result P = IfErr result (λ error. IfSome (refusal_of error) P)
+
+-- out of memory: no place of the text is at fault
+abbrev pub out_of_memory : TexError
+out_of_memory = record { kind = kind.OutOfMemory; place = 0 }
 
 -- why a second script on this side is refused
 abbrev pub second_on : Side → TexErrorKind

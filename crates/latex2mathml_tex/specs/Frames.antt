@@ -7,7 +7,7 @@ use Rattle.latex2mathml_tex_grammar.specs.Makes as makes
 use Rattle.latex2mathml_tex_grammar.specs.Makes.{Core, core, group, classed, operator_name, accent, brace, stack, fraction, square_root, root, between_delimiters, struck}
 use Rattle.latex2mathml_tex_grammar.specs.Reading.{Outcome, Read, Refused, ReadsAtoms}
 use Rattle.latex2mathml_tex_grammar.specs.{Formulas.formula_context, Symbols.Style, Symbols.InText, Symbols.Relation, Units.Units}
-use Rattle.latex2mathml_tex_grammar.specs.Rows.{Operand, Row, empty_row, operand_of, row_element}
+use Rattle.latex2mathml_tex_grammar.specs.Rows.{Operand, Row, as_base, empty_row, operand_of, row_element}
 use Rattle.latex2mathml_tex_grammar.specs.Rules as rules
 use Rattle.latex2mathml_tex_grammar.specs.Rules.{Context, Rule, gives, of_one, slashed, struck_atom, takes_delimiter, WholeText, InBraces, InBrackets, InDollars, InDelimiters}
 use Rattle.latex2mathml_tex_grammar.specs.Words.{words_atom}
@@ -79,17 +79,17 @@ made_of (last.Accent s c w) xs y = accent (side_of s) c (stretch_of w) y.element
 made_of (last.Brace s c) xs y = brace (side_of s) c y.element
 made_of (last.OperatorName limits) xs y = operator_name (limit_place_of limits) y
 made_of last.Slash xs y = slashed y (struck y.element)
-made_of (last.Classed class) xs y = classed (class_of class) y
+made_of (last.Classed class style) xs y = classed (class_of class) (as_base (style_of style) (class_of class) y)
 made_of (last.Fraction rule own) xs y = fraction (fraction_rule_of rule) (option_map style_of own) (top xs) y.element
-made_of (last.Stack s) xs y = stack (side_of s) y.class (top xs) y.element
-made_of last.StackedRelation xs y = stack Above Relation (top xs) y.element
+made_of (last.Stack s style) xs y = stack (side_of s) y.class (top xs) (as_base (style_of style) y.class y).element
+made_of (last.StackedRelation style) xs y = stack Above Relation (top xs) (as_base (style_of style) Relation y).element
 
 -- what follows the first of two operands, which stands at a place, in this context, at a level of that context
 abbrev pub after_first : First → ℕ → Context → Context → Operand → Rule
 after_first (first.Fraction rule own) place c outer x =
     of_one place c (λ y. fraction (fraction_rule_of rule) (option_map style_of own) x.element y.element)
-after_first (first.Stack s) place c outer x = of_one place outer (λ y. stack (side_of s) y.class x.element y.element)
-after_first first.StackedRelation place c outer x = of_one place outer (λ y. stack Above Relation x.element y.element)
+after_first (first.Stack s) place c outer x = of_one place outer (λ y. stack (side_of s) y.class x.element (as_base outer.style y.class y).element)
+after_first first.StackedRelation place c outer x = of_one place outer (λ y. stack Above Relation x.element (as_base outer.style Relation y).element)
 
 -- how many marks of primes stand above the other elements of a script that is read
 abbrev pub primes_put : Side → ℕ → ℕ
@@ -147,8 +147,8 @@ ending_count e = 0
 abbrev pub last_count : Last → ℕ
 last_count last.Root = 1
 last_count (last.Fraction rule own) = 1
-last_count (last.Stack s) = 1
-last_count last.StackedRelation = 1
+last_count (last.Stack s style) = 1
+last_count (last.StackedRelation style) = 1
 last_count l = 0
 
 abbrev pub element_count : Frame → ℕ

@@ -46,7 +46,7 @@ ScriptsLead level base scripts l = ⊥
 
 -- where the outcome of an atom without scripts leads
 abbrev pub CoreMade : Level → Outcome Core → Type 0
-CoreMade (row ending c xs K) (Read x l) = ScriptsLead (row ending c xs K) x.atom (no_scripts x.limits) l
+CoreMade (row ending c xs K) (Read x l) = ScriptsLead (row ending c xs K) x.atom (no_scripts x.atom.kind x.limits) l
 CoreMade (row ending c xs K) (Refused r) = K (Refused r)
 CoreMade (operand place c K) (Read x l) = K (Read (single c.style x.atom) l)
 CoreMade (operand place c K) (Refused r) = K (Refused r)

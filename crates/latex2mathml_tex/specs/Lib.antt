@@ -1,5 +1,7 @@
 pub mod Alphabets
+pub mod Answers
 pub mod Delimiters
+pub mod ErrorTexts
 pub mod Errors
 pub mod Frames
 pub mod Innermost
@@ -8,6 +10,7 @@ pub mod Levels
 pub mod Meanings
 pub mod Models
 pub mod Numbers
+pub mod Positions
 pub mod Runs
 pub mod Shapes
 pub mod Signs

@@ -81,4 +81,5 @@ scripts_with s xs = record {
   below = element_below s.below s.above s.is_exchanged xs;
   above = element_above s.below s.above s.is_exchanged xs;
   limits = limit_place_of s.limits;
+  takes_limits = s.takes_limits;
 }

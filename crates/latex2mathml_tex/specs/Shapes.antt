@@ -1,7 +1,10 @@
 -- Changes of the uppermost elements.
-use Rattle.std.specs.Prelude.{ℕ, zero, suc, List, [], ◌∷◌, Some}
+use Rattle.std.specs.Prelude.{◌≡◌, ℕ, zero, suc, List, [], ◌∷◌, Some}
 use Rattle.std.specs.Str.{encode_utf8_all}
 use Rattle.latex2mathml_elements.specs.{Attributes.Attributes, Attributes.Stretch, Attributes.plain, Element.Element, Element.Mo, Element.token}
+use Rattle.latex2mathml_tex_grammar.specs.Makes
+use Rattle.latex2mathml_tex.specs.Models.{core_with}
+use Rattle.latex2mathml_tex.specs.declared.atoms.Core.{Core as CodeCore}
 
 -- an operator with this text
 abbrev pub delimiter_element : Attributes → List ℕ → Element
@@ -22,3 +25,8 @@ abbrev pub mapped_first : (Element → Element) → ℕ → List Element → Lis
 mapped_first f count [] = []
 mapped_first f zero (x ∷ xs) = x ∷ xs
 mapped_first f (suc count) (x ∷ xs) = f x ∷ mapped_first f count xs
+
+-- an atom without scripts was put: its element stands uppermost, and this is what else it is
+pub record IsPut (put : CodeCore) (k : Makes.Core) (old new : List Element) : Type 0 where
+  pub element : new ≡ k.atom.element ∷ old
+  pub is : core_with put k.atom.element ≡ k

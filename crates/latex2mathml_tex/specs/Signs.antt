@@ -2,7 +2,7 @@
 use Rattle.std.specs.Prelude.{ℕ, List, Option, map}
 use Rattle.std.specs.List.{range_with_len}
 use Rattle.latex2mathml_tex_grammar.specs.{Commands.symbol_of, Symbols.Symbol}
-use Rattle.latex2mathml_tex.specs.declared.signs.table.SignEntry.{SignEntry}
+use Rattle.latex2mathml_tex.specs.declared.signs.SignEntry.{SignEntry}
 use Rattle.latex2mathml_tex.specs.Meanings as meanings
 
 abbrev pub entry_of : SignEntry → ℕ × Symbol

@@ -48,7 +48,7 @@ level_within f n s p = within s p.frames.stack.items f (drop n (elements_of p))
 abbrev pub GoesOnBy : Rule → ℕ → Start → Parser → Type 0
 GoesOnBy r n s p = RuleLeads r (CoreMade (level n s p)) (left_of p)
 
--- how many elements a state speaks of
+-- how many elements a state speaks of, beside those of all frames
 abbrev pub state_count : State → ℕ
 state_count state.Next = 0
 state_count (state.Core core) = 1
@@ -56,7 +56,7 @@ state_count (state.Atom core scripts) = script_count scripts + 1
 state_count (state.Operand operand) = 1
 state_count (state.Word ws place a) = ws.count
 state_count (state.Words ws) = ws.count
-state_count (state.End count) = count
+state_count (state.End count) = 0
 state_count state.Refused = 0
 
 -- What holds of a state.
@@ -154,9 +154,9 @@ given_by st = core_made
 abbrev pub HasElements : ℕ → Parser → Type 0
 HasElements n p = sum_by element_count p.frames.stack.items + n ≤ length (elements_of p)
 
--- The state can come next. The formula may end in any frame.
+-- The state can come next. The formula may end in any frame; where it is read, its elements are there.
 abbrev pub MayCome : State → Parser → Type 0
-MayCome (state.End count) p = ⊤
+MayCome (state.End count) p = count ≤ length (elements_of p)
 MayCome state.Refused p = ⊤
 MayCome st p = Awaits (given_by st) p
 

@@ -81,6 +81,16 @@ impl Kind {
         matches!(self, Kind::UprightLetters)
     }
 
+    /// Whether it can be said where the limits of the atom are to stand: it is an operator.
+    pub(crate) fn takes_limits(self) -> bool
+        ensures { result ≡ Makes.takes_limits (kind_of self) }
+    {
+        matches!(
+            self,
+            Kind::SignOf(Class::Operator) | Kind::Plain(Class::Operator) | Kind::FunctionWord
+        )
+    }
+
     /// The class of the atom as a base: a binary operator and a relation stay what they are.
     pub(crate) fn class(self) -> Class
         ensures { class_of result ≡ Rows.class_of_kind (kind_of self) }
@@ -184,14 +194,13 @@ impl Before {
     }
 }
 
-/// Whether a thin space stands between two atoms.
+/// Whether a thin space stands between two atoms. An operator has a space of its own before it.
 fn parts(before: Before, behind: Before) -> bool
     ensures { result ≡ Atoms.parts (before_of before) (before_of behind) }
 {
     match (before, behind) {
         (Before::AfterName, Before::AfterName) => true,
-        (Before::AfterName, Before::After(Class::Ordinary | Class::Operator | Class::Inner)) =>
-            true,
+        (Before::AfterName, Before::After(Class::Ordinary | Class::Inner)) => true,
         (Before::After(Class::Ordinary | Class::Closing | Class::Inner), Before::AfterName) => true,
         _ => false,
     }
@@ -268,12 +277,14 @@ pub(crate) struct Scripts {
     /// Whether the script below was read after the one above.
     pub(crate) is_exchanged: bool,
     pub(crate) limits: LimitPlace,
+    /// Whether it can be said where they are to stand.
+    pub(crate) takes_limits: bool,
 }
 
 impl Scripts {
-    /// No scripts.
-    pub(crate) fn none(limits: LimitPlace) -> Scripts
-        ensures { result ≡ record { primes = 0; below = false; above = false; is_exchanged = false; limits = limits } }
+    /// No scripts after an atom of this kind.
+    pub(crate) fn none(kind: Kind, limits: LimitPlace) -> Scripts
+        ensures { result ≡ record { primes = 0; below = false; above = false; is_exchanged = false; limits = limits; takes_limits = Makes.takes_limits (kind_of kind) } }
     {
         Scripts {
             primes: 0,
@@ -281,6 +292,7 @@ impl Scripts {
             above: false,
             is_exchanged: false,
             limits,
+            takes_limits: kind.takes_limits(),
         }
     }
 

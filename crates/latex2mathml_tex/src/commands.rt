@@ -11,7 +11,7 @@ use crate::meaning::{Entry, Meaning};
 use std::cmp::Ordering;
 
 /// What the command of this name means, if there is one.
-pub fn look_up(name: &str) -> Option<Meaning>
+pub(crate) fn look_up(name: &str) -> Option<Meaning>
     ensures { MatchOption result (meaning_of name.now ≡ None)
         (λ meaning. meaning_of name.now ≡ Some (Meanings.meaning_of meaning)) }
 {

@@ -47,12 +47,16 @@ fn delimiter_command(name: &str) -> Option<char>
         "lfloor" => Some('⌊'),
         "lgroup" => Some('⟮'),
         "llbracket" => Some('⟦'),
+        "lmoustache" => Some('⎰'),
+        "lparen" => Some('('),
         "lvert" | "rvert" | "vert" => Some('|'),
         "rbrace" | "}" => Some('}'),
         "rbrack" => Some(']'),
         "rceil" => Some('⌉'),
         "rfloor" => Some('⌋'),
         "rgroup" => Some('⟯'),
+        "rmoustache" => Some('⎱'),
+        "rparen" => Some(')'),
         "rrbracket" => Some('⟧'),
         "ulcorner" => Some('⌜'),
         "uparrow" => Some('↑'),
@@ -67,7 +71,9 @@ fn delimiter_character(c: char) -> Option<char>
     ensures { result ≡ entry_of_character delimiter_characters c }
 {
     match c {
-        '(' | ')' | '/' | '[' | ']' | '|' | '⟨' | '⟩' => Some(c),
+        '(' | ')' | '/' | '[' | ']' | '|' => Some(c),
+        '⌈' | '⌉' | '⌊' | '⌋' | '⎰' | '⎱' => Some(c),
+        '⟨' | '⟩' | '⟮' | '⟯' => Some(c),
         '<' => Some('⟨'),
         '>' => Some('⟩'),
         _ => None,

@@ -1,4 +1,10 @@
 //! Why a formula is refused.
+ghost use Rattle.std.specs.Prelude.{◌≡◌, Some};
+ghost use Rattle.latex2mathml_tex.specs.ErrorTexts.{error_text, has_place, kind_text};
+ghost use Rattle.latex2mathml_tex.specs.Errors.{out_of_memory};
+
+use std::alloc::AllocError;
+use std::error::Error;
 use std::fmt;
 
 /// Why a formula is refused, or that memory is missing. The name of a command is without its backslash.
@@ -24,7 +30,7 @@ pub enum TexErrorKind {
     UnopenedBrace,
     RightWithoutLeft,
     MiddleWithoutLeft,
-    /// `\limits` or `\nolimits` with nothing before it.
+    /// `\limits` or `\nolimits` that stands after no operator.
     LimitsWithoutOperator,
     SecondSubscript,
     SecondSuperscript,
@@ -40,19 +46,24 @@ pub enum TexErrorKind {
     CommandInWords(String),
     /// A character that cannot stand in words.
     CharacterInWords(char),
+    /// Definitions were given. They are not read yet.
+    DefinitionsGiven,
     /// Out of memory.
     OutOfMemory,
 }
 
-/// Why a formula is refused, and the byte of its text where what is refused begins.
+/// Why a formula is refused, and the byte of its text where what is refused begins. [`TexError::position`] tells that place as a
+/// line and a column.
 #[derive(Debug, Drop)]
 pub struct TexError {
     pub kind: TexErrorKind,
     pub place: usize,
 }
 
-/// The kind in words.
+/// Prints the kind in words, such as `unknown command \foo`.
 impl fmt::Display for TexErrorKind {
+    ghost output = { λ kind. Some (kind_text kind) };
+
     fn fmt<W: fmt::Write>(&self, f: &mut fmt::Formatter<W>) -> fmt::Result {
         match self {
             TexErrorKind::LoneBackslash => f.write_str("a backslash ends the formula"),
@@ -79,14 +90,58 @@ impl fmt::Display for TexErrorKind {
             TexErrorKind::MisplacedCharacter(c) => write!(f, "{c} has no meaning here"),
             TexErrorKind::CommandInWords(name) => write!(f, "\\{name} in words"),
             TexErrorKind::CharacterInWords(c) => write!(f, "{c} in words"),
+            TexErrorKind::DefinitionsGiven => f.write_str("definitions are not read yet"),
             TexErrorKind::OutOfMemory => f.write_str("out of memory"),
         }
     }
 }
 
-/// The kind in words, and the place.
+/// Prints the kind in words and, where the error is about a place, the place, such as `unknown command \foo at 7`.
 impl fmt::Display for TexError {
+    ghost output = { λ error. Some (error_text error) };
+
     fn fmt<W: fmt::Write>(&self, f: &mut fmt::Formatter<W>) -> fmt::Result {
-        write!(f, "{} at {}", self.kind, self.place)
+        if self.kind.has_place() {
+            write!(f, "{} at {}", self.kind, self.place)
+        } else {
+            write!(f, "{}", self.kind)
+        }
+    }
+}
+
+impl Error for TexError {}
+
+impl TexErrorKind {
+    /// Whether errors of this kind are about a place of the formula.
+    fn has_place(&self) -> bool
+        ensures { result ≡ has_place self.now }
+    {
+        !matches!(
+            self,
+            TexErrorKind::DefinitionsGiven | TexErrorKind::OutOfMemory
+        )
+    }
+}
+
+impl TexError {
+    /// Out of memory: no place of the text is at fault.
+    #[cold]
+    pub(crate) fn out_of_memory() -> TexError
+        ensures { result ≡ out_of_memory }
+    {
+        TexError {
+            kind: TexErrorKind::OutOfMemory,
+            place: 0,
+        }
+    }
+}
+
+impl From<AllocError> for TexError {
+    ghost use Rattle.latex2mathml_tex.specs.Errors.{out_of_memory};
+
+    ghost from_gives = { λ _ error. error ≡ out_of_memory };
+
+    fn from(_refused: AllocError) -> TexError {
+        TexError::out_of_memory()
     }
 }

@@ -1,18 +1,28 @@
-//! LaTeX as authors write it, read to elements of MathML.
+//! LaTeX as authors write it, turned into MathML.
 //!
-//! The crate `latex2mathml_tex_grammar` defines what each formula means. What is here so far takes the units of a text, looks
-//! commands, characters and delimiters up, and makes the elements of atoms, rows and constructs.
+//! - [`tex_to_mathml`] converts a formula to a `math` element.
+//! - [`Converter`] converts one formula after another, and keeps its memory.
+//! - [`TexError`] says why a formula is refused, and where.
+//!
+//! The crate `latex2mathml_tex_grammar` defines what each formula means, and has laws of that.
 #![tactic(auto)]
 
 mod alphabets;
 mod atoms;
-pub mod commands;
+mod commands;
+mod convert;
 mod delimiters;
-pub mod error;
+mod error;
 mod input;
-pub mod meaning;
+mod meaning;
 mod parse;
+mod position;
 mod reader;
 mod shapes;
 mod signs;
-pub mod unit;
+mod unit;
+
+pub use convert::{Converter, tex_to_mathml};
+pub use error::{TexError, TexErrorKind};
+pub use latex2mathml_tokens::DisplayStyle;
+pub use position::Position;

@@ -2,8 +2,8 @@
 use latex2mathml_builder::attributes::{Side, Size, Stretch};
 
 /// The class of an atom.
-#[derive(Debug, Clone, Copy)]
-pub enum Class {
+#[derive(Clone, Copy)]
+pub(crate) enum Class {
     Ordinary,
     Operator,
     Binary,
@@ -15,16 +15,16 @@ pub enum Class {
 }
 
 /// The style of a formula.
-#[derive(Debug, Clone, Copy)]
-pub enum Style {
+#[derive(Clone, Copy)]
+pub(crate) enum Style {
     InDisplay,
     InText,
     InScript,
 }
 
 /// An alphabet for letters and digits.
-#[derive(Debug, Clone, Copy)]
-pub enum Alphabet {
+#[derive(Clone, Copy)]
+pub(crate) enum Alphabet {
     Upright,
     Italic,
     Bold,
@@ -37,8 +37,8 @@ pub enum Alphabet {
 }
 
 /// What a character is.
-#[derive(Debug, Clone, Copy)]
-pub enum Symbol {
+#[derive(Clone, Copy)]
+pub(crate) enum Symbol {
     /// A letter that is italic by itself.
     Letter(char),
     /// A letter that is upright by itself.
@@ -52,15 +52,15 @@ pub enum Symbol {
 }
 
 /// Whether a fraction has its bar, or parentheses around it.
-#[derive(Debug, Clone, Copy)]
-pub enum FractionRule {
+#[derive(Clone, Copy)]
+pub(crate) enum FractionRule {
     Bar,
     NoBar,
 }
 
 /// Where the limits of an operator stand.
-#[derive(Debug, Clone, Copy)]
-pub enum LimitPlace {
+#[derive(Clone, Copy)]
+pub(crate) enum LimitPlace {
     Beside,
     /// In display style above and below it, else beside it.
     ByStyle,
@@ -71,8 +71,8 @@ pub enum LimitPlace {
 }
 
 /// What a command means.
-#[derive(Debug, Clone, Copy)]
-pub enum Meaning {
+#[derive(Clone, Copy)]
+pub(crate) enum Meaning {
     /// A character.
     Shows(Symbol),
     /// The name of a function.
@@ -111,8 +111,8 @@ pub enum Meaning {
 }
 
 /// The name of a command, without its backslash, and what it means.
-#[derive(Debug, Clone, Copy)]
-pub struct Entry {
-    pub name: &'static str,
-    pub meaning: Meaning,
+#[derive(Clone, Copy)]
+pub(crate) struct Entry {
+    pub(crate) name: &'static str,
+    pub(crate) meaning: Meaning,
 }

@@ -1,15 +1,19 @@
 //! Units to elements: one loop over a stack of frames. Each step is proved to lead to what the definitions say about the
 //! units that were left before it.
-ghost use Rattle.std.specs.Prelude.{◌≡◌, ◌+◌, [], IfOk, IsTrue, Some};
+ghost use Rattle.std.specs.Prelude.{◌≡◌, ◌≢◌, ◌+◌, ℕ, [], IfOk, IsTrue, Some};
 ghost use Rattle.std.specs.Str.{chars};
 ghost use Rattle.latex2mathml_tex_grammar.specs.{Cutting.units_of, Next.past_space, Next.refusal_here};
 ghost use Rattle.latex2mathml_tex_grammar.specs.Refusal.{MissingDelimiter, refusal_at};
 ghost use Rattle.latex2mathml_tex.specs.{Errors.refusal_of, Frames.Start, Frames.element_count, Left.units_at, Levels.Leads, Meanings.style_of, Taking.kind_of};
-ghost use Rattle.latex2mathml_tex.specs.Steps.{CanMake, Holds, IsStep, accepts, core_made, frame_weight, left_of, level_within, makes};
+ghost use Rattle.latex2mathml_tex.specs.Steps.{CanMake, Holds, IsStep, Ready, accepts, core_made, frame_weight, last_state, left_of, level_within, makes, state_weight};
 
+mod begin;
+mod deliver;
 pub(crate) mod frames;
 mod leaves;
+mod rows;
 pub(crate) mod scripts;
+mod symbols;
 mod words;
 
 use crate::atoms::{Core, Operand, Scripts, Words};
@@ -69,7 +73,23 @@ impl<'a> Parser<'a> {
             style,
             frames: Frames::new(alloc),
             builder: Builder::new(alloc),
-            refusal: out_of_memory(),
+            refusal: TexError::out_of_memory(),
+        }
+    }
+
+    /// Goes on until the formula is read or refused. Returns how many elements it has, if it is read.
+    pub(crate) fn finish(&mut self) -> Result<Option<usize>, AllocError>
+        requires { self.old.frames.stack.items ≡ [] }
+        ensures holds { (s : Start) → Holds s self.old State.Next → IfOk result (λ read. Holds s self.new (last_state read)) }
+        ensures ready { IfOk result (λ read. Ready self.new (last_state read)) }
+    {
+        let mut state = State::Next;
+        'steps: loop {
+            match state {
+                State::End(count) => return Ok(Some(count)),
+                State::Refused => return Ok(None),
+                going_on => state = self.step(going_on)?,
+            }
         }
     }
 
@@ -78,7 +98,40 @@ impl<'a> Parser<'a> {
     pub(crate) fn refusal(&mut self) -> TexError
         ensures { result ≡ self.old.refusal }
     {
-        mem::replace(&mut self.refusal, out_of_memory())
+        mem::replace(&mut self.refusal, TexError::out_of_memory())
+    }
+
+    fn step(&mut self, state: State) -> Result<State, AllocError>
+        requires going_on { ((count : ℕ) → state ≢ State.End count) × (state ≢ State.Refused) }
+        requires ready { Ready self.old state }
+        ensures holds { (s : Start) → Holds s self.old state → IfOk result (Holds s self.new) }
+        ensures step { IsStep (state_weight state) self.old self.new result }
+    {
+        match state {
+            State::Next => self.next(),
+            State::Core(core) => self.deliver_core(core),
+            State::Atom(core, scripts) => self.go_on(core, scripts),
+            State::Operand(operand) => self.deliver_operand(operand),
+            State::Word(words, place, alphabet) => self.word(words, place, alphabet),
+            State::Words(words) => self.deliver_words(words),
+            State::End(_) | State::Refused => unreachable!(),
+        }
+    }
+
+    /// Reads what the innermost frame waits for.
+    fn next(&mut self) -> Result<State, AllocError>
+        requires { Ready self.old State.Next }
+        ensures holds { (s : Start) → Holds s self.old State.Next → IfOk result (Holds s self.new) }
+        ensures step { IsStep 1 self.old self.new result }
+    {
+        match self.frames.innermost(self.style) {
+            Frame::Row(ending, place, _, row) => self.next_atom(ending, place, row),
+            Frame::Last(_, place, _) => self.next_operand(place),
+            Frame::First(_, place, _) => self.next_operand(place),
+            Frame::Script(_, _, _, place, _) => self.next_operand(place),
+            Frame::Negation(place, _) => self.next_core(place),
+            Frame::Text | Frame::Words(_, _) => unreachable!(),
+        }
     }
 
     /// Begins something. What it waits for is due then.
@@ -120,6 +173,7 @@ impl<'a> Parser<'a> {
     #[cold]
     pub(crate) fn refuse_delimiter(&mut self) -> State
         ensures state { result ≡ State.Refused }
+        ensures units { units_at self.new.input ≡ past_space (units_at self.old.input) }
         ensures refusal { refusal_of self.new.refusal ≡ Some (refusal_here MissingDelimiter (past_space (units_at self.old.input))) }
         ensures parser { self.new ≡ record self.old { input = self.new.input; refusal = self.new.refusal } }
     {
@@ -130,13 +184,5 @@ impl<'a> Parser<'a> {
             Next::End(place) => self.refuse(kind, place),
             Next::Fault(fault, place) => self.refuse_fault(fault, place),
         }
-    }
-}
-
-/// The error that is there before any other.
-fn out_of_memory() -> TexError {
-    TexError {
-        kind: TexErrorKind::OutOfMemory,
-        place: 0,
     }
 }

@@ -3,7 +3,7 @@ ghost use Rattle.std.specs.Prelude.{◌≡◌, ◌+◌, ◌≤◌, ◌&&◌, ◌
 ghost use Rattle.latex2mathml_elements.specs.{Attributes.plain, Element.Element, Element.pair};
 ghost use Rattle.latex2mathml_elements.specs.Attributes as attributes;
 ghost use Rattle.latex2mathml_builder.specs.Built.{elements_in};
-ghost use Rattle.latex2mathml_builder.specs.Names.{attributes_of, pair_of, side_of, size_of, stretch_of};
+ghost use Rattle.latex2mathml_builder.specs.Names.{attributes_of, pair_of, side_of, size_of, space_of, stretch_of};
 ghost use Rattle.latex2mathml_tex_grammar.specs.Atoms;
 ghost use Rattle.latex2mathml_tex_grammar.specs.Makes;
 ghost use Rattle.latex2mathml_tex_grammar.specs.Meaning;
@@ -201,6 +201,54 @@ fn make_prefix(builder: &mut Builder)
                 ..attributes
             },
         );
+    }
+}
+
+/// Makes the uppermost element, an operand of its own class, what an atom of another class is made of.
+pub(crate) fn make_base(builder: &mut Builder, style: Style, class: Class, own: Class)
+    ensures elements { elements_in builder.new ≡ changed_at (Atoms.element_as (style_of style) (class_of class) (class_of own)) 0 (elements_in builder.old) }
+    ensures length { length (elements_in builder.new) ≡ length (elements_in builder.old) }
+{
+    match own {
+        Class::Binary | Class::Relation => free_sign(builder, style, class),
+        _ => {}
+    }
+}
+
+/// A sign that is all of an atom of this class stands before no operand.
+fn free_sign(builder: &mut Builder, style: Style, class: Class)
+    ensures { elements_in builder.new ≡ changed_at (Atoms.lone_sign (style_of style) (class_of class)) 0 (elements_in builder.old) }
+{
+    let Some((tag, attributes)) = builder.token_at(0) else {
+        return;
+    };
+    if let Token::Mo = tag {
+        builder.give(
+            0,
+            Attributes {
+                form: None,
+                space: space_as(style, class, attributes.space),
+                ..attributes
+            },
+        );
+    }
+}
+
+/// The space around a sign that is all of an atom of this class.
+fn space_as(style: Style, class: Class, space: Option<Space>) -> Option<Space>
+    ensures { option_map space_of result ≡ Atoms.space_as (style_of style) (class_of class) (option_map space_of space) }
+{
+    match style {
+        Style::InScript => Some(Space::NoSpace),
+        Style::InDisplay | Style::InText => match class {
+            Class::Binary | Class::Relation => space,
+            Class::Ordinary
+            | Class::Operator
+            | Class::Opening
+            | Class::Closing
+            | Class::Punctuation
+            | Class::Inner => Some(Space::NoSpace),
+        },
     }
 }
 

@@ -8,7 +8,13 @@ mod ascii;
 mod table;
 
 use crate::meaning::Symbol;
-use crate::signs::table::SignEntry;
+
+/// A character, and what it is.
+#[derive(Clone, Copy)]
+pub(crate) struct SignEntry {
+    pub(crate) character: char,
+    pub(crate) symbol: Symbol,
+}
 
 /// What this character is, if it is a sign, or a letter that is not ASCII.
 pub(crate) fn symbol_of(c: char) -> Option<Symbol>

@@ -1,8 +1,8 @@
 //! Units: what a text is cut into.
 
 /// What a unit is. The name of a command is without its backslash.
-#[derive(Debug, Clone, Copy)]
-pub enum Piece<'a> {
+#[derive(Clone, Copy)]
+pub(crate) enum Piece<'a> {
     /// White space, however much.
     Space,
     /// `{`.
@@ -16,15 +16,15 @@ pub enum Piece<'a> {
 }
 
 /// A unit, and the byte of the text where it begins.
-#[derive(Debug, Clone, Copy)]
-pub struct Unit<'a> {
-    pub piece: Piece<'a>,
-    pub place: usize,
+#[derive(Clone, Copy)]
+pub(crate) struct Unit<'a> {
+    pub(crate) piece: Piece<'a>,
+    pub(crate) place: usize,
 }
 
 /// What is no unit.
-#[derive(Debug, Clone, Copy)]
-pub enum Fault {
+#[derive(Clone, Copy)]
+pub(crate) enum Fault {
     /// A backslash ends the text.
     LoneBackslash,
     /// XML forbids this character.
@@ -32,8 +32,8 @@ pub enum Fault {
 }
 
 /// What stands next in a text.
-#[derive(Debug, Clone, Copy)]
-pub enum Next<'a> {
+#[derive(Clone, Copy)]
+pub(crate) enum Next<'a> {
     /// A unit.
     Unit(Unit<'a>),
     /// The end of the text, at this byte.

@@ -89,7 +89,7 @@ data Begins (place : ℕ) (text : List ℕ) : Type 0 where
   no_slice : (refusal : Refusal) → IsRefusedAt place text refusal → Begins place text
 
 -- the only character that is equal
-is_byte : (c b : ℕ) → (c == b) ≡ true → c ≡ b
+pub is_byte : (c b : ℕ) → (c == b) ≡ true → c ≡ b
 is_byte c b h = grind (arith, nat_tests)
 
 not_in_line : (c : ℕ) → is_in_line c ≡ false → c ≡ byte "\n"

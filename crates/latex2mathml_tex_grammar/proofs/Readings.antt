@@ -6,7 +6,7 @@ use Rattle.latex2mathml_tex_grammar.specs.{Cutting.units_of, Units.Units, Units.
 use Rattle.latex2mathml_tex_grammar.proofs.{OneList.has_units, OneList.units_are, Total.has_one_outcome, Unique.one_atoms}
 
 -- a formula is read to the end of its text
-to_the_end : {c : Context} {row other : Row} {l rest : Units} → ReadsAtoms WholeText c row l (Read other rest) → (end : ℕ) × (rest ≡ End end)
+pub to_the_end : {c : Context} {row other : Row} {l rest : Units} → ReadsAtoms WholeText c row l (Read other rest) → (end : ℕ) × (rest ≡ End end)
 to_the_end (text_ends {at = at} p e) = (at, refl)
 to_the_end (atoms_end p s) = cc
 to_the_end (atom_read p s d ds) = to_the_end ds

@@ -3,10 +3,10 @@ use Rattle.std.proofs.Common.{ℕ, zero, suc, ◌-◌, ◌<◌, ◌≤◌, ◌�
 use Rattle.std.proofs.lemmas.Bool.{cases_Bool}
 use Rattle.latex2mathml_tex_grammar.specs.{Atoms.Atom, Rows.Row, Rows.Operand, Rows.empty_row, Rows.row_element, Rows.with_atom, Rows.operand_of, Rows.single, Delimiters.delimiter_of, Laws.HasOneOutcome, Makes.Core, Makes.core, Makes.divider, Makes.Scripts, Makes.no_scripts, Meaning.Beside}
 use Rattle.latex2mathml_tex_grammar.specs.Next.{is_space_piece, past_space, next_are, digits_next, digits_here}
-use Rattle.latex2mathml_tex_grammar.specs.Reading.{Outcome, Read, Refused, ReadsRule, rule_gives, rule_refuses, operand_read, operand_refused, core_read, core_refused, core_missing, core_stopped, atoms_read, atoms_refused, words_read, words_refused, units_taken, units_missing, digits_taken, delimiter_taken, delimiter_missing, ReadsOperand, group_operand, group_refused, digit_operand, other_operand, other_refused, no_operand, operand_at_end, operand_stopped, ReadsScripts, scripts_end, mark_taken, script_read, script_refused, second_script, ReadsAtom, divider_read, divider_refused, on_empty_row, base_read, base_refused, ReadsAtoms, text_ends, never_ended, atoms_stopped, atoms_end, atom_read, atom_refused, ReadsWord, word_stands, group_of_words, formula_read, formula_refused, words_in_alphabet, no_word, word_missing, word_at_end, word_stopped, ReadsWords, words_end, words_never_ended, words_stopped, word_read, word_refused}
+use Rattle.latex2mathml_tex_grammar.specs.Reading.{Outcome, Read, Refused, ReadsRule, rule_gives, rule_refuses, operand_read, operand_refused, core_read, core_refused, core_missing, core_stopped, atoms_read, atoms_refused, words_read, words_refused, units_taken, units_missing, digits_taken, delimiter_taken, delimiter_missing, ReadsOperand, group_operand, group_refused, digit_operand, other_operand, other_refused, no_operand, operand_at_end, operand_stopped, ReadsScripts, scripts_end, mark_taken, script_read, script_refused, mark_refused, ReadsAtom, divider_read, divider_refused, on_empty_row, base_read, base_refused, ReadsAtoms, text_ends, never_ended, atoms_stopped, atoms_end, atom_read, atom_refused, ReadsWord, word_stands, group_of_words, formula_read, formula_refused, words_in_alphabet, no_word, word_missing, word_at_end, word_stopped, ReadsWords, words_end, words_never_ended, words_stopped, word_read, word_refused}
 use Rattle.latex2mathml_tex_grammar.specs.Refusal.{Refusal}
 use Rattle.latex2mathml_tex_grammar.specs.Rules.{Context, in_context, styled, Ending, WholeText, InBraces, InBrackets, InDollars, InDelimiters, Rule, gives, refuses, reads_operand, reads_core, reads_atoms, reads_words, takes_if, takes_digits, takes_delimiter, rule, a_digit}
-use Rattle.latex2mathml_tex_grammar.specs.Starts.{Mark, start_of_mark, is_command, step_of, AtomStart, DividerStart, ScriptStart, RuleStart, OperandStart, NoStart, GroupStart, DigitStart, OtherStart, atom_start, operand_start, mark_of, Step, GoesOn, TakesOperand, Twice, step_of_mark, step_next, empty_base, ends, unended, is_close}
+use Rattle.latex2mathml_tex_grammar.specs.Starts.{Mark, start_of_mark, is_command, step_of, AtomStart, DividerStart, ScriptStart, RuleStart, OperandStart, NoStart, GroupStart, DigitStart, OtherStart, atom_start, operand_start, mark_of, Step, GoesOn, TakesOperand, Forbidden, step_of_mark, step_next, empty_base, ends, unended, is_close}
 use Rattle.latex2mathml_tex_grammar.specs.Symbols.{InText, InScript, Alphabet}
 use Rattle.latex2mathml_tex_grammar.specs.Units.{Piece, Space, Open, Close, Command, Character, Unit, Units, Next, End, Stop}
 use Rattle.latex2mathml_tex_grammar.specs.Words.{Words, no_words, Formula, with_word, WordRule, IsWord, BeginsGroup, EndsGroup, BeginsFormula, TakesWords, NoWord, word_rule}
@@ -125,7 +125,7 @@ stepped : (k : ℕ) → HasOutcomes k → (c : Context) (base : Atom) (scripts :
 stepped k has c base scripts l m u p h (GoesOn more) s = with_outcome (has.of_scripts c base more m h) (omega arith) (λ o. mark_taken p s)
 stepped k has c base scripts l m u p h (TakesOperand f) s =
     after (λ x n. ReadsScripts c base (f x.element) n) (has.of_operand u.place (styled c InScript) m h) (omega arith) (λ x n fits. has.of_scripts c base (f x.element) n (omega arith)) (λ x n o. script_read p s) (λ r. script_refused p s)
-stepped k has c base scripts l m u p h (Twice kind) s = is_refused _ (second_script p s)
+stepped k has c base scripts l m u p h (Forbidden kind) s = is_refused _ (mark_refused p s)
 
 marked : (k : ℕ) → HasOutcomes k → (c : Context) (base : Atom) (scripts : Scripts) (l m : Units) (u : Unit) → past_space l ≡ Next u m → size m < size l → size l < suc k → (step : Option Step) → step_of_mark scripts (mark_of u.piece) ≡ step → Comes Atom (ReadsScripts c base scripts l) (size l)
 marked k has c base scripts l m u p less h None s = comes_to _ l (omega arith) (scripts_end (ap (step_next scripts) p ∙ s))
@@ -167,12 +167,12 @@ begun_atom k has ending c u l h DividerStart s = elim (has.of_rule (takes_delimi
   | is_refused r d ↦ is_refused r (divider_refused s d)
 ]
 begun_atom k has ending c u l h RuleStart s =
-    after (λ x n. ReadsScripts c x.atom (no_scripts x.limits) n) (has.of_rule (rule u.place c u.piece) l h) (omega arith) (λ x n fits. has.of_scripts c x.atom (no_scripts x.limits) n (omega arith)) (λ x n o. base_read s) (λ r. base_refused s)
+    after (λ x n. ReadsScripts c x.atom (no_scripts x.atom.kind x.limits) n) (has.of_rule (rule u.place c u.piece) l h) (omega arith) (λ x n fits. has.of_scripts c x.atom (no_scripts x.atom.kind x.limits) n (omega arith)) (λ x n o. base_read s) (λ r. base_refused s)
 begun_atom k has ending c u l h ScriptStart s =
     let (mark, e) = script_mark ending u.piece s in
     let stays : past_space (Next u l) ≡ Next u l = rw (mark_no_space u.piece mark e) refl in
-    let step : step_of_mark (no_scripts Beside) (mark_of u.piece) ≡ Some (step_of (no_scripts Beside) None None mark) = rw e refl in
-    with_outcome (stepped k has c empty_base (no_scripts Beside) (Next u l) l u stays h _ step) (omega arith) (λ o. on_empty_row s)
+    let step : step_of_mark (no_scripts empty_base.kind Beside) (mark_of u.piece) ≡ Some (step_of (no_scripts empty_base.kind Beside) None None mark) = rw e refl in
+    with_outcome (stepped k has c empty_base (no_scripts empty_base.kind Beside) (Next u l) l u stays h _ step) (omega arith) (λ o. on_empty_row s)
 
 -- an atom that has an outcome, and then the atoms after it
 atom_total : (k : ℕ) → HasOutcomes k → (ending : Ending) (c : Context) (row : Row) (l m : Units) (u : Unit) → past_space l ≡ Next u m → size m < size l → size l < suc k → ends ending u.piece ≡ false → Comes Row (ReadsAtoms ending c row l) (size l)

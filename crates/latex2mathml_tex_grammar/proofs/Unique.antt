@@ -2,9 +2,9 @@
 use Rattle.std.proofs.Common.{◌≡◌, ℕ, Option, Some, None, refl, ap, subst}
 use Rattle.latex2mathml_elements.specs.Element.{Element}
 use Rattle.latex2mathml_tex_grammar.specs.{Atoms.Atom, Makes.Core, Makes.Scripts, Makes.no_scripts, Rows.Row, Rows.Operand, Rows.empty_row, Rows.with_atom}
-use Rattle.latex2mathml_tex_grammar.specs.Reading.{Outcome, Read, Refused, ReadsRule, rule_gives, rule_refuses, operand_read, operand_refused, core_read, core_refused, core_missing, core_stopped, atoms_read, atoms_refused, words_read, words_refused, units_taken, units_missing, digits_taken, delimiter_taken, delimiter_missing, ReadsOperand, group_operand, group_refused, digit_operand, other_operand, other_refused, no_operand, operand_at_end, operand_stopped, ReadsScripts, scripts_end, mark_taken, script_read, script_refused, second_script, ReadsAtom, divider_read, divider_refused, on_empty_row, base_read, base_refused, ReadsAtoms, text_ends, never_ended, atoms_stopped, atoms_end, atom_read, atom_refused, ReadsWord, word_stands, group_of_words, formula_read, formula_refused, words_in_alphabet, no_word, word_missing, word_at_end, word_stopped, ReadsWords, words_end, words_never_ended, words_stopped, word_read, word_refused}
+use Rattle.latex2mathml_tex_grammar.specs.Reading.{Outcome, Read, Refused, ReadsRule, rule_gives, rule_refuses, operand_read, operand_refused, core_read, core_refused, core_missing, core_stopped, atoms_read, atoms_refused, words_read, words_refused, units_taken, units_missing, digits_taken, delimiter_taken, delimiter_missing, ReadsOperand, group_operand, group_refused, digit_operand, other_operand, other_refused, no_operand, operand_at_end, operand_stopped, ReadsScripts, scripts_end, mark_taken, script_read, script_refused, mark_refused, ReadsAtom, divider_read, divider_refused, on_empty_row, base_read, base_refused, ReadsAtoms, text_ends, never_ended, atoms_stopped, atoms_end, atom_read, atom_refused, ReadsWord, word_stands, group_of_words, formula_read, formula_refused, words_in_alphabet, no_word, word_missing, word_at_end, word_stopped, ReadsWords, words_end, words_never_ended, words_stopped, word_read, word_refused}
 use Rattle.latex2mathml_tex_grammar.specs.Rules.{Context, Ending, InBraces, Rule, rule}
-use Rattle.latex2mathml_tex_grammar.specs.{Starts.step_next, Starts.step_of_mark, Starts.mark_of, Starts.Step, Starts.GoesOn, Starts.TakesOperand, Starts.Twice, Refusal.Kind, Refusal.refusal_at, Symbols.Alphabet, Words.Words, Words.WordRule, Words.TakesWords}
+use Rattle.latex2mathml_tex_grammar.specs.{Starts.step_next, Starts.step_of_mark, Starts.mark_of, Starts.Step, Starts.GoesOn, Starts.TakesOperand, Starts.Forbidden, Refusal.Kind, Refusal.refusal_at, Symbols.Alphabet, Words.Words, Words.WordRule, Words.TakesWords}
 use Rattle.latex2mathml_tex_grammar.specs.Units.{Unit, Units, Next}
 
 -- what holds of the unit that stands next, and of the units after it, holds whichever way it was found
@@ -50,8 +50,8 @@ rule_moved then {o = o} e d = moved (λ x m. ReadsRule (then x) m o) e d
 taken_moved : {A : Type 0} (then : A → Rule) {found : Option (A × Units)} {x y : A} {m n : Units} {o : Outcome Core} → found ≡ Some (x, m) → found ≡ Some (y, n) → ReadsRule (then y) n o → ReadsRule (then x) m o
 taken_moved then {o = o} p q d = moved_some (λ x m. ReadsRule (then x) m o) p q d
 
-base_moved : {c : Context} {x y : Core} {m n : Units} {o : Outcome Atom} → Read x m ≡ Read y n → ReadsScripts c y.atom (no_scripts y.limits) n o → ReadsScripts c x.atom (no_scripts x.limits) m o
-base_moved {c} {o = o} e d = moved (λ x m. ReadsScripts c x.atom (no_scripts x.limits) m o) e d
+base_moved : {c : Context} {x y : Core} {m n : Units} {o : Outcome Atom} → Read x m ≡ Read y n → ReadsScripts c y.atom (no_scripts y.atom.kind y.limits) n o → ReadsScripts c x.atom (no_scripts x.atom.kind x.limits) m o
+base_moved {c} {o = o} e d = moved (λ x m. ReadsScripts c x.atom (no_scripts x.atom.kind x.limits) m o) e d
 
 atoms_moved : {ending : Ending} {c : Context} (row : Row) {x y : Atom} {m n : Units} {o : Outcome Row} → Read x m ≡ Read y n → ReadsAtoms ending c (with_atom c.style row y) n o → ReadsAtoms ending c (with_atom c.style row x) m o
 atoms_moved {ending} {c} row {o = o} e d = moved (λ x m. ReadsAtoms ending c (with_atom c.style row x) m o) e d
@@ -73,7 +73,7 @@ goes_on step P {m = m} {n = n} {a = a} {b = b} p q s t e =
 same_operand_step : (step : Unit → Option Step) (P : (Element → Scripts) → Type 0) {w m n : Units} {u v : Unit} {f g : Element → Scripts} → w ≡ Next u m → w ≡ Next v n → step u ≡ Some (TakesOperand f) → step v ≡ Some (TakesOperand g) → P g → P f
 same_operand_step step P {f = f} {g = g} p q s t e = (let same : g ≡ f = cc (one_step step p q s t) in subst P same e)
 
-same_second : (step : Unit → Option Step) {w m n : Units} {u v : Unit} {a b : Kind} → w ≡ Next u m → w ≡ Next v n → step u ≡ Some (Twice a) → step v ≡ Some (Twice b) → refusal_at a u.place ≡ refusal_at b v.place
+same_second : (step : Unit → Option Step) {w m n : Units} {u v : Unit} {a b : Kind} → w ≡ Next u m → w ≡ Next v n → step u ≡ Some (Forbidden a) → step v ≡ Some (Forbidden b) → refusal_at a u.place ≡ refusal_at b v.place
 same_second step {u = u} {v = v} {a = a} {b = b} p q s t =
     let same : u ≡ v = cc in
     let kind : a ≡ b = cc (one_step step p q s t) in
@@ -214,25 +214,25 @@ mutual
   one_scripts (script_read {c = c} p s d ds) (script_refused q t e) = cc (one_operand d (operand_is p q e))
   one_scripts (script_refused {c = c} p s d) (script_read q t e es) = cc (one_operand d (operand_is p q e))
   one_scripts (script_refused {c = c} p s d) (script_refused q t e) = cc (one_operand d (operand_is p q e))
-  one_scripts (second_script {scripts = k} p s) (second_script q t) = ap Refused (same_second (λ u. step_of_mark k (mark_of u.piece)) p q s t)
+  one_scripts (mark_refused {scripts = k} p s) (mark_refused q t) = ap Refused (same_second (λ u. step_of_mark k (mark_of u.piece)) p q s t)
   one_scripts (scripts_end {scripts = k} s) (mark_taken q t e) = absurd (ended_there k q s t)
   one_scripts (scripts_end {scripts = k} s) (script_read q t e es) = absurd (ended_there k q s t)
   one_scripts (scripts_end {scripts = k} s) (script_refused q t e) = absurd (ended_there k q s t)
-  one_scripts (scripts_end {scripts = k} s) (second_script q t) = absurd (ended_there k q s t)
+  one_scripts (scripts_end {scripts = k} s) (mark_refused q t) = absurd (ended_there k q s t)
   one_scripts (mark_taken {scripts = k} p s d) (scripts_end t) = absurd (ended_there k p t s)
   one_scripts (mark_taken {scripts = k} p s d) (script_read q t e es) = cc (one_step (λ u. step_of_mark k (mark_of u.piece)) p q s t)
   one_scripts (mark_taken {scripts = k} p s d) (script_refused q t e) = cc (one_step (λ u. step_of_mark k (mark_of u.piece)) p q s t)
-  one_scripts (mark_taken {scripts = k} p s d) (second_script q t) = cc (one_step (λ u. step_of_mark k (mark_of u.piece)) p q s t)
+  one_scripts (mark_taken {scripts = k} p s d) (mark_refused q t) = cc (one_step (λ u. step_of_mark k (mark_of u.piece)) p q s t)
   one_scripts (script_read {scripts = k} p s d ds) (scripts_end t) = absurd (ended_there k p t s)
   one_scripts (script_read {scripts = k} p s d ds) (mark_taken q t e) = cc (one_step (λ u. step_of_mark k (mark_of u.piece)) p q s t)
-  one_scripts (script_read {scripts = k} p s d ds) (second_script q t) = cc (one_step (λ u. step_of_mark k (mark_of u.piece)) p q s t)
+  one_scripts (script_read {scripts = k} p s d ds) (mark_refused q t) = cc (one_step (λ u. step_of_mark k (mark_of u.piece)) p q s t)
   one_scripts (script_refused {scripts = k} p s d) (scripts_end t) = absurd (ended_there k p t s)
   one_scripts (script_refused {scripts = k} p s d) (mark_taken q t e) = cc (one_step (λ u. step_of_mark k (mark_of u.piece)) p q s t)
-  one_scripts (script_refused {scripts = k} p s d) (second_script q t) = cc (one_step (λ u. step_of_mark k (mark_of u.piece)) p q s t)
-  one_scripts (second_script {scripts = k} p s) (scripts_end t) = absurd (ended_there k p t s)
-  one_scripts (second_script {scripts = k} p s) (mark_taken q t e) = cc (one_step (λ u. step_of_mark k (mark_of u.piece)) p q s t)
-  one_scripts (second_script {scripts = k} p s) (script_read q t e es) = cc (one_step (λ u. step_of_mark k (mark_of u.piece)) p q s t)
-  one_scripts (second_script {scripts = k} p s) (script_refused q t e) = cc (one_step (λ u. step_of_mark k (mark_of u.piece)) p q s t)
+  one_scripts (script_refused {scripts = k} p s d) (mark_refused q t) = cc (one_step (λ u. step_of_mark k (mark_of u.piece)) p q s t)
+  one_scripts (mark_refused {scripts = k} p s) (scripts_end t) = absurd (ended_there k p t s)
+  one_scripts (mark_refused {scripts = k} p s) (mark_taken q t e) = cc (one_step (λ u. step_of_mark k (mark_of u.piece)) p q s t)
+  one_scripts (mark_refused {scripts = k} p s) (script_read q t e es) = cc (one_step (λ u. step_of_mark k (mark_of u.piece)) p q s t)
+  one_scripts (mark_refused {scripts = k} p s) (script_refused q t e) = cc (one_step (λ u. step_of_mark k (mark_of u.piece)) p q s t)
 
   -- an atom comes to one outcome
   one_atom : {ending : Ending} {c : Context} {u : Unit} {l : Units} {o p : Outcome Atom} → ReadsAtom ending c u l o → ReadsAtom ending c u l p → o ≡ p

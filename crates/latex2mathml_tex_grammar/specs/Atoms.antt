@@ -1,6 +1,6 @@
 -- Atoms, and what each is to those beside it: the space between them, prefix signs, words of upright letters.
-use Rattle.std.specs.Prelude.{Bool, true, false, Some, if◌then◌else◌}
-use Rattle.latex2mathml_elements.specs.{Attributes.Prefix, Attributes.NoSpace, Element.Element, Element.token}
+use Rattle.std.specs.Prelude.{Bool, true, false, Option, Some, None, if◌then◌else◌}
+use Rattle.latex2mathml_elements.specs.{Attributes.Prefix, Attributes.Space, Attributes.NoSpace, Element.Element, Element.Mo, Element.token}
 use Rattle.latex2mathml_tex_grammar.specs.Symbols.{Class, Ordinary, Operator, Binary, Relation, Opening, Closing, Punctuation, Inner, Style, InScript}
 
 -- what an atom is to its neighbours
@@ -67,10 +67,10 @@ past before FunctionWord = AfterName
 past before Divider = After Opening
 past before Blank = before
 
--- whether a thin space stands between two atoms: it parts the name of a function from what is ordinary, inner or an operator
+-- whether a thin space stands between two atoms: it parts the name of a function from what is ordinary or inner;
+-- an operator has a space of its own before it
 abbrev pub parts : Before → Before → Bool
 parts AfterName (After Ordinary) = true
-parts AfterName (After Operator) = true
 parts AfterName (After Inner) = true
 parts AfterName AfterName = true
 parts (After Ordinary) AfterName = true
@@ -110,3 +110,21 @@ abbrev pub element_there : Style → Before → Kind → Element → Element
 element_there style before (SignOf class) x = sign_there style (class_there before class) x
 element_there style before PlusOrMinus x = if begins_operand before then as_prefix x else tight style x
 element_there style before kind x = x
+
+-- the space around a sign that is all of an atom of this class: where the class has none, or in scripts, there is none
+abbrev pub space_as : Style → Class → Option Space → Option Space
+space_as InScript class space = Some NoSpace
+space_as style Binary space = space
+space_as style Relation space = space
+space_as style class space = Some NoSpace
+
+-- the sign, which stands before no operand
+abbrev pub lone_sign : Style → Class → Element → Element
+lone_sign style class (token Mo a text) = token Mo (record a { form = None; space = space_as style class a.space }) text
+lone_sign style class x = x
+
+-- the element of an operand in an atom of this class, where it is one atom of its own class
+abbrev pub element_as : Style → Class → Class → Element → Element
+element_as style class Binary x = lone_sign style class x
+element_as style class Relation x = lone_sign style class x
+element_as style class own x = x

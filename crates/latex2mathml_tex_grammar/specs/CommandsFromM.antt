@@ -150,7 +150,7 @@ commands_from_m =
     (codes "rceil", Shows (Sign Closing 0x2309)) ∷  -- ⌉
     (codes "restriction", Shows (Sign Relation 0x21BE)) ∷  -- ↾
     (codes "rfloor", Shows (Sign Closing 0x230B)) ∷  -- ⌋
-    (codes "rgroup", Shows (Sign Closing 0x2998)) ∷  -- ⦘
+    (codes "rgroup", Shows (Sign Closing 0x27EF)) ∷  -- ⟯
     (codes "rhd", Shows (Sign Binary 0x22B3)) ∷  -- ⊳
     (codes "rho", Shows (Letter 0x03C1)) ∷  -- ρ
     (codes "right", Right) ∷
@@ -187,7 +187,7 @@ commands_from_m =
     (codes "slashed", Slash) ∷
     (codes "smallfrown", Shows (Sign Relation 0x2322)) ∷  -- ⌢
     (codes "smallint", Shows (Integral 0x222B)) ∷  -- ∫
-    (codes "smallsetminus", Shows (Sign Binary 0xFE68)) ∷  -- ﹨
+    (codes "smallsetminus", Shows (Sign Binary 0x2216)) ∷  -- ∖
     (codes "smallsmile", Shows (Sign Relation 0x2323)) ∷  -- ⌣
     (codes "smile", Shows (Sign Relation 0x2323)) ∷  -- ⌣
     (codes "space", Spacing (pos 6)) ∷
@@ -265,7 +265,7 @@ commands_from_m =
     (codes "trianglerighteq", Shows (Sign Relation 0x22B5)) ∷  -- ⊵
     (codes "twoheadleftarrow", Shows (Sign Relation 0x219E)) ∷  -- ↞
     (codes "twoheadrightarrow", Shows (Sign Relation 0x21A0)) ∷  -- ↠
-    (codes "ulcorner", Shows (Sign Opening 0x250C)) ∷  -- ┌
+    (codes "ulcorner", Shows (Sign Opening 0x231C)) ∷  -- ⌜
     (codes "underbar", Accent Below 0x0332 Stretching) ∷
     (codes "underbrace", Brace Below 0x23DF) ∷  -- ⏟
     (codes "underbracket", Brace Below 0x23B5) ∷  -- ⎵
@@ -284,7 +284,7 @@ commands_from_m =
     (codes "upsilon", Shows (Letter 0x03C5)) ∷  -- υ
     (codes "upuparrows", Shows (Sign Relation 0x21C8)) ∷  -- ⇈
     (codes "uranus", Shows (Sign Ordinary 0x2645)) ∷  -- ♅
-    (codes "urcorner", Shows (Sign Closing 0x2510)) ∷  -- ┐
+    (codes "urcorner", Shows (Sign Closing 0x231D)) ∷  -- ⌝
     (codes "vDash", Shows (Sign Relation 0x22A8)) ∷  -- ⊨
     (codes "varepsilon", Shows (Letter 0x03B5)) ∷  -- ε
     (codes "varkappa", Shows (UprightLetter 0x03F0)) ∷  -- ϰ

@@ -173,10 +173,10 @@ commands_up_to_l =
     (codes "bullet", Shows (Sign Binary 0x2219)) ∷  -- ∙
     (codes "bumpeq", Shows (Sign Relation 0x224F)) ∷  -- ≏
     (codes "cap", Shows (Sign Binary 0x2229)) ∷  -- ∩
-    (codes "cdot", Shows (Sign Binary 0xB7)) ∷  -- ·
+    (codes "cdot", Shows (Sign Binary 0x22C5)) ∷  -- ⋅
     (codes "cdotp", Shows (Sign Punctuation 0x22C5)) ∷  -- ⋅
     (codes "cdots", Shows (Sign Inner 0x22EF)) ∷  -- ⋯
-    (codes "centerdot", Shows (Sign Binary 0x2219)) ∷  -- ∙
+    (codes "centerdot", Shows (Sign Binary 0x22C5)) ∷  -- ⋅
     (codes "cfrac", Fraction Bar (Some InDisplay)) ∷
     (codes "ch", FunctionName Beside (codes "ch")) ∷
     (codes "check", Accent Above 0x02C7 Rigid) ∷  -- ˇ
@@ -186,7 +186,7 @@ commands_up_to_l =
     (codes "circeq", Shows (Sign Relation 0x2257)) ∷  -- ≗
     (codes "circlearrowleft", Shows (Sign Relation 0x21BA)) ∷  -- ↺
     (codes "circlearrowright", Shows (Sign Relation 0x21BB)) ∷  -- ↻
-    (codes "circledR", Shows (Sign Ordinary 0x24C7)) ∷  -- Ⓡ
+    (codes "circledR", Shows (Sign Ordinary 0xAE)) ∷  -- ®
     (codes "circledS", Shows (Sign Ordinary 0x24C8)) ∷  -- Ⓢ
     (codes "circledast", Shows (Sign Binary 0x229B)) ∷  -- ⊛
     (codes "circledcirc", Shows (Sign Binary 0x229A)) ∷  -- ⊚
@@ -363,7 +363,7 @@ commands_up_to_l =
     (codes "lesssim", Shows (Sign Relation 0x2272)) ∷  -- ≲
     (codes "lfloor", Shows (Sign Opening 0x230A)) ∷  -- ⌊
     (codes "lg", FunctionName Beside (codes "lg")) ∷
-    (codes "lgroup", Shows (Sign Opening 0x2997)) ∷  -- ⦗
+    (codes "lgroup", Shows (Sign Opening 0x27EE)) ∷  -- ⟮
     (codes "lhd", Shows (Sign Binary 0x22B2)) ∷  -- ⊲
     (codes "lightning", Shows (Sign Relation 0x21AF)) ∷  -- ↯
     (codes "lim", FunctionName ByStyle (codes "lim")) ∷
@@ -372,7 +372,7 @@ commands_up_to_l =
     (codes "limsup", FunctionName ByStyle (words_apart (codes "lim") (codes "sup"))) ∷
     (codes "ll", Shows (Sign Relation 0x226A)) ∷  -- ≪
     (codes "llbracket", Shows (Sign Opening 0x27E6)) ∷  -- ⟦
-    (codes "llcorner", Shows (Sign Opening 0x2514)) ∷  -- └
+    (codes "llcorner", Shows (Sign Opening 0x231E)) ∷  -- ⌞
     (codes "lll", Shows (Sign Relation 0x22D8)) ∷  -- ⋘
     (codes "llless", Shows (Sign Relation 0x22D8)) ∷  -- ⋘
     (codes "lmoustache", Shows (Sign Opening 0x23B0)) ∷  -- ⎰
@@ -392,7 +392,7 @@ commands_up_to_l =
     (codes "lor", Shows (Sign Binary 0x2228)) ∷  -- ∨
     (codes "lozenge", Shows (Sign Ordinary 0x25CA)) ∷  -- ◊
     (codes "lparen", Shows (Sign Opening 0x28)) ∷  -- (
-    (codes "lrcorner", Shows (Sign Closing 0x2518)) ∷  -- ┘
+    (codes "lrcorner", Shows (Sign Closing 0x231F)) ∷  -- ⌟
     (codes "lt", Shows (Sign Relation 0x3C)) ∷  -- <
     (codes "ltimes", Shows (Sign Binary 0x22C9)) ∷  -- ⋉
     (codes "lvert", Shows (Sign Opening 0x2223)) ∷  -- ∣

@@ -22,6 +22,8 @@ delimiter_commands =
     (codes "lfloor", 0x230A) ∷  -- ⌊
     (codes "lgroup", 0x27EE) ∷  -- ⟮
     (codes "llbracket", 0x27E6) ∷  -- ⟦
+    (codes "lmoustache", 0x23B0) ∷  -- ⎰
+    (codes "lparen", 0x28) ∷  -- (
     (codes "lt", 0x27E8) ∷  -- ⟨
     (codes "lvert", 0x7C) ∷  -- |
     (codes "rVert", 0x2016) ∷  -- ‖
@@ -31,6 +33,8 @@ delimiter_commands =
     (codes "rceil", 0x2309) ∷  -- ⌉
     (codes "rfloor", 0x230B) ∷  -- ⌋
     (codes "rgroup", 0x27EF) ∷  -- ⟯
+    (codes "rmoustache", 0x23B1) ∷  -- ⎱
+    (codes "rparen", 0x29) ∷  -- )
     (codes "rrbracket", 0x27E7) ∷  -- ⟧
     (codes "rvert", 0x7C) ∷  -- |
     (codes "ulcorner", 0x231C) ∷  -- ⌜
@@ -54,8 +58,16 @@ delimiter_characters =
     (0x5B, 0x5B) ∷  -- [
     (0x5D, 0x5D) ∷  -- ]
     (0x7C, 0x7C) ∷  -- |
+    (0x2308, 0x2308) ∷  -- ⌈
+    (0x2309, 0x2309) ∷  -- ⌉
+    (0x230A, 0x230A) ∷  -- ⌊
+    (0x230B, 0x230B) ∷  -- ⌋
+    (0x23B0, 0x23B0) ∷  -- ⎰
+    (0x23B1, 0x23B1) ∷  -- ⎱
     (0x27E8, 0x27E8) ∷  -- ⟨
     (0x27E9, 0x27E9) ∷  -- ⟩
+    (0x27EE, 0x27EE) ∷  -- ⟮
+    (0x27EF, 0x27EF) ∷  -- ⟯
     []
 
 -- the commands that have a negated sign of their own

@@ -17,6 +17,8 @@ pub mod Rows
 pub mod Rules
 pub mod Signs
 pub mod Sorted
+pub mod Spacing
+pub mod SpacingExamples
 pub mod Starts
 pub mod Symbols
 pub mod Units

@@ -202,9 +202,19 @@ pub record Scripts : Type 0 where
   pub below : Option Element
   pub above : Option Element
   pub limits : LimitPlace
+  -- whether it can be said where they are to stand
+  pub takes_limits : Bool
 
-abbrev pub no_scripts : LimitPlace → Scripts
-no_scripts limits = record { primes = 0; below = None; above = None; limits = limits }
+-- an operator has limits
+abbrev pub takes_limits : Kind → Bool
+takes_limits (SignOf Operator) = true
+takes_limits (Plain Operator) = true
+takes_limits FunctionWord = true
+takes_limits kind = false
+
+-- no scripts after an atom of this kind
+abbrev pub no_scripts : Kind → LimitPlace → Scripts
+no_scripts kind limits = record { primes = 0; below = None; above = None; limits = limits; takes_limits = takes_limits kind }
 
 -- so many primes as one text
 abbrev pub primes_text : ℕ → List ℕ

@@ -7,7 +7,7 @@ use Rattle.latex2mathml_tex_grammar.specs.Makes.{Core, core, number, divider, Sc
 use Rattle.latex2mathml_tex_grammar.specs.{Meaning.Beside, Next.past_space, Next.next_are, Next.digits_next, Next.refusal_here}
 use Rattle.latex2mathml_tex_grammar.specs.Refusal.{Kind, MissingArgument, UnclosedBrace, MissingDelimiter, Refusal, refusal_at}
 use Rattle.latex2mathml_tex_grammar.specs.Rules.{Context, in_context, styled, Ending, InBraces, InDollars, Rule, gives, refuses, reads_operand, reads_core, reads_atoms, reads_words, takes_if, takes_digits, takes_delimiter, rule}
-use Rattle.latex2mathml_tex_grammar.specs.Starts.{DividerStart, ScriptStart, RuleStart, NoStart, GroupStart, DigitStart, OtherStart, atom_start, operand_start, mark_of, GoesOn, TakesOperand, Twice, step_of_mark, step_next, empty_base, ends, unended, is_close}
+use Rattle.latex2mathml_tex_grammar.specs.Starts.{DividerStart, ScriptStart, RuleStart, NoStart, GroupStart, DigitStart, OtherStart, atom_start, operand_start, mark_of, GoesOn, TakesOperand, Forbidden, step_of_mark, step_next, empty_base, ends, unended, is_close}
 use Rattle.latex2mathml_tex_grammar.specs.Symbols.{InText, InScript, Alphabet}
 use Rattle.latex2mathml_tex_grammar.specs.Units.{Piece, Unit, Units, Next, End, Stop}
 use Rattle.latex2mathml_tex_grammar.specs.Words.{Word, Formula, Words, no_words, with_word, IsWord, BeginsGroup, EndsGroup, BeginsFormula, TakesWords, NoWord, word_rule}
@@ -150,10 +150,10 @@ mutual
         → step_of_mark scripts (mark_of u.piece) ≡ Some (TakesOperand with_operand)
         → ReadsOperand u.place (styled c InScript) m (Refused r)
         → ReadsScripts c base scripts l (Refused r)
-    -- a second script
-    second_script : {c : Context} {base : Atom} {scripts : Scripts} {kind : Kind} {l m : Units} {u : Unit}
+    -- a second script, or limits of what is no operator
+    mark_refused : {c : Context} {base : Atom} {scripts : Scripts} {kind : Kind} {l m : Units} {u : Unit}
         → past_space l ≡ Next u m
-        → step_of_mark scripts (mark_of u.piece) ≡ Some (Twice kind)
+        → step_of_mark scripts (mark_of u.piece) ≡ Some (Forbidden kind)
         → ReadsScripts c base scripts l (Refused (refusal_at kind u.place))
 
   -- what the atom comes to that this unit begins, before these units
@@ -168,12 +168,12 @@ mutual
         → ReadsAtom ending c u l (Refused r)
     on_empty_row : {ending : Ending} {c : Context} {u : Unit} {l : Units} {o : Outcome Atom}
         → atom_start ending u.piece ≡ ScriptStart
-        → ReadsScripts c empty_base (no_scripts Beside) (Next u l) o
+        → ReadsScripts c empty_base (no_scripts empty_base.kind Beside) (Next u l) o
         → ReadsAtom ending c u l o
     base_read : {ending : Ending} {c : Context} {u : Unit} {l m : Units} {x : Core} {o : Outcome Atom}
         → atom_start ending u.piece ≡ RuleStart
         → ReadsRule (rule u.place c u.piece) l (Read x m)
-        → ReadsScripts c x.atom (no_scripts x.limits) m o
+        → ReadsScripts c x.atom (no_scripts x.atom.kind x.limits) m o
         → ReadsAtom ending c u l o
     base_refused : {ending : Ending} {c : Context} {u : Unit} {l : Units} {r : Refusal}
         → atom_start ending u.piece ≡ RuleStart

@@ -20,7 +20,7 @@ pub data Kind : Type 0 where
   UnopenedBrace : Kind
   RightWithoutLeft : Kind
   MiddleWithoutLeft : Kind
-  -- `\limits` or `\nolimits` with nothing before it
+  -- `\limits` or `\nolimits` that stands after no operator
   LimitsWithoutOperator : Kind
   -- a second script of one atom
   SecondSubscript : Kind
@@ -36,6 +36,8 @@ pub data Kind : Type 0 where
   -- what cannot stand in words
   CommandInWords : List ℕ → Kind
   CharacterInWords : ℕ → Kind
+  -- definitions were given, and are not read yet
+  DefinitionsGiven : Kind
 
 -- a kind, and the byte of the text where what is refused begins
 pub record Refusal : Type 0 where

@@ -1,7 +1,7 @@
 -- Rows: the elements of atoms side by side. Here the elements stand the last one first.
 use Rattle.std.specs.Prelude.{pos, Bool, true, false, ◌&&◌, ◌||◌, List, [], ◌∷◌, ◌++◌, reverse}
 use Rattle.latex2mathml_elements.specs.{Attributes.plain, Element.Element, Element.Mrow, Element.token, Element.space, Element.container, Element.children}
-use Rattle.latex2mathml_tex_grammar.specs.Atoms.{Atom, Kind, SignOf, PlusOrMinus, Plain, Before, Nothing, is_letters, is_parted, past, element_there}
+use Rattle.latex2mathml_tex_grammar.specs.Atoms.{Atom, Kind, SignOf, PlusOrMinus, Plain, Before, Nothing, is_letters, is_parted, past, element_there, element_as}
 use Rattle.latex2mathml_tex_grammar.specs.Symbols.{Class, Ordinary, Binary, Relation, Style}
 
 pub record Row : Type 0 where
@@ -70,6 +70,10 @@ pub record Operand : Type 0 where
 
 abbrev pub operand_of : Row → Operand
 operand_of row = record { element = row_element row.elements; class = row.class; high = row.high }
+
+-- an operand as what an atom of this class is made of
+abbrev pub as_base : Style → Class → Operand → Operand
+as_base style class x = record x { element = element_as style class x.class x.element }
 
 -- one atom as an operand
 abbrev pub single : Style → Atom → Operand

@@ -3,7 +3,7 @@
 use Rattle.std.specs.Prelude.{ℕ, pos, ◌==◌, ◌||◌, Bool, true, false, List, [], ◌∷◌, ◌++◌, codes, Option, Some, None, if◌then◌else◌}
 use Rattle.std.specs.{Char.is_ascii_alphabetic, Char.is_ascii_digit, Str.byte, Str.bytes_eq}
 use Rattle.latex2mathml_elements.specs.{Attributes.Above, Element.Element}
-use Rattle.latex2mathml_tex_grammar.specs.{Atoms.Plain, Atoms.atom, Commands.meaning_of, Commands.symbol_of, Delimiters.negated_of, Rows.Row, Rows.Operand, Rows.operand_of, Rows.row_element}
+use Rattle.latex2mathml_tex_grammar.specs.{Atoms.Plain, Atoms.atom, Commands.meaning_of, Commands.symbol_of, Delimiters.negated_of, Rows.Row, Rows.Operand, Rows.as_base, Rows.operand_of, Rows.row_element}
 use Rattle.latex2mathml_tex_grammar.specs.Makes.{Core, core, letter, upright_letter, number, relation, symbol, function_name, spacing, group, classed, no_letters, operator_name, accent, brace, stack, fraction, square_root, root, between_delimiters, sized, struck}
 use Rattle.latex2mathml_tex_grammar.specs.Meaning.{Meaning, Shows, FunctionName, Spacing, Styled, Words as TakesWordsIn, Fraction, Root, Accent, Brace, Stack, StackedRelation, OperatorName, Negation, Slash, Sized, Left, Middle, Right, Limits, NoLimits, Classed, Beside, ByStyle, FractionRule}
 use Rattle.latex2mathml_tex_grammar.specs.Refusal.{UnknownCommand, MissingArgument, UnopenedBrace, RightWithoutLeft, MiddleWithoutLeft, LimitsWithoutOperator, NothingToNegate, OutsideTable, MisplacedCharacter, Refusal, refusal_at}
@@ -151,8 +151,8 @@ meaning_rule place c (Fraction rule own) = a_fraction place c rule own
 meaning_rule place c Root = a_root place c
 meaning_rule place c (Accent side mark width) = of_one place c (λ x. accent side mark width x.element)
 meaning_rule place c (Brace side mark) = of_one place c (λ x. brace side mark x.element)
-meaning_rule place c (Stack side) = of_two place (styled c InScript) c (λ mark base. stack side base.class mark.element base.element)
-meaning_rule place c StackedRelation = of_two place (styled c InScript) c (λ mark base. stack Above Relation mark.element base.element)
+meaning_rule place c (Stack side) = of_two place (styled c InScript) c (λ mark base. stack side base.class mark.element (as_base c.style base.class base).element)
+meaning_rule place c StackedRelation = of_two place (styled c InScript) c (λ mark base. stack Above Relation mark.element (as_base c.style Relation base).element)
 meaning_rule place c OperatorName = an_operator_name place c
 meaning_rule place c Negation = a_negation place c
 meaning_rule place c Slash = of_one place c (λ x. slashed x (struck x.element))
@@ -162,7 +162,7 @@ meaning_rule place c Middle = refuses (refusal_at MiddleWithoutLeft place)
 meaning_rule place c Right = refuses (refusal_at RightWithoutLeft place)
 meaning_rule place c Limits = refuses (refusal_at LimitsWithoutOperator place)
 meaning_rule place c NoLimits = refuses (refusal_at LimitsWithoutOperator place)
-meaning_rule place c (Classed class) = of_one place c (classed class)
+meaning_rule place c (Classed class) = of_one place c (λ x. classed class (as_base c.style class x))
 
 abbrev pub command_rule : ℕ → Context → List ℕ → Option Meaning → Rule
 command_rule place c name (Some meaning) = meaning_rule place c meaning

@@ -201,6 +201,7 @@ sign_entries =
     (0x2208, Sign Relation 0x2208) ∷  -- ∈
     (0x2209, Sign Relation 0x2209) ∷  -- ∉
     (0x220B, Sign Relation 0x220B) ∷  -- ∋
+    (0x220C, Sign Relation 0x220C) ∷  -- ∌
     (0x220D, Sign Relation 0x220D) ∷  -- ∍
     (0x220F, BigOperator 0x220F) ∷  -- ∏
     (0x2210, BigOperator 0x2210) ∷  -- ∐
@@ -234,6 +235,7 @@ sign_entries =
     (0x2230, Integral 0x2230) ∷  -- ∰
     (0x2234, Sign Relation 0x2234) ∷  -- ∴
     (0x2235, Sign Relation 0x2235) ∷  -- ∵
+    (0x2237, Sign Relation 0x2237) ∷  -- ∷
     (0x223C, Sign Relation 0x223C) ∷  -- ∼
     (0x223D, Sign Relation 0x223D) ∷  -- ∽
     (0x2240, Sign Binary 0x2240) ∷  -- ≀
@@ -251,6 +253,7 @@ sign_entries =
     (0x2251, Sign Relation 0x2251) ∷  -- ≑
     (0x2252, Sign Relation 0x2252) ∷  -- ≒
     (0x2253, Sign Relation 0x2253) ∷  -- ≓
+    (0x2254, Sign Relation 0x2254) ∷  -- ≔
     (0x2256, Sign Relation 0x2256) ∷  -- ≖
     (0x2257, Sign Relation 0x2257) ∷  -- ≗
     (0x225C, Sign Relation 0x225C) ∷  -- ≜
@@ -335,7 +338,7 @@ sign_entries =
     (0x22C2, BigOperator 0x22C2) ∷  -- ⋂
     (0x22C3, BigOperator 0x22C3) ∷  -- ⋃
     (0x22C4, Sign Binary 0x22C4) ∷  -- ⋄
-    (0x22C5, Sign Punctuation 0x22C5) ∷  -- ⋅
+    (0x22C5, Sign Binary 0x22C5) ∷  -- ⋅
     (0x22C6, Sign Binary 0x22C6) ∷  -- ⋆
     (0x22C7, Sign Binary 0x22C7) ∷  -- ⋇
     (0x22C8, Sign Relation 0x22C8) ∷  -- ⋈
@@ -376,6 +379,10 @@ sign_entries =
     (0x2309, Sign Closing 0x2309) ∷  -- ⌉
     (0x230A, Sign Opening 0x230A) ∷  -- ⌊
     (0x230B, Sign Closing 0x230B) ∷  -- ⌋
+    (0x231C, Sign Opening 0x231C) ∷  -- ⌜
+    (0x231D, Sign Closing 0x231D) ∷  -- ⌝
+    (0x231E, Sign Opening 0x231E) ∷  -- ⌞
+    (0x231F, Sign Closing 0x231F) ∷  -- ⌟
     (0x2322, Sign Relation 0x2322) ∷  -- ⌢
     (0x2323, Sign Relation 0x2323) ∷  -- ⌣
     (0x23B0, Sign Opening 0x23B0) ∷  -- ⎰
@@ -422,10 +429,13 @@ sign_entries =
     (0x266F, Sign Ordinary 0x266F) ∷  -- ♯
     (0x2713, Sign Ordinary 0x2713) ∷  -- ✓
     (0x2720, Sign Ordinary 0x2720) ∷  -- ✠
+    (0x27C2, Sign Relation 0x27C2) ∷  -- ⟂
     (0x27E6, Sign Opening 0x27E6) ∷  -- ⟦
     (0x27E7, Sign Closing 0x27E7) ∷  -- ⟧
     (0x27E8, Sign Opening 0x27E8) ∷  -- ⟨
     (0x27E9, Sign Closing 0x27E9) ∷  -- ⟩
+    (0x27EE, Sign Opening 0x27EE) ∷  -- ⟮
+    (0x27EF, Sign Closing 0x27EF) ∷  -- ⟯
     (0x27F5, Sign Relation 0x27F5) ∷  -- ⟵
     (0x27F6, Sign Relation 0x27F6) ∷  -- ⟶
     (0x27F7, Sign Relation 0x27F7) ∷  -- ⟷

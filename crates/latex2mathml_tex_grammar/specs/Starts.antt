@@ -4,7 +4,7 @@ use Rattle.std.specs.{Str.byte, Str.bytes_eq}
 use Rattle.latex2mathml_elements.specs.Element.{Element}
 use Rattle.latex2mathml_tex_grammar.specs.{Atoms.Atom, Atoms.Plain, Atoms.atom, Makes.Scripts, Makes.behind_primes, Rows.row_element, Rules.a_digit}
 use Rattle.latex2mathml_tex_grammar.specs.Meaning.{LimitPlace, Beside, Stacked}
-use Rattle.latex2mathml_tex_grammar.specs.Refusal.{Kind, UnclosedBrace, UnclosedBracket, UnclosedDollar, LeftWithoutRight, SecondSubscript, SecondSuperscript, Refusal, refusal_at}
+use Rattle.latex2mathml_tex_grammar.specs.Refusal.{Kind, UnclosedBrace, UnclosedBracket, UnclosedDollar, LeftWithoutRight, LimitsWithoutOperator, SecondSubscript, SecondSuperscript, Refusal, refusal_at}
 use Rattle.latex2mathml_tex_grammar.specs.Rules.{Ending, WholeText, InBraces, InBrackets, InDollars, InDelimiters}
 use Rattle.latex2mathml_tex_grammar.specs.Symbols.{Ordinary}
 use Rattle.latex2mathml_tex_grammar.specs.Units.{Piece, Open, Close, Command, Character, Units, Next, End, Stop}
@@ -116,16 +116,17 @@ operand_start piece =
 pub data Step : Type 0 where
   GoesOn : Scripts → Step
   TakesOperand : (Element → Scripts) → Step
-  Twice : Kind → Step
+  -- a second script, or limits of what is no operator
+  Forbidden : Kind → Step
 
 abbrev pub step_of : Scripts → Option Element → Option Element → Mark → Step
-step_of scripts below (Some x) Prime = Twice SecondSuperscript
+step_of scripts below (Some x) Prime = Forbidden SecondSuperscript
 step_of scripts below None Prime = GoesOn (record scripts { primes = suc scripts.primes })
-step_of scripts (Some x) above Below = Twice SecondSubscript
+step_of scripts (Some x) above Below = Forbidden SecondSubscript
 step_of scripts None above Below = TakesOperand (λ x. record scripts { below = Some x })
-step_of scripts below (Some x) Above = Twice SecondSuperscript
+step_of scripts below (Some x) Above = Forbidden SecondSuperscript
 step_of scripts below None Above = TakesOperand (λ x. record scripts { above = Some (behind_primes scripts.primes x) })
-step_of scripts below above (LimitsAt place) = GoesOn (record scripts { limits = place })
+step_of scripts below above (LimitsAt place) = if scripts.takes_limits then GoesOn (record scripts { limits = place }) else Forbidden LimitsWithoutOperator
 
 -- the step of the unit that stands next, where it is a mark
 abbrev pub step_of_mark : Scripts → Option Mark → Option Step

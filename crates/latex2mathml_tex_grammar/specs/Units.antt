@@ -1,7 +1,8 @@
 -- The units of a text: its slices in turn, each with the byte where it begins. Nothing here scans: a slice, before the
 -- rest of the text, is a unit, or it is nothing, or the text is refused there.
-use Rattle.std.specs.Prelude.{◌≡◌, ℕ, ◌+◌, Bool, ◌&&◌, ◌||◌, ◌==◌, IsTrue, IsFalse, not, nat_lt, List, [], ◌∷◌, ◌++◌, length, codes, Option, Some, None, ⊤, if◌then◌else◌}
+use Rattle.std.specs.Prelude.{◌≡◌, ℕ, ◌+◌, Bool, ◌||◌, ◌==◌, IsTrue, IsFalse, not, List, [], ◌∷◌, ◌++◌, length, codes, Option, Some, None, ⊤, if◌then◌else◌}
 use Rattle.std.specs.{Char.is_ascii_alphabetic, List.AllByRecursion, Str.byte, Str.encode_utf8_all}
+pub use Rattle.latex2mathml_elements.specs.Characters.{is_forbidden}
 use Rattle.latex2mathml_tex_grammar.specs.Refusal.{LoneBackslash, ForbiddenCharacter, Refusal, refusal_at}
 
 -- what a unit is
@@ -44,10 +45,6 @@ is_line_feed c = c == byte "\n"
 -- what a comment may hold
 abbrev pub is_in_line : ℕ → Bool
 is_in_line c = not (is_line_feed c)
-
--- a character that XML forbids. No text holds the others that it forbids, the surrogates.
-abbrev pub is_forbidden : ℕ → Bool
-is_forbidden c = (nat_lt c 0x20 && not (is_space c)) || c == 0xFFFE || c == 0xFFFF
 
 -- what begins a unit that is no character
 abbrev pub is_special : ℕ → Bool

@@ -1,6 +1,6 @@
 //! What was begun, and how much of it was read.
-ghost use Rattle.std.specs.Prelude.{◌≡◌, ℕ, ◌∷◌, ◌++◌, [], List, OnOk};
-ghost use Rattle.latex2mathml_tex_grammar.specs.Starts.{ends};
+ghost use Rattle.std.specs.Prelude.{◌≡◌, ℕ, ◌∷◌, ◌++◌, [], List, OnOk, if◌then◌else◌};
+ghost use Rattle.latex2mathml_tex_grammar.specs.Starts.{DividerStart, atom_start, ends, mark_of, start_of_mark};
 ghost use Rattle.latex2mathml_tex.specs.Frames.{ending_of};
 ghost use Rattle.latex2mathml_tex.specs.Innermost.{IsInnermost, begun_row, frame_context};
 ghost use Rattle.latex2mathml_tex.specs.Taking.{piece_of};
@@ -40,13 +40,14 @@ pub(crate) enum Last {
     OperatorName(LimitPlace),
     /// A stroke through it.
     Slash,
-    Classed(Class),
+    /// An atom of this class, in this style.
+    Classed(Class, Style),
     /// A denominator; the numerator stands below.
     Fraction(FractionRule, Option<Style>),
-    /// A base; its mark stands below.
-    Stack(Side),
-    /// A base; what stands above it stands below.
-    StackedRelation,
+    /// A base, in this style; its mark stands below.
+    Stack(Side, Style),
+    /// A base, in this style; what stands above it stands below.
+    StackedRelation(Style),
 }
 
 /// What the first of two operands is.
@@ -90,6 +91,17 @@ impl Ending {
             Ending::Degree => matches!(piece, Piece::Character(']')),
             Ending::Delimiters(_) => matches!(piece, Piece::Command("right")),
             Ending::Formula(_) => matches!(piece, Piece::Character('$')),
+        }
+    }
+
+    /// Whether the unit stands between parts of the row, and is followed by a delimiter.
+    pub(crate) fn is_divided_by(self, piece: Piece) -> bool
+        ensures { (place : ℕ) → atom_start (ending_of self place) (piece_of piece.entry)
+            ≡ (if result then DividerStart else start_of_mark (mark_of (piece_of piece.entry))) }
+    {
+        match self {
+            Ending::Delimiters(_) => matches!(piece, Piece::Command("middle")),
+            _ => false,
         }
     }
 }

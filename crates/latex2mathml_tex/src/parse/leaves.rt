@@ -1,15 +1,15 @@
 //! The atoms that are one element: letters, numbers, signs, names and spaces.
 ghost use Rattle.std.specs.Prelude.{◌≡◌, ◌<◌, ◌∷◌, [], false, true, IfOk, OnOk, option_map};
-ghost use Rattle.latex2mathml_builder.specs.{Built.elements_in, Names.attributes_of, Names.token_of, Stacks.lengthened};
+ghost use Rattle.latex2mathml_builder.specs.{Built.elements_in, Stacks.lengthened};
 ghost use Rattle.latex2mathml_tex_grammar.specs.Makes;
 ghost use Rattle.latex2mathml_tex_grammar.specs.Makes.{core, digits_in};
 ghost use Rattle.latex2mathml_tex_grammar.specs.Next.{digits_next};
-ghost use Rattle.latex2mathml_tex_grammar.specs.{Atoms.Plain, Atoms.atom, Symbols.Operator, Symbols.Ordinary};
+ghost use Rattle.latex2mathml_tex_grammar.specs.{Atoms.Plain, Atoms.atom, Symbols.Ordinary};
 ghost use Rattle.latex2mathml_tex_grammar.specs.Rules.{a_symbol, gives};
 ghost use Rattle.latex2mathml_tex_grammar.specs.Commands.{symbol_of};
 ghost use Rattle.latex2mathml_tex.specs.{Models.context_of, declared.atoms.Context.Context};
-ghost use Rattle.latex2mathml_elements.specs.{Attributes.plain, Element.Element, Element.Mo, Element.token};
-ghost use Rattle.latex2mathml_tex.specs.{Frames.Start, Left.units_at, Meanings.alphabet_of, Meanings.class_of, Meanings.limit_place_of, Models.core_with, Models.kind_of};
+ghost use Rattle.latex2mathml_elements.specs.{Element.Element};
+ghost use Rattle.latex2mathml_tex.specs.{Frames.Start, Left.units_at, Meanings.alphabet_of, Meanings.limit_place_of, Models.core_with};
 ghost use Rattle.latex2mathml_tex.specs.Meanings;
 ghost use Rattle.latex2mathml_tex.specs.Numbers.{digit_in};
 ghost use Rattle.latex2mathml_tex.specs.Steps.{Begins, CanBegin, Holds, IsStep, NumberBegins, PointBegins};
@@ -18,9 +18,10 @@ use crate::alphabets::in_alphabet;
 use crate::atoms::{Core, Kind};
 use crate::input::Input;
 use crate::meaning::{Alphabet, Class, LimitPlace, Symbol};
+use crate::parse::symbols::{put_letter, put_symbol, put_upright_letter};
 use crate::parse::{Parser, State};
 use crate::signs::symbol_of;
-use latex2mathml_builder::attributes::{Attributes, Form, Space, Stretch};
+use latex2mathml_builder::attributes::Attributes;
 use latex2mathml_builder::builder::Builder;
 use latex2mathml_builder::tag::Token;
 use std::alloc::AllocError;
@@ -36,13 +37,7 @@ impl<'a> Parser<'a> {
         ensures holds { (s : Start) → Begins (gives (Makes.symbol (option_map alphabet_of alphabet) (Meanings.symbol_of symbol))) 0 s self.old → IfOk result (Holds s self.new) }
         ensures step { IsStep 13 self.old self.new result }
     {
-        match symbol {
-            Symbol::Letter(c) => self.letter(alphabet, c),
-            Symbol::UprightLetter(c) => self.upright_letter(alphabet, c),
-            Symbol::Sign(class, c) => self.sign(class, c),
-            Symbol::BigOperator(c) => self.operator(c, LimitPlace::Movable),
-            Symbol::Integral(c) => self.operator(c, LimitPlace::Beside),
-        }
+        Ok(State::Core(put_symbol(&mut self.builder, alphabet, symbol)?))
     }
 
     /// A letter that is italic by itself.
@@ -55,18 +50,7 @@ impl<'a> Parser<'a> {
         ensures holds { (s : Start) → Begins (gives (core (Makes.letter (option_map alphabet_of alphabet) c))) 0 s self.old → IfOk result (Holds s self.new) }
         ensures step { IsStep 13 self.old self.new result }
     {
-        let ordinary = Core::new(Kind::Plain(Class::Ordinary), false);
-        match alphabet {
-            None => self.put_character(Token::Mi, Attributes::plain(), c, ordinary),
-            Some(Alphabet::Upright) => {
-                let letters = Core::new(Kind::UprightLetters, false);
-                self.put_character(Token::Mi, Attributes::upright(), c, letters)
-            }
-            Some(alphabet) => {
-                let c = in_alphabet(alphabet, c);
-                self.put_character(Token::Mi, Attributes::plain(), c, ordinary)
-            }
-        }
+        Ok(State::Core(put_letter(&mut self.builder, alphabet, c)?))
     }
 
     /// A letter that is upright by itself.
@@ -79,54 +63,7 @@ impl<'a> Parser<'a> {
         ensures holds { (s : Start) → Begins (gives (core (Makes.upright_letter (option_map alphabet_of alphabet) c))) 0 s self.old → IfOk result (Holds s self.new) }
         ensures step { IsStep 13 self.old self.new result }
     {
-        match alphabet {
-            Some(_) => self.letter(alphabet, c),
-            None => {
-                let ordinary = Core::new(Kind::Plain(Class::Ordinary), false);
-                self.put_character(Token::Mi, Attributes::upright(), c, ordinary)
-            }
-        }
-    }
-
-    /// A sign of this class.
-    fn sign(&mut self, class: Class, c: char) -> Result<State, AllocError>
-        requires { CanBegin 0 self.old }
-        ensures holds { (s : Start) → Begins (gives (core (Makes.sign (class_of class) c))) 0 s self.old → IfOk result (Holds s self.new) }
-        ensures step { IsStep 13 self.old self.new result }
-    {
-        let sign = Core::new(sign_kind(class, c), false);
-        self.put_character(Token::Mo, sign_attributes(class, c), c, sign)
-    }
-
-    /// An operator that is high.
-    fn operator(&mut self, c: char, limits: LimitPlace) -> Result<State, AllocError>
-        requires { CanBegin 0 self.old }
-        ensures holds { (s : Start) → Begins (gives (Makes.operator (limit_place_of limits) (atom (Plain Operator) true (token Mo plain (Makes.text c))))) 0 s self.old → IfOk result (Holds s self.new) }
-        ensures step { IsStep 13 self.old self.new result }
-    {
-        let operator = Core {
-            kind: Kind::Plain(Class::Operator),
-            high: true,
-            limits,
-        };
-        self.put_character(Token::Mo, Attributes::plain(), c, operator)
-    }
-
-    /// Puts an element that holds a character, and is all of an atom.
-    fn put_character(
-        &mut self,
-        tag: Token,
-        attributes: Attributes,
-        c: char,
-        core: Core,
-    ) -> Result<State, AllocError>
-        requires { CanBegin 0 self.old }
-        ensures holds { (s : Start) (k : Makes.Core) → core_with core (token (token_of tag) (attributes_of attributes) (Makes.text c)) ≡ k
-            → Begins (gives k) 0 s self.old → IfOk result (Holds s self.new) }
-        ensures step { IsStep 13 self.old self.new result }
-    {
-        self.builder.character(tag, attributes, c)?;
-        Ok(State::Core(core))
+        Ok(State::Core(put_upright_letter(&mut self.builder, alphabet, c)?))
     }
 
     /// The name of a function.
@@ -271,99 +208,4 @@ fn digit_in(alphabet: Option<Alphabet>, digit: char) -> char
         None => digit,
         Some(alphabet) => in_alphabet(alphabet, digit),
     }
-}
-
-fn sign_attributes(class: Class, c: char) -> Attributes
-    ensures { attributes_of result ≡ Makes.sign_attributes (class_of class) c }
-{
-    match class {
-        Class::Ordinary => Attributes {
-            space: Some(Space::NoSpace),
-            stretch: Some(Stretch::Rigid),
-            ..Attributes::plain()
-        },
-        Class::Opening => Attributes {
-            form: Some(Form::Prefix),
-            stretch: Some(Stretch::Rigid),
-            ..Attributes::plain()
-        },
-        Class::Closing => Attributes {
-            form: Some(Form::Postfix),
-            stretch: Some(Stretch::Rigid),
-            ..Attributes::plain()
-        },
-        Class::Punctuation => Attributes {
-            separator: true,
-            ..Attributes::plain()
-        },
-        Class::Inner => Attributes {
-            space: Some(Space::NoSpace),
-            ..Attributes::plain()
-        },
-        Class::Operator => Attributes::plain(),
-        Class::Binary | Class::Relation => {
-            if stretches(c) {
-                Attributes {
-                    stretch: Some(Stretch::Rigid),
-                    ..Attributes::plain()
-                }
-            } else {
-                Attributes::plain()
-            }
-        }
-    }
-}
-
-fn sign_kind(class: Class, c: char) -> Kind
-    ensures { kind_of result ≡ Makes.sign_kind (class_of class) c }
-{
-    match class {
-        Class::Binary if is_plus_or_minus(c) => Kind::PlusOrMinus,
-        class => Kind::SignOf(class),
-    }
-}
-
-/// Plus, minus, and both of both.
-fn is_plus_or_minus(c: char) -> bool
-    ensures { result ≡ Makes.is_plus_or_minus c }
-{
-    matches!(c, '+' | '−' | '±' | '∓')
-}
-
-/// The signs that MathML stretches, but TeX does not.
-fn stretches(c: char) -> bool
-    ensures { result ≡ Makes.stretches c }
-{
-    matches!(
-        c,
-        '|' | '∣'
-            | '∥'
-            | '←'
-            | '↑'
-            | '→'
-            | '↓'
-            | '↔'
-            | '↕'
-            | '↦'
-            | '↩'
-            | '↪'
-            | '↼'
-            | '↽'
-            | '⇀'
-            | '⇁'
-            | '⇌'
-            | '⇐'
-            | '⇑'
-            | '⇒'
-            | '⇓'
-            | '⇔'
-            | '⇕'
-            | '⟵'
-            | '⟶'
-            | '⟷'
-            | '⟸'
-            | '⟹'
-            | '⟺'
-            | '⟼'
-    )
 }

@@ -6,7 +6,7 @@ ghost use Rattle.latex2mathml_tex_grammar.specs.Makes;
 ghost use Rattle.latex2mathml_tex_grammar.specs.Starts;
 ghost use Rattle.latex2mathml_tex.specs.{Errors.second_on, Frames.Start, Frames.base_of, Frames.primes_put, Meanings.limit_place_of, Meanings.style_of, Shapes.changed_at, Taking.piece_of};
 ghost use Rattle.latex2mathml_tex.specs.Models.{core_with, script_count, scripts_with, top};
-ghost use Rattle.latex2mathml_tex.specs.Steps.{CanMake, Holds, IsStep, TookMark, TookScript, atom_made, elements_of, level, mark_model};
+ghost use Rattle.latex2mathml_tex.specs.Steps.{CanMake, Holds, IsStep, Ready, TookMark, TookScript, atom_made, elements_of, level, mark_model};
 
 use crate::atoms::{Core, Scripts};
 use crate::error::TexErrorKind;
@@ -44,6 +44,29 @@ pub(crate) fn mark_of(piece: Piece) -> Option<Mark>
 }
 
 impl<'a> Parser<'a> {
+    /// Goes on after an atom with these scripts: with a mark, or by putting it in its row.
+    pub(crate) fn go_on(&mut self, core: Core, scripts: Scripts) -> Result<State, AllocError>
+        requires { Ready self.old (State.Atom core scripts) }
+        ensures holds { (s : Start) → Holds s self.old (State.Atom core scripts) → IfOk result (Holds s self.new) }
+        ensures step { IsStep 2 self.old self.new result }
+    {
+        let mut ahead = self.input;
+        ahead.skip_space();
+        match ahead.next {
+            Next::Unit(unit) => {
+                if let Some(mark) = mark_of(unit.piece) {
+                    ahead.advance();
+                    self.input = ahead;
+                    return self.take_mark(mark, unit.place, core, scripts);
+                }
+            }
+            Next::End(_) | Next::Fault(_, _) => (),
+        }
+        let style = self.frames.innermost(self.style).context().style;
+        let core = scripted(&mut self.builder, style, core, scripts)?;
+        self.put(core)
+    }
+
     /// Goes on with a mark, which was taken.
     pub(crate) fn take_mark(
         &mut self,
@@ -57,7 +80,12 @@ impl<'a> Parser<'a> {
         ensures step { IsStep 13 self.old self.new result }
     {
         match mark {
-            Mark::Limits(limits) => Ok(State::Atom(core, Scripts { limits, ..scripts })),
+            Mark::Limits(limits) => {
+                if !scripts.takes_limits {
+                    return Ok(self.refuse(TexErrorKind::LimitsWithoutOperator, place));
+                }
+                Ok(State::Atom(core, Scripts { limits, ..scripts }))
+            }
             Mark::Prime => {
                 if scripts.above {
                     return Ok(self.refuse(TexErrorKind::SecondSuperscript, place));

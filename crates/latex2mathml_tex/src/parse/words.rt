@@ -1,23 +1,177 @@
 //! Words: what stands in `\text` and its like.
-ghost use Rattle.std.specs.Prelude.{◌≡◌, false, true, IfOk, MatchOption, None, option_map};
+ghost use Rattle.std.specs.Prelude.{◌≡◌, ◌≢◌, ◌==◌, ◌||◌, false, true, IfOk, OnOk, MatchOption, Some, None, option_map};
+ghost use Rattle.std.specs.Str.{byte};
 ghost use Rattle.latex2mathml_tex_grammar.specs.Makes;
 ghost use Rattle.latex2mathml_tex_grammar.specs.Makes.{core};
-ghost use Rattle.latex2mathml_tex_grammar.specs.Words.{Shown, is_escape, words_atom};
+ghost use Rattle.latex2mathml_tex_grammar.specs.Words.{Formula, Shown, is_escape, words_atom};
 ghost use Rattle.latex2mathml_tex_grammar.specs.Words as words;
-ghost use Rattle.latex2mathml_tex_grammar.specs.{Rules.gives};
-ghost use Rattle.latex2mathml_tex.specs.{Frames.Start, Meanings.alphabet_of, Models.words_with};
-ghost use Rattle.latex2mathml_tex.specs.Steps.{Begins, CanMake, Holds, IsStep, WordGiven, core_made, elements_of, words_made};
+ghost use Rattle.latex2mathml_tex_grammar.specs.Refusal.{CommandInWords, refusal_at};
+ghost use Rattle.latex2mathml_tex_grammar.specs.{Rows.single, Rules.gives, Symbols.InText, Units.Character, Units.Close, Units.Command};
+ghost use Rattle.latex2mathml_tex.specs.{Errors.refusal_of, Frames.Start, Meanings.alphabet_of, Meanings.symbol_of, Models.words_with, Taking.piece_of};
+ghost use Rattle.latex2mathml_tex.specs.Steps.{Begins, BeginsWordOf, CanMake, Holds, IsStep, Ready, WordGiven, core_made, elements_of, words_made};
 
 use crate::alphabets::in_alphabet;
-use crate::atoms::{Core, Kind, Words};
-use crate::meaning::{Alphabet, Class};
+use crate::atoms::{Context, Core, Kind, Row, Words};
+use crate::commands;
+use crate::error::TexErrorKind;
+use crate::meaning::{Alphabet, Class, Meaning, Style, Symbol};
+use crate::parse::frames::{Ending, Frame};
+use crate::parse::symbols::put_symbol;
 use crate::parse::{Parser, State};
-use crate::shapes::put_row;
+use crate::shapes::{put_row, with_atom};
+use crate::unit::{Next, Piece, Unit};
 use latex2mathml_builder::attributes::Attributes;
 use latex2mathml_builder::tag::Token;
 use std::alloc::AllocError;
 
 impl<'a> Parser<'a> {
+    /// Reads one part of words behind these.
+    pub(crate) fn word(
+        &mut self,
+        words: Words,
+        place: usize,
+        alphabet: Option<Alphabet>,
+    ) -> Result<State, AllocError>
+        requires { Ready self.old (State.Word words place alphabet) }
+        ensures holds { (s : Start) → Holds s self.old (State.Word words place alphabet) → IfOk result (Holds s self.new) }
+        ensures step { IsStep 1 self.old self.new result }
+    {
+        match self.input.next {
+            Next::Fault(fault, at) => Ok(self.refuse_fault(fault, at)),
+            Next::End(_) => Ok(self.refuse(TexErrorKind::MissingArgument, place)),
+            Next::Unit(unit) => {
+                if let Piece::Close = unit.piece {
+                    return Ok(self.refuse(TexErrorKind::MissingArgument, place));
+                }
+                self.input.advance();
+                self.begin_word(words, unit, alphabet)
+            }
+        }
+    }
+
+    /// Begins the part of words that a unit is, which was taken.
+    fn begin_word(
+        &mut self,
+        words: Words,
+        unit: Unit<'a>,
+        alphabet: Option<Alphabet>,
+    ) -> Result<State, AllocError>
+        requires can { CanMake words_made words.count self.old }
+        requires some { piece_of unit.piece ≢ Close }
+        ensures holds { (s : Start) → BeginsWordOf words (piece_of unit.entry.piece) unit.entry.place (option_map alphabet_of alphabet) s self.old → IfOk result (Holds s self.new) }
+        ensures step { IsStep 13 self.old self.new result }
+    {
+        match unit.piece {
+            Piece::Open => {
+                self.frames.push(Frame::Words(unit.place, alphabet))?;
+                Ok(State::Words(words))
+            }
+            Piece::Space => self.show(words, '\u{a0}'),
+            Piece::Character(c) => self.character_in_words(words, c, unit.place, alphabet),
+            Piece::Command(name) => self.word_command(words, name, unit.place, alphabet),
+            Piece::Close => unreachable!(),
+        }
+    }
+
+    /// Begins the part of words that a character is.
+    fn character_in_words(
+        &mut self,
+        words: Words,
+        c: char,
+        place: usize,
+        alphabet: Option<Alphabet>,
+    ) -> Result<State, AllocError>
+        requires { CanMake words_made words.count self.old }
+        ensures holds { (s : Start) → BeginsWordOf words (Character c) place (option_map alphabet_of alphabet) s self.old → IfOk result (Holds s self.new) }
+        ensures step { IsStep 13 self.old self.new result }
+    {
+        if c == '$' {
+            let context = Context {
+                style: Style::InText,
+                alphabet: None,
+            };
+            return self.open(Frame::Row(Ending::Formula(words), place, context, Row::empty()));
+        }
+        if c == '~' {
+            return self.show(words, '\u{a0}');
+        }
+        if is_no_word(c) {
+            return Ok(self.refuse(TexErrorKind::CharacterInWords(c), place));
+        }
+        self.show(words, word_character(alphabet, c))
+    }
+
+    /// Begins the part of words that a command is.
+    fn word_command(
+        &mut self,
+        words: Words,
+        name: &'a str,
+        place: usize,
+        alphabet: Option<Alphabet>,
+    ) -> Result<State, AllocError>
+        requires { CanMake words_made words.count self.old }
+        ensures holds { (s : Start) → BeginsWordOf words (Command name.now) place (option_map alphabet_of alphabet) s self.old → IfOk result (Holds s self.new) }
+        ensures step { IsStep 13 self.old self.new result }
+    {
+        if let Some(c) = escaped(name) {
+            return self.show(words, c);
+        }
+        match commands::look_up(name) {
+            Some(meaning) => match meaning {
+                Meaning::Spacing(_) => self.show(words, '\u{a0}'),
+                Meaning::Shows(symbol) => self.show_symbol(words, symbol),
+                Meaning::Words(alphabet) => {
+                    self.input.skip_space();
+                    Ok(State::Word(words, place, alphabet))
+                }
+                _ => self.refuse_command(name, place),
+            },
+            None if name == "\\" => self.refuse_command(name, place),
+            None => {
+                let name = String::from_str(self.alloc, name)?;
+                Ok(self.refuse(TexErrorKind::UnknownCommand(name), place))
+            }
+        }
+    }
+
+    /// Refuses a command that cannot stand in words.
+    #[cold]
+    fn refuse_command(&mut self, name: &str, place: usize) -> Result<State, AllocError>
+        ensures state { IfOk result (λ state. state ≡ State.Refused) }
+        ensures refusal { OnOk result (refusal_of self.new.refusal ≡ Some (refusal_at (CommandInWords name.now) place)) }
+        ensures parser { self.new ≡ record self.old { refusal = self.new.refusal } }
+    {
+        let name = String::from_str(self.alloc, name)?;
+        Ok(self.refuse(TexErrorKind::CommandInWords(name), place))
+    }
+
+    /// Gives the innermost frame these words.
+    pub(crate) fn deliver_words(&mut self, words: Words) -> Result<State, AllocError>
+        requires { Ready self.old (State.Words words) }
+        ensures holds { (s : Start) → Holds s self.old (State.Words words) → IfOk result (Holds s self.new) }
+        ensures step { IsStep 2 self.old self.new result }
+    {
+        match self.frames.innermost(self.style) {
+            Frame::Text => {
+                let _ = self.frames.take(self.style);
+                self.end_text(words)
+            }
+            Frame::Words(place, alphabet) => match self.input.next {
+                Next::Unit(unit) => match unit.piece {
+                    Piece::Close => {
+                        self.input.advance();
+                        let _ = self.frames.take(self.style);
+                        Ok(State::Words(words))
+                    }
+                    _ => Ok(State::Word(words, place, alphabet)),
+                },
+                Next::End(_) => Ok(self.refuse(TexErrorKind::UnclosedBrace, place)),
+                Next::Fault(_, _) => Ok(State::Word(words, place, alphabet)),
+            },
+            _ => unreachable!(),
+        }
+    }
+
     /// Appends a character to words.
     fn show(&mut self, words: Words, c: char) -> Result<State, AllocError>
         requires { CanMake words_made words.count self.old }
@@ -36,6 +190,22 @@ impl<'a> Parser<'a> {
         }))
     }
 
+    /// Puts a sign or a letter behind words.
+    fn show_symbol(&mut self, words: Words, symbol: Symbol) -> Result<State, AllocError>
+        requires { CanMake words_made words.count self.old }
+        ensures holds { (s : Start) → WordGiven words (Formula (single InText (Makes.symbol None (symbol_of symbol)).atom).element) s self.old → IfOk result (Holds s self.new) }
+        ensures step { IsStep 13 self.old self.new result }
+    {
+        let core = put_symbol(&mut self.builder, None, symbol)?;
+        let row = with_atom(&mut self.builder, Style::InText, Row::empty(), core)?;
+        put_row(&mut self.builder, row.count)?;
+        let _ = self.builder.len();
+        Ok(State::Words(Words {
+            count: words.count + 1,
+            ends_in_text: false,
+        }))
+    }
+
     /// Makes words the atom of their command.
     fn end_text(&mut self, words: Words) -> Result<State, AllocError>
         requires { CanMake core_made words.count self.old }
@@ -49,6 +219,13 @@ impl<'a> Parser<'a> {
         }
         Ok(State::Core(Core::new(Kind::Plain(Class::Ordinary), false)))
     }
+}
+
+/// Whether the character cannot stand in words.
+fn is_no_word(c: char) -> bool
+    ensures { result ≡ (c == byte "_" || c == byte "^" || c == byte "&" || c == byte "#") }
+{
+    matches!(c, '_' | '^' | '&' | '#')
 }
 
 /// A character of words, in an alphabet if there is one. Quotation marks are those of print.

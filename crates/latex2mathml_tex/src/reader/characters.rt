@@ -5,7 +5,7 @@ ghost use Rattle.latex2mathml_tex_grammar.specs.Units;
 ghost use Rattle.latex2mathml_tex.specs.Runs.{in_class, IsLongestRun};
 
 /// The characters that make runs.
-#[derive(Debug, Clone, Copy)]
+#[derive(Clone, Copy)]
 pub(crate) enum Class {
     /// White space.
     Space,

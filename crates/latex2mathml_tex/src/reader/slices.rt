@@ -9,7 +9,7 @@ use crate::reader::characters::{Class, before, first_char, is_forbidden, is_spac
 use crate::unit::{Fault, Piece};
 
 /// What stands at the start of a text.
-#[derive(Debug, Clone, Copy)]
+#[derive(Clone, Copy)]
 pub(crate) enum Start<'a> {
     /// Nothing: the text is empty.
     Empty,

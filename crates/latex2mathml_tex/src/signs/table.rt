@@ -4,13 +4,7 @@ ghost use Rattle.latex2mathml_tex_grammar.specs.Signs.{sign_entries};
 ghost use Rattle.latex2mathml_tex.specs.Signs.{entry_of};
 
 use crate::meaning::{Class, Symbol};
-
-/// A character, and what it is.
-#[derive(Clone, Copy)]
-pub(crate) struct SignEntry {
-    pub(crate) character: char,
-    pub(crate) symbol: Symbol,
-}
+use crate::signs::SignEntry;
 
 /// The entries.
 #[tactic(auto, unfolding(latex2mathml_tex_grammar::specs::Signs::sign_entries))]
@@ -22,7 +16,7 @@ pub(crate) fn entries() -> &'static [SignEntry]
 
 /// An entry for each character, in the order of their codes.
 #[rattlefmt::skip]
-static ENTRIES: [SignEntry; 469] = [
+static ENTRIES: [SignEntry; 479] = [
     SignEntry { character: '!', symbol: Symbol::Sign(Class::Closing, '!') },
     SignEntry { character: '"', symbol: Symbol::Sign(Class::Ordinary, '"') },
     SignEntry { character: '(', symbol: Symbol::Sign(Class::Opening, '(') },
@@ -219,6 +213,7 @@ static ENTRIES: [SignEntry; 469] = [
     SignEntry { character: '∈', symbol: Symbol::Sign(Class::Relation, '∈') },
     SignEntry { character: '∉', symbol: Symbol::Sign(Class::Relation, '∉') },
     SignEntry { character: '∋', symbol: Symbol::Sign(Class::Relation, '∋') },
+    SignEntry { character: '∌', symbol: Symbol::Sign(Class::Relation, '∌') },
     SignEntry { character: '∍', symbol: Symbol::Sign(Class::Relation, '∍') },
     SignEntry { character: '∏', symbol: Symbol::BigOperator('∏') },
     SignEntry { character: '∐', symbol: Symbol::BigOperator('∐') },
@@ -252,6 +247,7 @@ static ENTRIES: [SignEntry; 469] = [
     SignEntry { character: '∰', symbol: Symbol::Integral('∰') },
     SignEntry { character: '∴', symbol: Symbol::Sign(Class::Relation, '∴') },
     SignEntry { character: '∵', symbol: Symbol::Sign(Class::Relation, '∵') },
+    SignEntry { character: '∷', symbol: Symbol::Sign(Class::Relation, '∷') },
     SignEntry { character: '∼', symbol: Symbol::Sign(Class::Relation, '∼') },
     SignEntry { character: '∽', symbol: Symbol::Sign(Class::Relation, '∽') },
     SignEntry { character: '≀', symbol: Symbol::Sign(Class::Binary, '≀') },
@@ -269,6 +265,7 @@ static ENTRIES: [SignEntry; 469] = [
     SignEntry { character: '≑', symbol: Symbol::Sign(Class::Relation, '≑') },
     SignEntry { character: '≒', symbol: Symbol::Sign(Class::Relation, '≒') },
     SignEntry { character: '≓', symbol: Symbol::Sign(Class::Relation, '≓') },
+    SignEntry { character: '≔', symbol: Symbol::Sign(Class::Relation, '≔') },
     SignEntry { character: '≖', symbol: Symbol::Sign(Class::Relation, '≖') },
     SignEntry { character: '≗', symbol: Symbol::Sign(Class::Relation, '≗') },
     SignEntry { character: '≜', symbol: Symbol::Sign(Class::Relation, '≜') },
@@ -353,7 +350,7 @@ static ENTRIES: [SignEntry; 469] = [
     SignEntry { character: '⋂', symbol: Symbol::BigOperator('⋂') },
     SignEntry { character: '⋃', symbol: Symbol::BigOperator('⋃') },
     SignEntry { character: '⋄', symbol: Symbol::Sign(Class::Binary, '⋄') },
-    SignEntry { character: '⋅', symbol: Symbol::Sign(Class::Punctuation, '⋅') },
+    SignEntry { character: '⋅', symbol: Symbol::Sign(Class::Binary, '⋅') },
     SignEntry { character: '⋆', symbol: Symbol::Sign(Class::Binary, '⋆') },
     SignEntry { character: '⋇', symbol: Symbol::Sign(Class::Binary, '⋇') },
     SignEntry { character: '⋈', symbol: Symbol::Sign(Class::Relation, '⋈') },
@@ -394,6 +391,10 @@ static ENTRIES: [SignEntry; 469] = [
     SignEntry { character: '⌉', symbol: Symbol::Sign(Class::Closing, '⌉') },
     SignEntry { character: '⌊', symbol: Symbol::Sign(Class::Opening, '⌊') },
     SignEntry { character: '⌋', symbol: Symbol::Sign(Class::Closing, '⌋') },
+    SignEntry { character: '⌜', symbol: Symbol::Sign(Class::Opening, '⌜') },
+    SignEntry { character: '⌝', symbol: Symbol::Sign(Class::Closing, '⌝') },
+    SignEntry { character: '⌞', symbol: Symbol::Sign(Class::Opening, '⌞') },
+    SignEntry { character: '⌟', symbol: Symbol::Sign(Class::Closing, '⌟') },
     SignEntry { character: '⌢', symbol: Symbol::Sign(Class::Relation, '⌢') },
     SignEntry { character: '⌣', symbol: Symbol::Sign(Class::Relation, '⌣') },
     SignEntry { character: '⎰', symbol: Symbol::Sign(Class::Opening, '⎰') },
@@ -440,10 +441,13 @@ static ENTRIES: [SignEntry; 469] = [
     SignEntry { character: '♯', symbol: Symbol::Sign(Class::Ordinary, '♯') },
     SignEntry { character: '✓', symbol: Symbol::Sign(Class::Ordinary, '✓') },
     SignEntry { character: '✠', symbol: Symbol::Sign(Class::Ordinary, '✠') },
+    SignEntry { character: '⟂', symbol: Symbol::Sign(Class::Relation, '⟂') },
     SignEntry { character: '⟦', symbol: Symbol::Sign(Class::Opening, '⟦') },
     SignEntry { character: '⟧', symbol: Symbol::Sign(Class::Closing, '⟧') },
     SignEntry { character: '⟨', symbol: Symbol::Sign(Class::Opening, '⟨') },
     SignEntry { character: '⟩', symbol: Symbol::Sign(Class::Closing, '⟩') },
+    SignEntry { character: '⟮', symbol: Symbol::Sign(Class::Opening, '⟮') },
+    SignEntry { character: '⟯', symbol: Symbol::Sign(Class::Closing, '⟯') },
     SignEntry { character: '⟵', symbol: Symbol::Sign(Class::Relation, '⟵') },
     SignEntry { character: '⟶', symbol: Symbol::Sign(Class::Relation, '⟶') },
     SignEntry { character: '⟷', symbol: Symbol::Sign(Class::Relation, '⟷') },

@@ -7,12 +7,9 @@ use Rattle.latex2mathml_builder.proofs.builder.Builder.container.Goals as goal
 pub invariant_of-self-then-count-eq0 : goal.invariant_of-self-then-count-eq0
 invariant_of-self-then-count-eq0 c = rw c.in_ok-push.ensures.items (sound_push _ _ _ _ c.self.invariant (omega arith) tt tt)
 
-pub returns : goal.returns
-returns c =
+pub returns-clause-elements : goal.returns-clause-elements
+returns-clause-elements c =
     let b = c.args.self.now in
     let first = ap length c.as_slice-first.ensures.value ∙ ap (λ d. length d.settled) c.self.view_is in
-    record {
-      elements =
-          subst (λ l. OnOk c.wrap.result (elements_in c.wrap.new.self ≡ container (container_of c.args.tag) (attributes_of c.args.attributes) (children l) ∷ drop c.args.count (elements_in b)))
-          (children_back b.texts b.settled (elements_in b) _ c.args.count false first c.requires) c.wrap.ensures.elements;
-    }
+    subst (λ l. OnOk c.wrap.result (elements_in c.wrap.new.self ≡ container (container_of c.args.tag) (attributes_of c.args.attributes) (children l) ∷ drop c.args.count (elements_in b)))
+    (children_back b.texts b.settled (elements_in b) _ c.args.count false first c.requires) c.wrap.ensures.elements

@@ -3,12 +3,9 @@ use Rattle.latex2mathml_builder.specs.{Built.elements_in, Names.attributes_of, N
 use Rattle.latex2mathml_builder.proofs.Sound.{children_back}
 use Rattle.latex2mathml_builder.proofs.builder.Builder.pair.Goals as goal
 
-pub returns : goal.returns
-returns c =
+pub returns-clause-elements : goal.returns-clause-elements
+returns-clause-elements c =
     let b = c.args.self.now in
     let first = ap length c.as_slice-first.ensures.value ∙ ap (λ d. length d.settled) c.self.view_is in
-    record {
-      elements =
-          subst (λ l. OnOk c.wrap.result (elements_in c.wrap.new.self ≡ pair_with (pair_of c.args.tag) (attributes_of c.args.attributes) l ∷ drop 2 (elements_in b)))
-          (children_back b.texts b.settled (elements_in b) _ 2 c.args.is_exchanged first c.requires) c.wrap.ensures.elements;
-    }
+    subst (λ l. OnOk c.wrap.result (elements_in c.wrap.new.self ≡ pair_with (pair_of c.args.tag) (attributes_of c.args.attributes) l ∷ drop 2 (elements_in b)))
+    (children_back b.texts b.settled (elements_in b) _ 2 c.args.is_exchanged first c.requires) c.wrap.ensures.elements

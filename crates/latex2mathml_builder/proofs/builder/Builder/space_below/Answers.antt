@@ -16,8 +16,8 @@ invariant_of-self-2 c =
     let is = c.index.ensures ∙ ap (λ l. get_or stack (length l - 1) p) c.as_slice.ensures.value in
     rw (c.in_ok-push.ensures.items, c.as_slice.ensures.value) (sound_space_below _ _ stack p _ some is c.self.invariant)
 
-pub returns : goal.returns
-returns c =
+pub returns-clause-elements : goal.returns-clause-elements
+returns-clause-elements c =
     let texts = string_bytes c.self.inside.texts in
     let settled = c.self.inside.settled.items in
     let stack = c.self.inside.stack.items in
@@ -27,11 +27,8 @@ returns c =
     let is = c.index.ensures ∙ ap (λ l. get_or stack (length l - 1) p) c.as_slice.ensures.value in
     let same : to_z w32 (of_z w32 c.args.width) ≡ c.args.width = omega (arith, ints) in
     let wide : ℤ = to_z w32 (of_z w32 c.args.width) in
-    record {
-      elements =
-          ap (λ l. elements texts settled (set l (length c.as_slice.result.now - 1) (part.Space wide))) c.in_ok-push.ensures.items
-          ∙ ap (λ l. elements texts settled (set (stack ++ p ∷ []) (length l - 1) (part.Space wide))) c.as_slice.ensures.value
-          ∙ elements_space_below texts settled stack p wide some is
-          ∙ ap (λ b. take 1 (elements_in b) ++ (space wide ∷ drop 1 (elements_in b))) c.self.view_is
-          ∙ ap (λ n. take 1 (elements_in c.args.self.now) ++ (space n ∷ drop 1 (elements_in c.args.self.now))) same;
-    }
+    ap (λ l. elements texts settled (set l (length c.as_slice.result.now - 1) (part.Space wide))) c.in_ok-push.ensures.items
+    ∙ ap (λ l. elements texts settled (set (stack ++ p ∷ []) (length l - 1) (part.Space wide))) c.as_slice.ensures.value
+    ∙ elements_space_below texts settled stack p wide some is
+    ∙ ap (λ b. take 1 (elements_in b) ++ (space wide ∷ drop 1 (elements_in b))) c.self.view_is
+    ∙ ap (λ n. take 1 (elements_in c.args.self.now) ++ (space n ∷ drop 1 (elements_in c.args.self.now))) same

@@ -17,8 +17,8 @@ invariant_of-self-2 c =
     rw (c.in_ok-settle.ensures.items, c.truncate.ensures.items, block, kept_with stack _ count c.args.whole c.as_slice.ensures.value c.requires.some enough)
     (sound_wrapped texts settled stack count c.args.is_exchanged c.args.whole c.self.invariant enough fits c.requires.no_token)
 
-pub returns : goal.returns
-returns c =
+pub returns-clause-elements : goal.returns-clause-elements
+returns-clause-elements c =
     let count = c.args.count in
     let stack = c.self.inside.stack.items in
     let settled = c.self.inside.settled.items in
@@ -27,10 +27,7 @@ returns c =
     let enough : count ≤ length stack = omega (arith, all, elements_length texts settled stack) in
     let block = c.in_ok-settle.ensures.items ∙ ap (λ l. settled ++ ordered c.args.is_exchanged l) (block_taken stack _ _ count c.as_slice.ensures.value c.deref.ensures.value) in
     let kept = c.truncate.ensures.items ∙ kept_with stack _ count c.args.whole c.as_slice.ensures.value c.requires.some enough in
-    record {
-      elements =
-          ap (λ l. elements texts l c.truncate.new.self.items) block
-          ∙ ap (elements texts (settled ++ ordered c.args.is_exchanged (drop (length stack - count) stack))) kept
-          ∙ elements_wrapped texts settled stack count c.args.is_exchanged c.args.whole c.self.invariant enough
-          ∙ ap (λ b. element_of b.texts (settled_in b ++ ordered c.args.is_exchanged (reverse (take count (elements_in b)))) c.args.whole ∷ drop count (elements_in b)) c.self.view_is;
-    }
+    ap (λ l. elements texts l c.truncate.new.self.items) block
+    ∙ ap (elements texts (settled ++ ordered c.args.is_exchanged (drop (length stack - count) stack))) kept
+    ∙ elements_wrapped texts settled stack count c.args.is_exchanged c.args.whole c.self.invariant enough
+    ∙ ap (λ b. element_of b.texts (settled_in b ++ ordered c.args.is_exchanged (reverse (take count (elements_in b)))) c.args.whole ∷ drop count (elements_in b)) c.self.view_is

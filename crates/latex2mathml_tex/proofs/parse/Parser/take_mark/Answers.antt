@@ -6,16 +6,21 @@ use Rattle.latex2mathml_tex.specs.Steps.{left_of, level_within}
 use Rattle.latex2mathml_tex.specs.declared.meaning.Style.TheVariants as style
 use Rattle.latex2mathml_tex.specs.declared.{atoms.Context.Context, parse.Parser.Parser}
 use Rattle.latex2mathml_tex.specs.declared.parse.frames.Frame.TheVariants as frame
-use Rattle.latex2mathml_tex.proofs.Marks.{MarkPut, TookIt, above_put, below_put, limits_taken, prime_refused, prime_taken, primes_are_put, script_opened, script_refused}
+use Rattle.latex2mathml_tex.proofs.Marks.{MarkPut, TookIt, above_put, below_put, limits_refused, limits_taken, prime_refused, prime_taken, primes_are_put, script_opened, script_refused}
 use Rattle.latex2mathml_tex.proofs.parse.Parser.take_mark.Goals as goal
 use Rattle.latex2mathml_tex.proofs.parse.Parser.take_mark.Goals.{in-Above+then-scripts-gt0+in_ok-put_primes-in-Script, in_default, in_default-via-in-Below-1, in_default-via-in-Above+else-scripts-gt0}
 
+pub returns-then-not-scripts-clause-holds : goal.returns-then-not-scripts-clause-holds
+returns-then-not-scripts-clause-holds c = λ s g.
+    rw (c.refuse.ensures.state, c.refuse.ensures.parser) (limits_refused s c.args.self.now c.args.core c.args.scripts c.args.mark c.args.place c.in-Limits.limits c.in-Limits.is (grind (arith, c.if-not-scripts.true)) g)
+
+pub returns-else-not-scripts-clause-holds : goal.returns-else-not-scripts-clause-holds
+returns-else-not-scripts-clause-holds c = λ s g.
+    limits_taken s c.args.self.now c.args.core c.args.scripts c.args.mark c.args.place c.in-Limits.limits c.in-Limits.is (grind (arith, c.if-not-scripts.false)) g
+
 pub returns-then-scripts-clause-holds : goal.returns-then-scripts-clause-holds
 returns-then-scripts-clause-holds c = λ s g.
-    rw (c.refuse.ensures.state, c.refuse.ensures.parser) (prime_refused s c.args.self.now c.args.core c.args.scripts c.args.mark c.args.place c.in-Prime.is c.if-scripts.true g)
-
-pub returns-in-Limits-clause-holds : goal.returns-in-Limits-clause-holds
-returns-in-Limits-clause-holds c = λ s g. limits_taken s c.args.self.now c.args.core c.args.scripts c.args.mark c.args.place c.in-Limits.limits c.in-Limits.is g
+    rw (c.refuse-then-scripts.ensures.state, c.refuse-then-scripts.ensures.parser) (prime_refused s c.args.self.now c.args.core c.args.scripts c.args.mark c.args.place c.in-Prime.is c.if-scripts.true g)
 
 pub returns-in-Some-clause-holds : goal.returns-in-Some-clause-holds
 returns-in-Some-clause-holds c = λ s g.

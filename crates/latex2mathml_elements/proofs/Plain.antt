@@ -1,0 +1,134 @@
+-- What holds of texts of plain bytes, of contents, and of two texts side by side, holds of prints.
+use Rattle.std.proofs.Common.{ℕ, ◌+◌, ◌<◌, Bool, true, false, ◌&&◌, ◌==◌, not, IsTrue, List, [], ◌++◌, Option, Some, None, refl, arith, codes, nat_lt}
+use Rattle.std.proofs.lemmas.Bool.Decides.{nat_tests}
+use Rattle.std.specs.{List.list_all, Str.byte}
+use Rattle.latex2mathml_elements.specs.Attributes.{Attributes, Side, Above, Below, Form, Prefix, Postfix, Stretch, Stretching, Rigid, Space, NoSpace, Narrow, Size, Big, Bigger, VeryBig, Biggest}
+use Rattle.latex2mathml_elements.specs.Characters.{EachText, EachTextOf}
+use Rattle.latex2mathml_elements.specs.Element.{Token, Mi, Mn, Mo, Mtext, Container, Mrow, Msqrt, Mstyle, Pair, Mfrac, Mroot, Msub, Msup, Munder, Mover, Triple, Msubsup, Munderover, Element, Elements, token, space, container, pair, triple, none, more}
+use Rattle.latex2mathml_elements.specs.Print.{accent_text, attributes_text, container_name, display_text, end_tag, form_text, formula_print, if_so, math_tag, pair_name, print, prints, size_text, space_text, start_tag, stretch_text, token_name, triple_name}
+use Rattle.latex2mathml_tokens.specs.Escape.{content}
+use Rattle.latex2mathml_trees.specs.Width.{width_text}
+use Rattle.latex2mathml_trees.proofs.ValueTexts.{width_passes}
+
+-- the printable ASCII characters, the dollar sign aside
+abbrev pub is_plain : ℕ → Bool
+is_plain b = nat_lt 0x1F b && nat_lt b 0x7F && not (b == byte "$")
+
+-- the text is of such characters
+abbrev pub IsPlain : List ℕ → Type 0
+IsPlain text = IsTrue (list_all is_plain text)
+
+plain_digit : (d : ℕ) → d < 10 → IsTrue (is_plain (48 + d))
+plain_digit d h = grind (arith, nat_tests)
+
+-- It holds of contents if something else holds of the text.
+module _ (Holds Asked : List ℕ → Type 0) (append : (a b : List ℕ) → Holds a → Holds b → Holds (a ++ b)) (plain : (bs : List ℕ) → IsPlain bs → Holds bs) (contents : (text : List ℕ) → Asked text → Holds (content text)) where
+  both : {a b : List ℕ} → Holds a → Holds b → Holds (a ++ b)
+  both {a} {b} x y = append a b x y
+
+  -- Attributes
+
+  if_holds : {text : List ℕ} → Holds text → (b : Bool) → Holds (if_so b text)
+  if_holds h true = h
+  if_holds h false = plain _ refl
+
+  form_holds : (f : Option Form) → Holds (form_text f)
+  form_holds None = plain _ refl
+  form_holds (Some Prefix) = plain _ refl
+  form_holds (Some Postfix) = plain _ refl
+
+  stretch_holds : (s : Option Stretch) → Holds (stretch_text s)
+  stretch_holds None = plain _ refl
+  stretch_holds (Some Stretching) = plain _ refl
+  stretch_holds (Some Rigid) = plain _ refl
+
+  size_holds : (s : Option Size) → Holds (size_text s)
+  size_holds None = plain _ refl
+  size_holds (Some Big) = plain _ refl
+  size_holds (Some Bigger) = plain _ refl
+  size_holds (Some VeryBig) = plain _ refl
+  size_holds (Some Biggest) = plain _ refl
+
+  space_holds : (s : Option Space) → Holds (space_text s)
+  space_holds None = plain _ refl
+  space_holds (Some NoSpace) = plain _ refl
+  space_holds (Some Narrow) = plain _ refl
+
+  accent_holds : (s : Option Side) → Holds (accent_text s)
+  accent_holds None = plain _ refl
+  accent_holds (Some Above) = plain _ refl
+  accent_holds (Some Below) = plain _ refl
+
+  display_holds : (d : Option Bool) → Holds (display_text d)
+  display_holds None = plain _ refl
+  display_holds (Some true) = plain _ refl
+  display_holds (Some false) = plain _ refl
+
+  attributes_hold : (a : Attributes) → Holds (attributes_text a)
+  attributes_hold a =
+      both (if_holds (plain _ refl) a.upright)
+      (both (form_holds a.form)
+      (both (stretch_holds a.stretch)
+      (both (if_holds (plain _ refl) a.fence)
+      (both (if_holds (plain _ refl) a.separator)
+      (both (size_holds a.size)
+      (both (space_holds a.space)
+      (both (if_holds (plain _ refl) a.limits_stay)
+      (both (accent_holds a.accent)
+      (both (if_holds (plain _ refl) a.no_line)
+      (display_holds a.display))))))))))
+
+  -- Tags
+
+  token_holds : (t : Token) → Holds (token_name t)
+  token_holds Mi = plain _ refl
+  token_holds Mn = plain _ refl
+  token_holds Mo = plain _ refl
+  token_holds Mtext = plain _ refl
+
+  container_holds : (c : Container) → Holds (container_name c)
+  container_holds Mrow = plain _ refl
+  container_holds Msqrt = plain _ refl
+  container_holds Mstyle = plain _ refl
+
+  pair_holds : (p : Pair) → Holds (pair_name p)
+  pair_holds Mfrac = plain _ refl
+  pair_holds Mroot = plain _ refl
+  pair_holds Msub = plain _ refl
+  pair_holds Msup = plain _ refl
+  pair_holds Munder = plain _ refl
+  pair_holds Mover = plain _ refl
+
+  triple_holds : (t : Triple) → Holds (triple_name t)
+  triple_holds Msubsup = plain _ refl
+  triple_holds Munderover = plain _ refl
+
+  math_holds : (is_display : Bool) → Holds (math_tag is_display)
+  math_holds true = plain _ refl
+  math_holds false = plain _ refl
+
+  starts : {name : List ℕ} (a : Attributes) → Holds name → Holds (start_tag name a)
+  starts a h = both (plain (codes "<") refl) (both h (both (attributes_hold a) (plain (codes ">") refl)))
+
+  ends : {name : List ℕ} → Holds name → Holds (end_tag name)
+  ends h = both (plain (codes "</") refl) (both h (plain (codes ">") refl))
+
+  -- Elements
+
+  mutual
+    print_holds : (x : Element) → EachText Asked x → Holds (print x)
+    print_holds (token t a text) h = both (starts a (token_holds t)) (both (contents text h) (ends (token_holds t)))
+    print_holds (space width) h =
+        both (plain (codes "<mspace width=\"") refl) (both (plain (width_text width) (width_passes is_plain plain_digit refl refl width)) (plain (codes "em\"/>") refl))
+    print_holds (container c a xs) h = both (starts a (container_holds c)) (both (prints_hold xs h) (ends (container_holds c)))
+    print_holds (pair p a x y) h =
+        both (starts a (pair_holds p)) (both (print_holds x h.0) (both (print_holds y h.1) (ends (pair_holds p))))
+    print_holds (triple t a x y z) h =
+        both (starts a (triple_holds t)) (both (print_holds x h.0) (both (print_holds y h.1) (both (print_holds z h.2) (ends (triple_holds t)))))
+
+    prints_hold : (xs : Elements) → EachTextOf Asked xs → Holds (prints xs)
+    prints_hold none h = plain [] refl
+    prints_hold (more x xs) h = both (print_holds x h.0) (prints_hold xs h.1)
+
+  pub formula_holds : (is_display : Bool) (xs : Elements) → EachTextOf Asked xs → Holds (formula_print is_display xs)
+  formula_holds is_display xs h = both (math_holds is_display) (both (prints_hold xs h) (plain (codes "</math>") refl))

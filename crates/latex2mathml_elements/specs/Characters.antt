@@ -1,0 +1,31 @@
+-- The characters that XML allows, and elements whose texts hold no others.
+use Rattle.std.specs.Prelude.{ℕ, Bool, not, ◌&&◌, ◌||◌, ◌==◌, nat_lt, List, ⊤}
+use Rattle.std.specs.Str.{NoCharPasses, byte}
+use Rattle.latex2mathml_elements.specs.Element.{Element, Elements, token, space, container, pair, triple, none, more}
+
+-- a character that XML forbids. No text holds the others that it forbids, the surrogates.
+abbrev pub is_forbidden : ℕ → Bool
+is_forbidden c =
+    (nat_lt c 0x20 && not (c == byte "\t" || c == byte "\n" || c == byte "\r")) || c == 0xFFFE || c == 0xFFFF
+
+-- the text, as its bytes, is of characters none of which XML forbids
+abbrev pub IsAllowed : List ℕ → Type 0
+IsAllowed = NoCharPasses is_forbidden
+
+abbrev mutual
+  -- each text of the element is of this kind
+  pub EachText : (List ℕ → Type 0) → Element → Type 0
+  EachText P (token t a text) = P text
+  EachText P (space width) = ⊤
+  EachText P (container c a xs) = EachTextOf P xs
+  EachText P (pair p a x y) = EachText P x × EachText P y
+  EachText P (triple t a x y z) = EachText P x × EachText P y × EachText P z
+
+  -- and each text of elements side by side
+  pub EachTextOf : (List ℕ → Type 0) → Elements → Type 0
+  EachTextOf P none = ⊤
+  EachTextOf P (more x xs) = EachText P x × EachTextOf P xs
+
+-- no text of the element holds a character that XML forbids
+abbrev pub HasAllowedTexts : Element → Type 0
+HasAllowedTexts = EachText IsAllowed

@@ -1,0 +1,47 @@
+-- What holds of the parser where a row ends whose elements are put as one.
+use Rattle.std.proofs.Common.{◌≡◌, ◌∙◌, ℕ, ◌+◌, false, ◌∷◌, drop, take, ap, arith}
+use Rattle.std.proofs.lemmas.List.{drop-drop}
+use Rattle.latex2mathml_elements.specs.Element.{Element}
+use Rattle.latex2mathml_builder.specs.Built.{Built, elements_in}
+use Rattle.latex2mathml_tex_grammar.specs.{Atoms.Plain, Atoms.atom, Makes.core, Makes.root, Rows.row_element, Symbols.Ordinary}
+use Rattle.latex2mathml_tex_grammar.specs.{Rules.gives}
+use Rattle.latex2mathml_tex.specs.{Frames.Start, Innermost.frame_context, Levels.Leads}
+use Rattle.latex2mathml_tex.specs.Models.{context_of, core_with}
+use Rattle.latex2mathml_tex.specs.Steps.{ClosesRow, Holds, InnermostIs, elements_of, left_of, level_within}
+use Rattle.latex2mathml_tex.specs.declared.{atoms.Context.Context, atoms.Core.Core as CodeCore, atoms.Row.Row as CodeRow, atoms.Words.Words as CodeWords, parse.Parser.Parser}
+use Rattle.latex2mathml_tex.specs.declared.parse.State.TheVariants as state
+use Rattle.latex2mathml_tex.specs.declared.parse.frames.Frame.{Frame}
+use Rattle.latex2mathml_tex.specs.declared.parse.frames.Ending.TheVariants as ending
+use Rattle.latex2mathml_tex.specs.declared.parse.frames.Frame.TheVariants as frame
+use Rattle.latex2mathml_tex.specs.declared.parse.frames.Last.TheVariants as last
+use Rattle.latex2mathml_tex.proofs.Leading.{given, operand_due}
+use Rattle.latex2mathml_tex.proofs.{Opening.context_is, Wording.drop_more, Wording.take_more}
+
+-- the elements of the row are one element
+abbrev pub IsOne : CodeRow → Parser → Built → Type 0
+IsOne row p b = elements_in b ≡ row_element (take row.count (elements_of p)) ∷ drop row.count (elements_of p)
+
+module _ (s : Start) (p : Parser) (b : Built) (place : ℕ) (row : CodeRow) (one : IsOne row p b) where
+  none_beside : row.count + 0 ≡ row.count
+  none_beside = omega arith
+
+  pub group_closed : (c : CodeCore) → ((x : Element) → core_with c x ≡ core (atom (Plain Ordinary) row.high x)) → ClosesRow ending.Group place row s p → Holds s (record p { builder = b }) (state.Core c)
+  group_closed c is g =
+      let x = row_element (take row.count (elements_of p)) in
+      record { style = g.style; claims = rw (one, is x) (rw none_beside at (given g.leads)) }
+
+  -- the operand of the root is due, in the context of the level
+  pub degree_closed : (f : Frame) (c : Context) → InnermostIs f p → c ≡ frame_context f → ClosesRow ending.Degree place row s p → Leads (level_within (frame.Last last.Root place c) 0 s (record p { builder = b })) (left_of p)
+  degree_closed f c inner is g =
+      let same = ap context_of is ∙ context_is s p.style p.frames.stack.items f (drop row.count (elements_of p)) g.style inner in
+      let x = row_element (take row.count (elements_of p)) in
+      rw (one, same) (operand_due (λ y. gives (root x y.element)) (rw none_beside at g.leads))
+
+  pub formula_closed : (ws : CodeWords) → ClosesRow (ending.Formula ws) place row s p → Holds s (record p { builder = b }) (state.Words (record { count = ws.count + 1; ends_in_text = false }))
+  formula_closed ws g =
+      let x = row_element (take row.count (elements_of p)) in
+      let behind = drop row.count (elements_of p) in
+      let first : take (ws.count + 1) (elements_in b) ≡ x ∷ take ws.count behind = ap (take (ws.count + 1)) one ∙ take_more ws.count x behind in
+      let others : drop (ws.count + 1) (elements_in b) ≡ drop (row.count + ws.count) (elements_of p) =
+      ap (drop (ws.count + 1)) one ∙ drop_more ws.count x behind ∙ drop-drop ws.count row.count (elements_of p) in
+      record { style = g.style; claims = rw (first, others) g.leads }

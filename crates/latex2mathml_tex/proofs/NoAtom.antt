@@ -1,0 +1,114 @@
+-- Where no atom begins in a row: its ending stands there, the text ends, or what stands there is no unit.
+use Rattle.std.proofs.Common.{◌≡◌, ◌≢◌, ◌∙◌, ℕ, suc, ◌+◌, ◌≤◌, true, None, Some, List, length, reverse, sum_by, Result, sym, ap, arith, subst}
+use Rattle.std.proofs.lemmas.{Bool.and_parts, List.Sums.sum_by_push}
+use Rattle.std.specs.declared.alloc.AllocError.{AllocError}
+use Rattle.latex2mathml_elements.specs.Element.{Element}
+use Rattle.latex2mathml_tex_grammar.specs.{Next.past_space, Reading.Outcome, Reading.Refused, Refusal.Refusal, Rows.Row}
+use Rattle.latex2mathml_tex_grammar.specs.Starts.{ends, unended}
+use Rattle.latex2mathml_tex_grammar.specs.Units.{Piece, Unit, Units, Next, End, Stop}
+use Rattle.latex2mathml_tex.specs.{Errors.refusal_of, Left.put_back, Left.unit_count, Left.units_at, Meanings.style_of, Taking.unit_of}
+use Rattle.latex2mathml_tex.specs.Frames.{RowMade, Start, Whole, element_count, ending_count, ending_of, within}
+use Rattle.latex2mathml_tex.specs.Innermost.{IsInnermost, none_begun, on_top}
+use Rattle.latex2mathml_tex.specs.Levels.{Leads, Level, Refuses}
+use Rattle.latex2mathml_tex.specs.Steps.{Awaits, CanMake, ClosesRow, EndsText, HasElements, Holds, IsStep, core_made, elements_of, frame_weight, left_of, row_makes}
+use Rattle.latex2mathml_tex.specs.declared.{atoms.Context.Context, atoms.Row.Row as CodeRow, input.Input.Input, meaning.Style.Style, parse.Parser.Parser, parse.State.State, unit.Next.Next as CodeNext, unit.Unit.Unit as CodeUnit}
+use Rattle.latex2mathml_tex.specs.declared.unit.Next.TheVariants as next
+use Rattle.latex2mathml_tex.specs.declared.parse.State.TheVariants as state
+use Rattle.latex2mathml_tex.specs.declared.parse.frames.{Ending.Ending, Frame.Frame, Frames.Frames}
+use Rattle.latex2mathml_tex.specs.declared.parse.frames.Ending.TheVariants as ending
+use Rattle.latex2mathml_tex.specs.declared.parse.frames.Frame.TheVariants as frame
+use Rattle.latex2mathml_tex.proofs.Leading.{row_ended, row_ends_text, row_stopped, row_unended}
+use Rattle.latex2mathml_tex.proofs.{Marks.all_refuse, Nexts.no_more_past_space, Opening.into_frame, Opening.out_of_frame, Rows.others_await, Rows.step_within, Wording.one_innermost}
+
+-- the row of the whole text alone may end with it
+whole_ends : (s : Start) (e : Ending) (place : ℕ) (xs : List Element) (l : Level) (o : Outcome Row) → unended (ending_of e place) ≡ None → RowMade s e place xs l o → Whole s o
+whole_ends s ending.Text place xs l o is k = k
+whole_ends s ending.Group place xs l o is k = cc is
+whole_ends s ending.Operand place xs l o is k = cc is
+whole_ends s ending.Degree place xs l o is k = cc is
+whole_ends s (ending.Delimiters opening) place xs l o is k = cc is
+whole_ends s (ending.Formula ws) place xs l o is k = cc is
+
+-- no unit ends the whole text
+pub no_text_ends : (e : Ending) (place : ℕ) (piece : Piece) → true ≡ ends (ending_of e place) piece → e ≢ ending.Text
+no_text_ends e place piece is same = let no : true ≡ ends (ending_of ending.Text place) piece = rw same at is in cc
+
+-- the elements of a row and of the frames around it are among those of all frames
+elements_left : (style : Style) (fs others : List Frame) (e : Ending) (place : ℕ) (c : Context) (row : CodeRow) (n : ℕ) → IsInnermost style fs (frame.Row e place c row) others → sum_by element_count fs + 0 ≤ n → sum_by element_count others + (row.count + ending_count e) ≤ n
+elements_left style fs others e place c row n (none_begun h k g) enough =
+    let none : row.count + ending_count e ≡ 0 = ap element_count g in
+    let brought : sum_by element_count others ≡ 0 = ap (sum_by element_count) k in
+    omega (arith, none, brought)
+elements_left style fs others e place c row n (on_top h) enough =
+    let brought : sum_by element_count fs ≡ sum_by element_count others + (row.count + ending_count e) = ap (sum_by element_count) h ∙ sum_by_push element_count others (frame.Row e place c row) in
+    omega (arith, brought, enough)
+
+-- the frames around the innermost one bring no more than all frames
+frames_left : (style : Style) (fs others : List Frame) (f : Frame) → IsInnermost style fs f others → sum_by frame_weight others ≤ sum_by frame_weight fs
+frames_left style fs others f (none_begun h k g) = let brought : sum_by frame_weight others ≡ 0 = ap (sum_by frame_weight) k in omega (arith, brought)
+frames_left style fs others f (on_top h) =
+    let brought : sum_by frame_weight fs ≡ sum_by frame_weight others + frame_weight f = ap (sum_by frame_weight) h ∙ sum_by_push frame_weight others f in
+    omega (arith, brought)
+
+module _ (p : Parser) (e : Ending) (place : ℕ) (row : CodeRow) (c : Context) (others : List Frame) (inner : IsInnermost p.style p.frames.stack.items (frame.Row e place c row) others) where
+  module _ (s : Start) (h : Holds s p state.Next) where
+    abbrev in_row : (Level → Type 0) → Type 0
+    in_row P = P (within s others (frame.Row e place c row) (elements_of p))
+
+    -- what is due leads to the atoms behind the row
+    atoms_due : in_row (λ l. Leads l (left_of p))
+    atoms_due = into_frame (λ l. Leads l (left_of p)) s p.style h.style p.frames.stack.items others (frame.Row e place c row) (elements_of p) inner h.claims
+
+    -- what is refused in the row is refused as a whole
+    refused_within : (r : Refusal) → in_row (λ l. Refuses l r) → Whole s (Refused r)
+    refused_within r k = all_refuse r s (reverse p.frames.stack.items) (elements_of p) (out_of_frame (λ l. Refuses l r) s p.style h.style p.frames.stack.items others (frame.Row e place c row) (elements_of p) inner k)
+
+    pub no_unit_there : (q : Parser) (r : Refusal) → past_space (left_of p) ≡ Stop r → q.style ≡ p.style → refusal_of q.refusal ≡ Some r → Holds s q state.Refused
+    no_unit_there q r stop f g = record { style = h.style ∙ ap style_of (sym f); claims = rw g (refused_within r (row_stopped stop atoms_due)) }
+
+    pub text_ended : (i : Input) (at : ℕ) → past_space (left_of p) ≡ End at → EndsText e place row s (record p { input = i })
+    text_ended i at end = record {
+      style = h.style;
+      at = at;
+      ends = λ whole. whole_ends s e place _ _ _ whole (row_ends_text end whole atoms_due);
+      refuses = λ r one. refused_within r (row_unended end one atoms_due);
+    }
+
+    -- the frame that was taken off is that of the row
+    pub row_closed : (i : Input) (fr : Frames) (f : Frame) (u : Unit) → IsInnermost p.style p.frames.stack.items f fr.stack.items → past_space (left_of p) ≡ Next u (units_at i) → true ≡ ends (ending_of e place) u.piece → ClosesRow e place row s (record p { input = i; frames = fr })
+    row_closed i fr f u taken next is =
+        let fs = p.frames.stack.items in
+        let same : f ≡ frame.Row e place c row = one_innermost p.style fs fr.stack.items others f (frame.Row e place c row) taken inner in
+        let at_row = subst (λ f. IsInnermost p.style fs f fr.stack.items) same taken in
+        let begun = into_frame (λ l. Leads l (left_of p)) s p.style h.style fs fr.stack.items (frame.Row e place c row) (elements_of p) at_row h.claims in
+        record { style = h.style; leads = row_ended next (sym is) begun }
+
+  -- without its frame, the row can be given to what it was begun for
+  pub row_can_close : (i : Input) (fr : Frames) (f : Frame) → IsInnermost p.style p.frames.stack.items f fr.stack.items → HasElements 0 p → Awaits core_made p → CanMake (row_makes e) (row.count + ending_count e) (record p { input = i; frames = fr })
+  row_can_close i fr f taken enough awaits =
+      let fs = p.frames.stack.items in
+      let same : f ≡ frame.Row e place c row = one_innermost p.style fs fr.stack.items others f (frame.Row e place c row) taken inner in
+      let at_row = subst (λ f. IsInnermost p.style fs f fr.stack.items) same taken in
+      let nested = and_parts _ _ (others_await p.style fs fr.stack.items e place c row at_row awaits.nested) in
+      record {
+        elements = elements_left p.style fs fr.stack.items e place c row (length (elements_of p)) at_row enough;
+        awaits = record { accepted = nested.0; nested = nested.1 };
+      }
+
+-- a unit that stands next, white space aside
+pub unit_next : (l m w : Units) (n : CodeNext) (u : CodeUnit) → w ≡ past_space l → w ≡ put_back n m → n ≡ next.Unit u → past_space l ≡ Next (unit_of u) m
+unit_next l m w n u space behind is = sym space ∙ behind ∙ ap (λ n. put_back n m) is
+
+-- less is left to do where a unit is taken, and where the row's frame is taken off
+pub unit_step : (p : Parser) (i : Input) (u : Unit) (new : Parser) (answer : Result State AllocError) → past_space (left_of p) ≡ Next u (units_at i) → IsStep 13 (record p { input = i }) new answer → IsStep 1 p new answer
+unit_step p i u new answer next step =
+    let one : unit_count (past_space (left_of p)) ≡ suc (unit_count (units_at i)) = ap unit_count next in
+    let space = no_more_past_space (left_of p) in
+    step_within p (record p { input = i }) new answer 13 1 (omega (arith, one, space)) step
+
+pub closing_step : (p : Parser) (i : Input) (fr : Frames) (f : Frame) (u : Unit) (new : Parser) (answer : Result State AllocError) → IsInnermost p.style p.frames.stack.items f fr.stack.items → past_space (left_of p) ≡ Next u (units_at i) → IsStep 13 (record p { input = i; frames = fr }) new answer → IsStep 1 p new answer
+closing_step p i fr f u new answer taken next step =
+    let one : unit_count (past_space (left_of p)) ≡ suc (unit_count (units_at i)) = ap unit_count next in
+    let space = no_more_past_space (left_of p) in
+    let fewer = frames_left p.style p.frames.stack.items fr.stack.items f taken in
+    step_within p (record p { input = i; frames = fr }) new answer 13 1 (omega (arith, one, space, fewer)) step

@@ -1,0 +1,156 @@
+-- What holds of the parser where an atom is put behind a row.
+use Rattle.std.proofs.Common.{◌≡◌, ℕ, ◌+◌, ◌-◌, ◌≤◌, ◌&&◌, Bool, true, false, sum_by, Some, None, Result, Ok, Err, IsTrue, List, [], ◌∷◌, drop, length, refl, sym, ap, ◌∙◌, subst, arith, reverse}
+use Rattle.std.proofs.lemmas.{List.drop-drop, List.length-drop, List.reverse-append, List.Sums.sum_by_push}
+use Rattle.latex2mathml_elements.specs.Element.{Element}
+use Rattle.latex2mathml_builder.specs.Built.{Built, elements_in}
+use Rattle.latex2mathml_tex_grammar.specs.{Atoms.Atom, Delimiters.delimiter_of, Makes.core, Makes.divider, Makes.no_scripts, Meaning.Beside, Rules.gives, Starts.empty_base, Units.Units}
+use Rattle.latex2mathml_tex_grammar.specs.Next.{next_are, past_space, refusal_here}
+use Rattle.latex2mathml_tex_grammar.specs.Refusal.{MissingDelimiter, Refusal}
+use Rattle.latex2mathml_tex_grammar.specs.Reading.{Outcome, Read, ReadsAtoms}
+use Rattle.latex2mathml_tex_grammar.specs.Rows.{Row, row_element, with_atom}
+use Rattle.latex2mathml_tex.specs.{Errors.refusal_of, Left.unit_count, Left.units_at}
+use Rattle.latex2mathml_tex.specs.Frames.{RowMade, Start, base_of, element_count, ending_count, ending_of, inside, within}
+use Rattle.latex2mathml_tex.specs.Innermost.{IsInnermost, none_begun, on_top}
+use Rattle.latex2mathml_tex.specs.Levels.{AtomMade, Leads, Refuses}
+use Rattle.latex2mathml_tex.specs.Meanings.{style_of}
+use Rattle.latex2mathml_tex.specs.Models.{context_of, core_with, row_with, script_count, scripts_with, top}
+use Rattle.latex2mathml_tex.specs.Steps.{BeginsDivider, CanMake, Follows, HasElements, Holds, IsStep, MadeAtom, TookMark, are_nested, atom_made, elements_of, first_accepts, left_of, level, row_makes, to_do}
+use Rattle.std.specs.declared.alloc.AllocError.{AllocError}
+use Rattle.latex2mathml_tex.specs.declared.{atoms.Context.Context, atoms.Core.Core as CodeCore, atoms.Row.Row as CodeRow, atoms.Scripts.Scripts as CodeScripts, error.TexError.TexError, input.Input.Input, meaning.Style.Style, parse.Parser.Parser, parse.State.State, parse.scripts.Mark.Mark}
+use Rattle.latex2mathml_tex.specs.declared.atoms.Kind.TheVariants as kind
+use Rattle.latex2mathml_tex.specs.declared.meaning.Class.TheVariants as class
+use Rattle.latex2mathml_tex.specs.declared.meaning.LimitPlace.TheVariants as code_place
+use Rattle.latex2mathml_tex.specs.declared.parse.State.TheVariants as state
+use Rattle.latex2mathml_tex.specs.declared.parse.frames.{Ending.Ending, Frame.Frame}
+use Rattle.latex2mathml_tex.specs.declared.parse.frames.Frame.TheVariants as frame
+use Rattle.latex2mathml_tex.proofs.Leading.{delimited, given, undelimited}
+use Rattle.latex2mathml_tex.proofs.Marks.{all_refuse, atom_refuses}
+use Rattle.latex2mathml_tex_grammar.specs.Makes.{Scripts, scripted}
+use Rattle.latex2mathml_tex_grammar.specs.Starts.{mark_of, step_next, step_of_mark}
+use Rattle.latex2mathml_tex.specs.{Frames.context_at, Innermost.frame_context, Left.put_back, Steps.InnermostIs, Taking.piece_of}
+use Rattle.latex2mathml_tex.specs.Levels.{Level, ScriptsLead}
+use Rattle.latex2mathml_tex.specs.Levels as levels
+use Rattle.latex2mathml_tex.specs.declared.{unit.Next.Next as CodeNext, unit.Unit.Unit as CodeUnit}
+use Rattle.latex2mathml_tex.specs.declared.unit.Next.TheVariants as next
+use Rattle.latex2mathml_tex.proofs.Leading.{scripts_ended}
+use Rattle.latex2mathml_tex.proofs.Opening.{context_is, into_frame}
+
+-- A row with an atom behind it
+
+module _ (s : Start) (fs : List Frame) (e : Ending) (place : ℕ) (context : Context) (row longer : CodeRow) (a : Atom) (xs ys : List Element) (m : Units) where
+  abbrev AllLead : Row → List Element → List Element → Type 0
+  AllLead r own others = (o : Outcome Row) → ReadsAtoms (ending_of e place) (context_of context) r m o → RowMade s e place own (inside s fs others) o
+
+  pub row_longer : row_with longer ys ≡ with_atom (style_of context.style) (row_with row (drop 1 xs)) a → drop longer.count ys ≡ drop (row.count + 1) xs → AtomMade (within s fs (frame.Row e place context row) (drop 1 xs)) (Read a m) → Leads (within s fs (frame.Row e place context longer) ys) m
+  row_longer made below k =
+      let swap : row.count + 1 ≡ 1 + row.count = omega arith in
+      let own : drop longer.count ys ≡ drop row.count (drop 1 xs) = below ∙ ap (λ n. drop n xs) swap ∙ sym (drop-drop row.count 1 xs) in
+      let others : drop (longer.count + ending_count e) ys ≡ drop (row.count + ending_count e) (drop 1 xs) =
+      sym (drop-drop (ending_count e) longer.count ys) ∙ ap (drop (ending_count e)) own ∙ drop-drop (ending_count e) row.count (drop 1 xs) in
+      subst (λ r. AllLead r (drop longer.count ys) (drop (longer.count + ending_count e) ys)) (sym made)
+      (subst (λ zs. AllLead (with_atom (style_of context.style) (row_with row (drop 1 xs)) a) zs (drop (longer.count + ending_count e) ys)) (sym own)
+      (subst (λ zs. AllLead (with_atom (style_of context.style) (row_with row (drop 1 xs)) a) (drop row.count (drop 1 xs)) zs) (sym others) k))
+
+pub atom_put : (s : Start) (p : Parser) (f : Frame) (others : List Frame) (e : Ending) (place : ℕ) (context : Context) (row longer : CodeRow) (c : CodeCore) (ys : List Element) → IsInnermost p.style p.frames.stack.items f others → f ≡ frame.Row e place context row → row_with longer ys ≡ with_atom (style_of context.style) (row_with row (drop 1 (elements_of p))) (core_with c (top (elements_of p))).atom → drop longer.count ys ≡ drop (row.count + 1) (elements_of p) → MadeAtom c s p → Leads (within s others (frame.Row e place context longer) ys) (left_of p)
+atom_put s p f others e place context row longer c ys i is made below g =
+    let a = (core_with c (top (elements_of p))).atom in
+    let xs = drop 1 (elements_of p) in
+    let within_f = into_frame (λ l. AtomMade l (Read a (left_of p))) s p.style g.style p.frames.stack.items others f xs i g.leads in
+    row_longer s others e place context row longer a (elements_of p) ys (left_of p) made below (subst (λ f. AtomMade (within s others f xs) (Read a (left_of p))) is within_f)
+
+-- the frame of a row that was taken off can be put back with another row
+pub others_await : (style : Style) (fs others : List Frame) (e : Ending) (place : ℕ) (context : Context) (row : CodeRow) → IsInnermost style fs (frame.Row e place context row) others → IsTrue (are_nested (reverse fs)) → IsTrue (first_accepts (row_makes e) (reverse others) && are_nested (reverse others))
+others_await style fs others e place context row (none_begun h k g) nested = rw k (cc)
+others_await style fs others e place context row (on_top h) nested = subst (λ l. IsTrue (are_nested l)) (reverse-append others (frame.Row e place context row ∷ [])) (rw h at nested)
+
+both : (a b : Bool) → IsTrue (a && b) → IsTrue a × IsTrue b
+both true true h = (h, h)
+both true false h = absurd (cc)
+both false b h = absurd (cc)
+
+-- .. there are elements for it
+pub others_counted : (style : Style) (fs others : List Frame) (e : Ending) (place : ℕ) (context : Context) (row : CodeRow) (n : ℕ) (xs ys : List Element) → IsInnermost style fs (frame.Row e place context row) others → sum_by element_count fs + 1 ≤ length xs → drop n ys ≡ drop (row.count + 1) xs → n ≤ length ys → sum_by element_count others + (n + ending_count e) ≤ length ys
+others_counted style fs others e place context row n xs ys (none_begun h k g) enough below there =
+    let none : row.count + ending_count e ≡ 0 = ap element_count g in
+    let brought : sum_by element_count others ≡ 0 = ap (sum_by element_count) k in
+    omega (arith, none, brought, there)
+others_counted style fs others e place context row n xs ys (on_top h) enough below there =
+    let left : length ys - n ≡ length xs - (row.count + 1) = sym (length-drop n ys) ∙ ap length below ∙ length-drop (row.count + 1) xs in
+    let brought : sum_by element_count fs ≡ sum_by element_count others + (row.count + ending_count e) = ap (sum_by element_count) h ∙ sum_by_push element_count others (frame.Row e place context row) in
+    omega (arith, left, brought, enough, there)
+
+pub row_can_open : (p q : Parser) (f : Frame) (e : Ending) (place : ℕ) (context : Context) (row : CodeRow) (n : ℕ) → IsInnermost p.style p.frames.stack.items f q.frames.stack.items → f ≡ frame.Row e place context row → CanMake atom_made 1 p → drop n (elements_of q) ≡ drop (row.count + 1) (elements_of p) → n ≤ length (elements_of q) → CanMake (row_makes e) (n + ending_count e) q
+row_can_open p q f e place context row n i is can below there =
+    let inner : IsInnermost p.style p.frames.stack.items (frame.Row e place context row) q.frames.stack.items = subst (λ f. IsInnermost p.style p.frames.stack.items f q.frames.stack.items) is i in
+    let awaits = both _ _ (others_await p.style p.frames.stack.items q.frames.stack.items e place context row inner can.awaits.nested) in
+    record {
+      elements = others_counted p.style p.frames.stack.items q.frames.stack.items e place context row n (elements_of p) (elements_of q) inner can.elements below there;
+      awaits = record { accepted = awaits.0; nested = awaits.1 };
+    }
+
+-- What is refused
+
+module _ (p q : Parser) (i : Input) (error : TexError) (st : State) (same : q ≡ record p { input = i; refusal = error }) (is : st ≡ state.Refused) where
+  pub refused_step : unit_count (units_at i) ≤ unit_count (left_of p) → HasElements 0 p → Follows (to_do p + 13) q st
+  refused_step less enough =
+      subst (λ q. Follows (to_do p + 13) q st) (sym same) (subst (λ t. Follows (to_do p + 13) (record p { input = i; refusal = error }) t) (sym is)
+      (record { ready = record { elements = enough; may_come = search }; falls = omega (arith, less) }))
+
+  pub refused_here : (s : Start) (r : Refusal) → refusal_of error ≡ Some r → s.style ≡ style_of p.style → Refuses (level 0 s p) r → Holds s q st
+  refused_here s r e style k =
+      subst (λ q. Holds s q st) (sym same) (subst (λ t. Holds s (record p { input = i; refusal = error }) t) (sym is)
+      (record { style = style; claims = rw e (all_refuse r s (reverse p.frames.stack.items) (elements_of p) k) }))
+
+-- a step that does no more
+pub step_within : (old q new : Parser) (answer : Result State AllocError) (n m : ℕ) → to_do q + n ≤ to_do old + m → IsStep n q new answer → IsStep m old new answer
+step_within old q new (Ok st) n m h f = record { ready = f.ready; falls = omega (arith, f.falls, h) }
+step_within old q new (Err e) n m h f = f
+
+-- Delimiters within others
+
+pub no_divider : (s : Start) (p : Parser) → next_are (delimiter_of ∷ []) (left_of p) ≡ None → BeginsDivider s p → Refuses (level 0 s p) (refusal_here MissingDelimiter (past_space (left_of p)))
+no_divider s p e g = atom_refuses (refusal_here MissingDelimiter (past_space (left_of p))) (level 0 s p) (undelimited e g.leads)
+
+pub divider_put : (s : Start) (p : Parser) (i : Input) (b : Built) (c : CodeCore) (text : List ℕ) → next_are (delimiter_of ∷ []) (left_of p) ≡ Some (text, units_at i) → elements_in b ≡ (divider text).element ∷ elements_of p → c ≡ record { kind = kind.Divider; high = false; limits = code_place.Beside } → BeginsDivider s p → MadeAtom c s (record p { input = i; builder = b })
+divider_put s p i b c text e put is g = record {
+  style = g.style;
+  leads = rw (put, is) (given (delimited (λ text. gives (core (divider text))) e g.leads));
+}
+
+-- Scripts that stand on a row without atoms
+
+pub mark_begins : (s : Start) (p : Parser) (b : Built) (m : Mark) (place : ℕ) (c : CodeCore) (scripts : CodeScripts) → elements_in b ≡ row_element [] ∷ elements_of p → c ≡ record { kind = kind.Plain class.Ordinary; high = false; limits = code_place.Beside } → scripts ≡ record { primes = 0; below = false; above = false; is_exchanged = false; limits = code_place.Beside; takes_limits = false } → TookMark m place (level 0 s p) empty_base (no_scripts empty_base.kind Beside) s p → TookMark m place (inside s p.frames.stack.items (drop (script_count scripts + 1) (elements_in b))) (base_of c scripts (elements_in b)).atom (scripts_with scripts (elements_in b)) s (record p { builder = b })
+mark_begins s p b m place c scripts put is none g = record {
+  style = g.style;
+  before = g.before;
+  unit = g.unit;
+  next = g.next;
+  is = g.is;
+  at = g.at;
+  leads = rw (put, is, none) g.leads;
+}
+
+-- Behind an atom with its scripts
+
+no_step : (scripts : Scripts) (n : CodeNext) (l w : Units) → w ≡ put_back n l → ((u : CodeUnit) → n ≡ next.Unit u → mark_of (piece_of u.piece) ≡ None) → step_next scripts w ≡ None
+no_step scripts (next.Unit u) l w e h = rw e (ap (step_of_mark scripts) (h u refl))
+no_step scripts (next.End place) l w e h = rw e refl
+no_step scripts (next.Fault fault place) l w e h = rw e refl
+
+ended : (l : Level) (base : Atom) (scripts : Scripts) (m : Units) → step_next scripts (past_space m) ≡ None → ScriptsLead l base scripts m → AtomMade l (Read (scripted (context_at l).style base scripts) m)
+ended (levels.row e c xs K) base scripts m h k = scripts_ended e c xs K h k
+ended l base scripts m h k = absurd k
+
+pub scripts_made : (s : Start) (p : Parser) (b : Built) (c made : CodeCore) (scripts : CodeScripts) (f : Frame) (context : Context) (n : CodeNext) (l : Units) → context ≡ frame_context f → InnermostIs f p → past_space (left_of p) ≡ put_back n l → ((u : CodeUnit) → n ≡ next.Unit u → mark_of (piece_of u.piece) ≡ None) → (core_with made (top (elements_in b))).atom ≡ scripted (style_of context.style) (base_of c scripts (elements_of p)).atom (scripts_with scripts (elements_of p)) → drop 1 (elements_in b) ≡ drop (script_count scripts + 1) (elements_of p) → Holds s p (state.Atom c scripts) → MadeAtom made s (record p { builder = b })
+scripts_made s p b c made scripts f context n l is inner seen none atom below g =
+    let fs = p.frames.stack.items in
+    let at = level (script_count scripts + 1) s p in
+    let base = (base_of c scripts (elements_of p)).atom in
+    let read = scripts_with scripts (elements_of p) in
+    let same = ap context_of is ∙ context_is s p.style fs f (drop (script_count scripts + 1) (elements_of p)) g.style inner in
+    let k = ended at base read (left_of p) (no_step read n l (past_space (left_of p)) seen none) g.claims in
+    let in_style = subst (λ st. AtomMade at (Read (scripted st base read) (left_of p))) (sym (ap (λ c. c.style) same)) k in
+    record {
+      style = g.style;
+      leads = subst (λ a. AtomMade (inside s fs (drop 1 (elements_in b))) (Read a (left_of p))) (sym atom) (subst (λ zs. AtomMade (inside s fs zs) (Read (scripted (style_of context.style) base read) (left_of p))) (sym below) in_style);
+    }

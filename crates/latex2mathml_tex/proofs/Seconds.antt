@@ -1,0 +1,44 @@
+-- The last of two operands is due behind the first one.
+use Rattle.std.proofs.Common.{◌≡◌, ℕ, Option, drop, ap, ◌∙◌}
+use Rattle.latex2mathml_builder.specs.declared.attributes.Side.{Side}
+use Rattle.latex2mathml_tex_grammar.specs.Reading.{Read}
+use Rattle.latex2mathml_tex.specs.Frames.{Start, after_first, context_at}
+use Rattle.latex2mathml_tex.specs.Levels.{CoreMade, Leads, Then}
+use Rattle.latex2mathml_tex.specs.Models.{context_of, operand_with, top}
+use Rattle.latex2mathml_tex.specs.Steps.{FirstRead, InnermostIs, elements_of, left_of, level, level_within}
+use Rattle.latex2mathml_tex.specs.Innermost.{frame_context}
+use Rattle.latex2mathml_tex.specs.declared.{atoms.Context.Context, atoms.Operand.Operand, meaning.FractionRule.FractionRule, meaning.Style.Style, parse.Parser.Parser}
+use Rattle.latex2mathml_tex.specs.declared.parse.frames.{First.First, Frame.Frame, Last.Last}
+use Rattle.latex2mathml_tex.specs.declared.parse.frames.First.TheVariants as first
+use Rattle.latex2mathml_tex.specs.declared.parse.frames.Frame.TheVariants as frame
+use Rattle.latex2mathml_tex.specs.declared.parse.frames.Last.TheVariants as last
+use Rattle.latex2mathml_tex.proofs.Leading.{operand_due}
+use Rattle.latex2mathml_tex.proofs.Opening.{context_is}
+
+module _ (s : Start) (p : Parser) (one : First) (place : ℕ) (c : Context) (operand : Operand) where
+  abbrev pub WasRead : Type 0
+  WasRead = FirstRead one place c operand s p
+
+  -- the last one is due in this context
+  abbrev pub IsDue : Last → Context → Type 0
+  IsDue made d = Leads (level_within (frame.Last made place d) 0 s p) (left_of p)
+
+  pub denominator_due : (rule : FractionRule) (own : Option Style) → one ≡ first.Fraction rule own → WasRead → IsDue (last.Fraction rule own) c
+  denominator_due rule own e g = operand_due _ (rw e at g.leads)
+
+  -- the context around both
+  abbrev pub IsOuter : Context → Type 0
+  IsOuter d = (f : Frame) × (d ≡ frame_context f) × InnermostIs f p
+
+  outer_is : (d : Context) → IsOuter d → WasRead → context_of d ≡ context_at (level 1 s p)
+  outer_is d (f, is, inner) g = ap context_of is ∙ context_is s p.style p.frames.stack.items f (drop 1 (elements_of p)) g.style inner
+
+  -- what follows the first one, in that context
+  outer_due : (d : Context) → IsOuter d → WasRead → Then (after_first one place (context_of c) (context_of d)) (CoreMade (level 1 s p)) (Read (operand_with operand (top (elements_of p))) (left_of p))
+  outer_due d outer g = rw (outer_is d outer g) g.leads
+
+  pub base_due : (side : Side) (d : Context) → one ≡ first.Stack side → IsOuter d → WasRead → IsDue (last.Stack side d.style) d
+  base_due side d e outer g = let due = outer_due d outer g in operand_due _ (rw e at due)
+
+  pub relation_due : (d : Context) → one ≡ first.StackedRelation → IsOuter d → WasRead → IsDue (last.StackedRelation d.style) d
+  relation_due d e outer g = let due = outer_due d outer g in operand_due _ (rw e at due)

@@ -1,0 +1,119 @@
+-- What characters and commands are in words, and what holds of the parser behind them.
+use Rattle.std.proofs.Common.{◌≡◌, ◌==◌, ◌+◌, ◌||◌, ◌++◌, ◌∷◌, [], Bool, ℕ, ℤ, true, false, drop, Err, List, Ok, Option, Result, Some, None, codes, option_map, refl, subst, sym, ap, arith}
+use Rattle.std.proofs.lemmas.Bool.Decides.{nat_tests}
+use Rattle.std.specs.Prelude.{IfOk, OnOk}
+use Rattle.std.specs.Str.{byte, bytes_eq}
+use Rattle.std.specs.declared.alloc.AllocError.{AllocError}
+use Rattle.latex2mathml_tex_grammar.specs.{Commands.meaning_of, Makes.text, Meaning.Meaning, Reading.Read, Symbols.Alphabet}
+use Rattle.latex2mathml_tex_grammar.specs.Refusal.{CharacterInWords, CommandInWords, UnknownCommand, refusal_at}
+use Rattle.latex2mathml_tex_grammar.specs.Units as grammar
+use Rattle.latex2mathml_tex_grammar.specs.Units.{Character, Command, Open, Piece}
+use Rattle.latex2mathml_tex_grammar.specs.Words.{BeginsFormula, IsWord, NoWord, Shown, is_escape, meaning_rule, word_character, word_rule, word_space}
+use Rattle.latex2mathml_tex.specs.{Errors.refusal_of, Frames.Start, Innermost.empty_row, Levels.Leads, Levels.PartMade, Meanings.alphabet_of, Models.words_with}
+use Rattle.latex2mathml_tex.specs.Meanings
+use Rattle.latex2mathml_tex.specs.Steps.{BeginsWordOf, HasElements, Holds, IsStep, elements_of, left_of, level, level_within}
+use Rattle.latex2mathml_tex.specs.declared.{atoms.Row.Row as CodeRow, atoms.Words.Words as CodeWords, parse.Parser.Parser, parse.State.State, parse.frames.Frames.Frames}
+use Rattle.latex2mathml_tex.specs.declared.meaning.{Alphabet.Alphabet as CodeAlphabet, Meaning.Meaning as CodeMeaning, Symbol.Symbol as CodeSymbol}
+use Rattle.latex2mathml_tex.specs.declared.meaning.Meaning.TheVariants as code_meaning
+use Rattle.latex2mathml_tex.specs.declared.meaning.Style.TheVariants as code_style
+use Rattle.latex2mathml_tex.specs.declared.parse.State.TheVariants as state
+use Rattle.latex2mathml_tex.specs.declared.parse.frames.Ending.TheVariants as ending
+use Rattle.latex2mathml_tex.specs.declared.parse.frames.Frame.TheVariants as frame
+use Rattle.latex2mathml_tex.proofs.Leading.{formula_due, group_of_words_due}
+use Rattle.latex2mathml_tex.proofs.{Opening.pushed, Rows.refused_step, Wording.no_part}
+
+-- Commands
+
+-- the meaning is none in words
+pub record IsNoWord (m : CodeMeaning) : Type 0 where
+  pub no_sign : (symbol : CodeSymbol) → m ≡ code_meaning.Shows symbol → ⊥
+  pub no_space : (width : ℤ) → m ≡ code_meaning.Spacing width → ⊥
+  pub no_words : (b : Option CodeAlphabet) → m ≡ code_meaning.Words b → ⊥
+
+module _ (a : Option Alphabet) (name : List ℕ) where
+  pub escape_shown : (shown : List ℕ) → is_escape name ≡ true → name ≡ shown → word_rule a (Command name) ≡ IsWord (Shown shown)
+  escape_shown shown is e = rw is (ap (λ t. IsWord (Shown t)) e)
+
+  module _ (other : is_escape name ≡ false) where
+    pub command_meant : (m : Option Meaning) → meaning_of name ≡ m → word_rule a (Command name) ≡ meaning_rule name m
+    command_meant m e = rw (other, e) refl
+
+    -- without a meaning, there are the command that breaks lines and those that are unknown
+
+    pub line_break : meaning_of name ≡ None → bytes_eq name (codes "\\") ≡ true → word_rule a (Command name) ≡ NoWord (CommandInWords name)
+    line_break e is = rw (other, e, is) refl
+
+    pub unknown : meaning_of name ≡ None → bytes_eq name (codes "\\") ≡ false → word_rule a (Command name) ≡ NoWord (UnknownCommand name)
+    unknown e is = rw (other, e, is) refl
+
+    -- most meanings are none in words
+
+    no_word_meant : (m : CodeMeaning) → IsNoWord m → meaning_rule name (Some (Meanings.meaning_of m)) ≡ NoWord (CommandInWords name)
+    no_word_meant (code_meaning.Shows symbol) none = absurd (none.no_sign symbol refl)
+    no_word_meant (code_meaning.Spacing width) none = absurd (none.no_space width refl)
+    no_word_meant (code_meaning.Words b) none = absurd (none.no_words b refl)
+    no_word_meant m none = refl
+
+    pub not_in_words : (m : CodeMeaning) → meaning_of name ≡ Some (Meanings.meaning_of m) → IsNoWord m → word_rule a (Command name) ≡ NoWord (CommandInWords name)
+    not_in_words m e none = rw (other, e) (no_word_meant m none)
+
+-- a command that cannot stand in words is refused, if there is memory for its name
+module _ (p q : Parser) (same : q ≡ record p { refusal = q.refusal }) where
+  abbrev pub IsRefused : Result State AllocError → Type 0
+  IsRefused answer = IfOk answer (λ st. st ≡ state.Refused)
+
+  pub command_refused : (s : Start) (ws : CodeWords) (name : List ℕ) (place : ℕ) (a : Option Alphabet) (answer : Result State AllocError) → IsRefused answer
+      → OnOk answer (refusal_of q.refusal ≡ Some (refusal_at (CommandInWords name) place))
+      → word_rule a (Command name) ≡ NoWord (CommandInWords name) → BeginsWordOf ws (Command name) place a s p → IfOk answer (Holds s q)
+  command_refused s ws name place a (Ok st) is reason rule g =
+      let style = ap {A = Parser} (λ q. q.style) same in
+      rw is (no_part s p ws (Command name) place a q (CommandInWords name) style reason rule g)
+  command_refused s ws name place a (Err e) is reason rule g = is
+
+  pub command_step : (n : ℕ) (answer : Result State AllocError) → IsRefused answer → HasElements n p → IsStep 13 p q answer
+  command_step n (Ok st) is enough = refused_step p q p.input q.refusal st same is (omega arith) (omega (arith, enough))
+  command_step n (Err e) is enough = is
+
+-- Characters
+
+unequal : (m n : ℕ) → (m ≡ n → ⊥) → m == n ≡ false
+unequal m n h = grind (arith, nat_tests)
+
+-- the characters that cannot stand in words
+abbrev pub no_word : ℕ → Bool
+no_word c = c == byte "_" || c == byte "^" || c == byte "&" || c == byte "#"
+
+module _ (a : Option Alphabet) (c : ℕ) where
+  pub dollar_rule : c ≡ byte "$" → word_rule a (Character c) ≡ BeginsFormula
+  dollar_rule e = rw e refl
+
+  pub tilde_rule : c ≡ byte "~" → word_rule a (Character c) ≡ IsWord word_space
+  tilde_rule e = rw e refl
+
+  module _ (dollar : c ≡ byte "$" → ⊥) (tilde : c ≡ byte "~" → ⊥) where
+    pub no_word_rule : no_word c ≡ true → word_rule a (Character c) ≡ NoWord (CharacterInWords c)
+    no_word_rule e = rw (unequal c (byte "$") dollar, unequal c (byte "~") tilde, e) refl
+
+    pub character_rule : no_word c ≡ false → word_rule a (Character c) ≡ IsWord (Shown (text (word_character a c)))
+    character_rule e = rw (unequal c (byte "$") dollar, unequal c (byte "~") tilde, e) refl
+
+-- What begins behind words
+
+module _ (s : Start) (p : Parser) (ws : CodeWords) (place : ℕ) where
+  -- words in braces
+  pub group_begun : (a : Option CodeAlphabet) (fr : Frames) → fr.stack.items ≡ p.frames.stack.items ++ frame.Words place a ∷ [] → BeginsWordOf ws Open place (option_map alphabet_of a) s p → Holds s (record p { frames = fr }) (state.Words ws)
+  group_begun a fr e g =
+      let xs = drop ws.count (elements_of p) in
+      let due = group_of_words_due (level ws.count s p) {u = grammar.unit Open place} refl g.leads in
+      record {
+        style = g.style;
+        claims = rw e (subst (λ l. PartMade l (Read (words_with ws (elements_of p)) (left_of p))) (sym (pushed s p.frames.stack.items (frame.Words place a) xs)) due);
+      }
+
+  -- a formula
+  pub formula_begun : (piece : Piece) (a : Option Alphabet) (row : CodeRow) → row ≡ empty_row → word_rule a piece ≡ BeginsFormula → BeginsWordOf ws piece place a s p
+      → Leads (level_within (frame.Row (ending.Formula ws) place (record { style = code_style.InText; alphabet = None }) row) 0 s p) (left_of p)
+  formula_begun piece a row empty rule g =
+      let due = formula_due (level ws.count s p) {u = grammar.unit piece place} rule g.leads in
+      let count : 0 + ws.count ≡ ws.count = omega arith in
+      rw empty (rw count due)

@@ -1,0 +1,16 @@
+use Rattle.std.proofs.Common.{refl}
+use Rattle.latex2mathml_tex.proofs.Closing.{degree_closed, formula_closed, group_closed}
+use Rattle.latex2mathml_tex.proofs.parse.Parser.close.Goals as goal
+
+pub returns-in_ok-put_row-in-Group-clause-holds : goal.returns-in_ok-put_row-in-Group-clause-holds
+returns-in_ok-put_row-in-Group-clause-holds c = λ s g.
+    group_closed s c.args.self.now c.put_row.new.builder c.args.place c.args.row c.in_ok-put_row-in-Group.ensures c.new.result (λ x. rw c.new.ensures refl) (rw c.in-Group.is at g)
+
+pub returns-in_ok-put_row-in-Degree-clause-holds : goal.returns-in_ok-put_row-in-Degree-clause-holds
+returns-in_ok-put_row-in-Degree-clause-holds c = λ s g.
+    let due = degree_closed s c.args.self.now c.put_row-in-Degree.new.builder c.args.place c.args.row c.in_ok-put_row-in-Degree.ensures c.innermost.result c.context-context.result c.innermost.ensures c.context-context.ensures (rw c.in-Degree.is at g) in
+    c.open.ensures.holds s g.style due
+
+pub returns-in_ok-put_row-in-Formula-clause-holds : goal.returns-in_ok-put_row-in-Formula-clause-holds
+returns-in_ok-put_row-in-Formula-clause-holds c = λ s g.
+    formula_closed s c.args.self.now c.put_row-in-Formula.new.builder c.args.place c.args.row c.in_ok-put_row-in-Formula.ensures c.in-Formula.words (rw c.in-Formula.is at g)

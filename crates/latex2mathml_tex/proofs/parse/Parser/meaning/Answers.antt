@@ -1,0 +1,84 @@
+use Rattle.std.proofs.Common.{◌≡◌, ◌∙◌, ap, inl, inr, option_map, refl, subst, sym}
+use Rattle.latex2mathml_elements.specs.Attributes.{Above}
+use Rattle.latex2mathml_builder.specs.Names.{side_of, stretch_of}
+use Rattle.latex2mathml_tex_grammar.specs.Makes.{accent, brace, classed, core, fraction, group, stack, struck}
+use Rattle.latex2mathml_tex_grammar.specs.Refusal.{LimitsWithoutOperator, MiddleWithoutLeft, RightWithoutLeft, refusal_at}
+use Rattle.latex2mathml_tex_grammar.specs.Rows.{as_base}
+use Rattle.latex2mathml_tex_grammar.specs.Rules.{gives, in_context, of_two, own_style, refuses, slashed, styled}
+use Rattle.latex2mathml_tex_grammar.specs.Symbols.{InScript, Relation, smaller}
+use Rattle.latex2mathml_tex.specs.{Frames.after_first, Frames.context_at}
+use Rattle.latex2mathml_tex.specs.Meanings.{class_of, fraction_rule_of, style_of}
+use Rattle.latex2mathml_tex.specs.Models.{context_of}
+use Rattle.latex2mathml_tex.specs.Steps.{Begins, level}
+use Rattle.latex2mathml_tex.specs.declared.parse.frames.First.TheVariants as first
+use Rattle.latex2mathml_tex.proofs.{RuleSteps.begun, RuleSteps.own_style_is, RuleSteps.rule_refuses, Leading.operand_due}
+use Rattle.latex2mathml_tex.proofs.parse.Parser.meaning.Goals as goal
+
+pub returns-in-Styled-clause-holds : goal.returns-in-Styled-clause-holds
+returns-in-Styled-clause-holds c = λ s g. c.open.ensures.holds s g.style (operand_due (λ x. gives (core (group x))) (rw c.in-Styled.is at g.leads))
+
+pub returns-in-Fraction-clause-holds : goal.returns-in-Fraction-clause-holds
+returns-in-Fraction-clause-holds c = λ s g.
+    let p = c.args.self.now in
+    let place = c.args.place in
+    let rule = fraction_rule_of c.in-Fraction.rule in
+    let own = option_map style_of c.in-Fraction.own in
+    let alphabet = (context_of c.args.context).alphabet in
+    let chosen : style_of c.unwrap_or.result ≡ own_style own (style_of c.args.context.style) = ap style_of c.unwrap_or.ensures ∙ own_style_is c.in-Fraction.own c.args.context.style in
+    let style : smaller (own_style own (style_of c.args.context.style)) ≡ style_of c.smaller-style.result = sym (c.smaller-style.ensures ∙ ap smaller chosen) in
+    let part = in_context (style_of c.smaller-style.result) alphabet in
+    let begins = subst (λ st. Begins (of_two place (in_context st alphabet) (in_context st alphabet) (λ above below. fraction rule own above.element below.element)) 0 s p) style (begun (rw c.in-Fraction.is at g)) in
+    c.open-in-Fraction.ensures.holds s g.style (rw c.styled.ensures (operand_due (after_first (first.Fraction c.in-Fraction.rule c.in-Fraction.own) place part (context_at (level 0 s p))) begins.leads))
+
+pub returns-in-Accent-clause-holds : goal.returns-in-Accent-clause-holds
+returns-in-Accent-clause-holds c = λ s g.
+    c.open-in-Accent.ensures.holds s g.style (operand_due (λ x. gives (accent (side_of c.in-Accent.side) c.in-Accent.mark (stretch_of c.in-Accent.stretch) x.element)) (rw c.in-Accent.is at g.leads))
+
+pub returns-in-Brace-clause-holds : goal.returns-in-Brace-clause-holds
+returns-in-Brace-clause-holds c = λ s g.
+    c.open-in-Brace.ensures.holds s g.style (operand_due (λ x. gives (brace (side_of c.in-Brace.side) c.in-Brace.mark x.element)) (rw c.in-Brace.is at g.leads))
+
+pub returns-in-Stack-clause-holds : goal.returns-in-Stack-clause-holds
+returns-in-Stack-clause-holds c = λ s g.
+    let p = c.args.self.now in
+    let place = c.args.place in
+    let mark = styled (context_of c.args.context) InScript in
+    let begins = subst (λ d. Begins (of_two place mark d (λ m base. stack (side_of c.in-Stack.side) base.class m.element (as_base d.style base.class base).element)) 0 s p) g.context (begun (rw c.in-Stack.is at g)) in
+    c.open-in-Stack.ensures.holds s g.style (rw c.styled-in-Stack.ensures (operand_due (after_first (first.Stack c.in-Stack.side) place mark (context_at (level 0 s p))) begins.leads))
+
+pub returns-in-StackedRelation-clause-holds : goal.returns-in-StackedRelation-clause-holds
+returns-in-StackedRelation-clause-holds c = λ s g.
+    let p = c.args.self.now in
+    let place = c.args.place in
+    let mark = styled (context_of c.args.context) InScript in
+    let begins = subst (λ d. Begins (of_two place mark d (λ m base. stack Above Relation m.element (as_base d.style Relation base).element)) 0 s p) g.context (begun (rw c.in-StackedRelation.is at g)) in
+    c.open-in-StackedRelation.ensures.holds s g.style (rw c.styled-in-StackedRelation.ensures (operand_due (after_first first.StackedRelation place mark (context_at (level 0 s p))) begins.leads))
+
+pub returns-in-Slash-clause-holds : goal.returns-in-Slash-clause-holds
+returns-in-Slash-clause-holds c = λ s g.
+    c.open-in-Slash.ensures.holds s g.style (operand_due (λ x. gives (slashed x (struck x.element))) (rw c.in-Slash.is at g.leads))
+
+pub returns-in-Sized-clause-holds : goal.returns-in-Sized-clause-holds
+returns-in-Sized-clause-holds c = λ s g. c.sized.ensures.holds s (begun (rw c.in-Sized.is at g))
+
+pub returns-in-Middle-clause-holds : goal.returns-in-Middle-clause-holds
+returns-in-Middle-clause-holds c = λ s g.
+    rule_refuses s c.args.self.now c.refuse.new.self c.refuse.result _ (refusal_at MiddleWithoutLeft c.args.place) c.refuse.ensures.parser c.refuse.ensures.state refl (begun (rw c.in-Middle.is at g))
+
+pub returns-in-Right-clause-holds : goal.returns-in-Right-clause-holds
+returns-in-Right-clause-holds c = λ s g.
+    rule_refuses s c.args.self.now c.refuse-in-Right.new.self c.refuse-in-Right.result _ (refusal_at RightWithoutLeft c.args.place) c.refuse-in-Right.ensures.parser c.refuse-in-Right.ensures.state refl (begun (rw c.in-Right.is at g))
+
+pub returns-in-Limits-clause-holds : goal.returns-in-Limits-clause-holds
+returns-in-Limits-clause-holds c = λ s g.
+    let p = c.args.self.now in
+    let r = refusal_at LimitsWithoutOperator c.args.place in
+    let begins : Begins (refuses r) 0 s p = elim c.in-Limits.is [
+      | inl is ↦ begun (rw is at g)
+      | inr is ↦ begun (rw is at g)
+    ] in
+    rule_refuses s p c.refuse-in-Limits.new.self c.refuse-in-Limits.result _ r c.refuse-in-Limits.ensures.parser c.refuse-in-Limits.ensures.state refl begins
+
+pub returns-in-Classed-clause-holds : goal.returns-in-Classed-clause-holds
+returns-in-Classed-clause-holds c = λ s g.
+    c.open-in-Classed.ensures.holds s g.style (operand_due (λ x. gives (classed (class_of c.in-Classed.class) (as_base (style_of c.args.context.style) (class_of c.in-Classed.class) x))) (rw c.in-Classed.is at g.leads))

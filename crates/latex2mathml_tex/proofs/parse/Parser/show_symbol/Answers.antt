@@ -1,0 +1,21 @@
+use Rattle.std.proofs.Common.{◌≡◌, None, ap, drop, refl}
+use Rattle.latex2mathml_builder.specs.Built.{elements_in}
+use Rattle.latex2mathml_tex_grammar.specs.{Rows.single, Symbols.InText}
+use Rattle.latex2mathml_tex_grammar.specs.Makes
+use Rattle.latex2mathml_tex_grammar.specs.Rows
+use Rattle.latex2mathml_tex.specs.{Meanings.symbol_of, Models.row_with, Steps.elements_of}
+use Rattle.latex2mathml_tex.specs.declared.atoms.Row.{Row}
+use Rattle.latex2mathml_tex.proofs.Wording.{formula_put, symbol_row}
+use Rattle.latex2mathml_tex.proofs.parse.Parser.show_symbol.Goals as goal
+
+pub returns-clause-holds : goal.returns-clause-holds
+returns-clause-holds c = λ s g.
+    let p = c.args.self.now in
+    let k = Makes.symbol None (symbol_of c.args.symbol) in
+    let put = elements_in c.put_symbol.new.builder in
+    let made = elements_in c.with_atom.new.builder in
+    let whole = elements_in c.put_row.new.builder in
+    let zero_count = ap (λ (r : Row). r.count) c.empty.ensures in
+    let empty : row_with c.empty.result (drop 1 put) ≡ Rows.empty_row = rw c.empty.ensures refl in
+    let e = symbol_row c.in_ok-core.core k (elements_of p) put made whole c.empty.result c.in_ok-row.row c.in_ok-core.ensures zero_count empty c.in_ok-row.ensures.row c.in_ok-row.ensures.below c.in_ok-put_row.ensures in
+    formula_put s p c.put_row.new.builder c.args.words (single InText k.atom).element e g

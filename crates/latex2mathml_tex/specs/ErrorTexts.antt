@@ -1,0 +1,46 @@
+-- The texts of errors.
+use Rattle.std.specs.Prelude.{ℕ, ◌-◌, Bool, true, false, List, ◌++◌, codes, decimal, if◌then◌else◌, length, replicate, string_bytes}
+use Rattle.std.specs.{Char.encode_utf8, Fmt.digits, Str.byte}
+use Rattle.latex2mathml_tex.specs.declared.error.{TexError.TexError, TexErrorKind.TexErrorKind}
+use Rattle.latex2mathml_tex.specs.declared.error.TexErrorKind.TheVariants as kind
+
+-- a number in hexadecimal, with four digits at least
+abbrev pub four_digits : ℕ → List ℕ
+four_digits n = replicate (4 - length (digits 16 true n)) (byte "0") ++ digits 16 true n
+
+-- the kind in words
+abbrev pub kind_text : TexErrorKind → List ℕ
+kind_text kind.LoneBackslash = codes "a backslash ends the formula"
+kind_text (kind.ForbiddenCharacter c) = codes "forbidden character U+" ++ four_digits c
+kind_text (kind.UnknownCommand name) = codes "unknown command \\" ++ string_bytes name
+kind_text kind.MissingArgument = codes "an argument is missing"
+kind_text kind.UnclosedBrace = codes "{ is not closed"
+kind_text kind.UnclosedBracket = codes "[ is not closed"
+kind_text kind.UnclosedDollar = codes "$ is not closed"
+kind_text kind.LeftWithoutRight = codes "\\left without \\right"
+kind_text kind.UnopenedBrace = codes "} closes nothing"
+kind_text kind.RightWithoutLeft = codes "\\right without \\left"
+kind_text kind.MiddleWithoutLeft = codes "\\middle outside of \\left and \\right"
+kind_text kind.LimitsWithoutOperator = codes "limits without an operator"
+kind_text kind.SecondSubscript = codes "a second subscript"
+kind_text kind.SecondSuperscript = codes "a second superscript"
+kind_text kind.MissingDelimiter = codes "a delimiter is missing"
+kind_text kind.NothingToNegate = codes "nothing to negate"
+kind_text kind.OutsideTable = codes "a sign of tables outside of a table"
+kind_text (kind.MisplacedCharacter c) = encode_utf8 c ++ codes " has no meaning here"
+kind_text (kind.CommandInWords name) = codes "\\" ++ (string_bytes name ++ codes " in words")
+kind_text (kind.CharacterInWords c) = encode_utf8 c ++ codes " in words"
+kind_text kind.DefinitionsGiven = codes "definitions are not read yet"
+kind_text kind.OutOfMemory = codes "out of memory"
+
+-- an error of this kind is about a place of the formula
+abbrev pub has_place : TexErrorKind → Bool
+has_place kind.DefinitionsGiven = false
+has_place kind.OutOfMemory = false
+has_place _ = true
+
+-- the kind in words, and the place, where the error is about one
+abbrev pub error_text : TexError → List ℕ
+error_text error = if has_place error.kind
+    then kind_text error.kind ++ (codes " at " ++ decimal error.place)
+    else kind_text error.kind

@@ -1,0 +1,308 @@
+//! How the rule of each unit is begun.
+ghost use Rattle.std.specs.Prelude.{◌≡◌, ℕ, false, IfOk, option_map};
+ghost use Rattle.latex2mathml_builder.specs.Names.{size_of};
+ghost use Rattle.latex2mathml_tex_grammar.specs.Makes;
+ghost use Rattle.latex2mathml_tex_grammar.specs.Commands;
+ghost use Rattle.latex2mathml_tex_grammar.specs.{Meaning.Left, Starts.is_no_operand};
+ghost use Rattle.latex2mathml_tex_grammar.specs.Rules.{a_negation, a_root, an_operator_name, character_rule, command_rule, gives, meaning_rule, reads_words, takes_delimiter};
+ghost use Rattle.latex2mathml_tex_grammar.specs.{Makes.core, Words.words_atom};
+ghost use Rattle.latex2mathml_tex.specs.{Frames.Start, Meanings.alphabet_of, Meanings.class_of, Meanings.meaning_of, Models.context_of, Taking.piece_of};
+ghost use Rattle.latex2mathml_tex.specs.Steps.{AwaitsCore, AwaitsOperand, Begins, BeginsIn, BeginsUnit, CanBegin, Holds, IsStep, Ready, Took};
+
+use crate::atoms::{Context, Core, Kind, Row, Words};
+use crate::commands;
+use crate::error::TexErrorKind;
+use crate::meaning::{Alphabet, Class, LimitPlace, Meaning, Style};
+use crate::parse::frames::{Ending, First, Frame, Last};
+use crate::parse::leaves::{begin_number, number};
+use crate::parse::{Parser, State};
+use crate::shapes::put_sized;
+use crate::unit::{Next, Piece, Unit};
+use latex2mathml_builder::attributes::{Attributes, Size};
+use latex2mathml_builder::tag::Token;
+use std::alloc::AllocError;
+
+impl<'a> Parser<'a> {
+    /// Begins the operand that this place takes.
+    pub(crate) fn next_operand(&mut self, place: usize) -> Result<State, AllocError>
+        requires ready { Ready self.old State.Next }
+        requires due { AwaitsOperand place self.old }
+        ensures holds { (s : Start) → Holds s self.old State.Next → IfOk result (Holds s self.new) }
+        ensures step { IsStep 1 self.old self.new result }
+    {
+        self.input.skip_space();
+        match self.input.next {
+            Next::Fault(fault, at) => Ok(self.refuse_fault(fault, at)),
+            Next::End(_) => Ok(self.refuse(TexErrorKind::MissingArgument, place)),
+            Next::Unit(unit) => {
+                if is_no_operand(unit.piece) {
+                    return Ok(self.refuse(TexErrorKind::MissingArgument, place));
+                }
+                self.input.advance();
+                self.begin_operand(unit)
+            }
+        }
+    }
+
+    /// Begins an operand with this unit, which was taken.
+    fn begin_operand(&mut self, unit: Unit<'a>) -> Result<State, AllocError>
+        requires begin { CanBegin 0 self.old }
+        requires due { (place : ℕ) × AwaitsOperand place self.old }
+        requires some { is_no_operand (piece_of unit.piece) ≡ false }
+        ensures holds { (s : Start) → Took unit.entry s self.old → IfOk result (Holds s self.new) }
+        ensures step { IsStep 13 self.old self.new result }
+    {
+        let context = self.frames.innermost(self.style).context();
+        match unit.piece {
+            Piece::Open => {
+                self.open(Frame::Row(Ending::Operand, unit.place, context, Row::empty()))
+            }
+            Piece::Character(c) if c.is_ascii_digit() => {
+                begin_number(&mut self.builder, context.alphabet, c)?;
+                Ok(State::Core(number()))
+            }
+            _ => self.begin(unit),
+        }
+    }
+
+    /// Begins the atom without scripts that this place takes.
+    pub(crate) fn next_core(&mut self, place: usize) -> Result<State, AllocError>
+        requires ready { Ready self.old State.Next }
+        requires due { AwaitsCore place self.old }
+        ensures holds { (s : Start) → Holds s self.old State.Next → IfOk result (Holds s self.new) }
+        ensures step { IsStep 1 self.old self.new result }
+    {
+        self.input.skip_space();
+        match self.input.next {
+            Next::Fault(fault, at) => Ok(self.refuse_fault(fault, at)),
+            Next::End(_) => Ok(self.refuse(TexErrorKind::MissingArgument, place)),
+            Next::Unit(unit) => {
+                self.input.advance();
+                self.begin(unit)
+            }
+        }
+    }
+
+    /// Begins the rule of a unit, which was taken.
+    pub(crate) fn begin(&mut self, unit: Unit<'a>) -> Result<State, AllocError>
+        requires begin { CanBegin 0 self.old }
+        ensures holds { (s : Start) → BeginsUnit unit.entry s self.old → IfOk result (Holds s self.new) }
+        ensures step { IsStep 13 self.old self.new result }
+    {
+        let context = self.frames.innermost(self.style).context();
+        match unit.piece {
+            Piece::Character(c) => self.character(c, unit.place, context),
+            Piece::Command(name) => self.command(name, unit.place, context),
+            Piece::Open => {
+                self.open(Frame::Row(Ending::Group, unit.place, context, Row::empty()))
+            }
+            Piece::Close => Ok(self.refuse(TexErrorKind::UnopenedBrace, unit.place)),
+            Piece::Space => Ok(self.refuse(TexErrorKind::MissingArgument, unit.place)),
+        }
+    }
+
+    /// Begins the rule of a character.
+    fn character(&mut self, c: char, place: usize, context: Context) -> Result<State, AllocError>
+        requires begin { CanBegin 0 self.old }
+        ensures holds { (s : Start) → BeginsIn context (character_rule (context_of context) c place) 0 s self.old → IfOk result (Holds s self.new) }
+        ensures step { IsStep 13 self.old self.new result }
+    {
+        if c.is_ascii_digit() {
+            return self.number(context.alphabet, c);
+        }
+        if c.is_ascii_alphabetic() {
+            return self.letter(context.alphabet, c);
+        }
+        match c {
+            '.' => self.point(context.alphabet),
+            '~' => self.space(6),
+            '&' => Ok(self.refuse(TexErrorKind::OutsideTable, place)),
+            '#' | '$' | '_' | '^' | '\'' => {
+                Ok(self.refuse(TexErrorKind::MisplacedCharacter(c), place))
+            }
+            _ => self.other_character(context.alphabet, c),
+        }
+    }
+
+    /// Begins the rule of a command.
+    fn command(&mut self, name: &str, place: usize, context: Context) -> Result<State, AllocError>
+        requires begin { CanBegin 0 self.old }
+        ensures holds { (s : Start) → BeginsIn context (command_rule place (context_of context) name.now (Commands.meaning_of name.now)) 0 s self.old → IfOk result (Holds s self.new) }
+        ensures step { IsStep 13 self.old self.new result }
+    {
+        if let Some(meaning) = commands::look_up(name) {
+            return self.meaning(meaning, place, context);
+        }
+        if name == "\\" {
+            return Ok(self.refuse(TexErrorKind::OutsideTable, place));
+        }
+        let name = String::from_str(self.alloc, name)?;
+        Ok(self.refuse(TexErrorKind::UnknownCommand(name), place))
+    }
+
+    /// Begins the rule of a command that means this.
+    fn meaning(
+        &mut self,
+        meaning: Meaning,
+        place: usize,
+        context: Context,
+    ) -> Result<State, AllocError>
+        requires begin { CanBegin 0 self.old }
+        ensures holds { (s : Start) → BeginsIn context (meaning_rule place (context_of context) (meaning_of meaning)) 0 s self.old → IfOk result (Holds s self.new) }
+        ensures step { IsStep 13 self.old self.new result }
+    {
+        match meaning {
+            Meaning::Shows(symbol) => self.symbol(context.alphabet, symbol),
+            Meaning::FunctionName(limits, name) => self.function_name(limits, name),
+            Meaning::Spacing(width) => self.space(width),
+            Meaning::Styled(alphabet) => self.open(Frame::Last(
+                Last::Group,
+                place,
+                Context {
+                    alphabet: Some(alphabet),
+                    ..context
+                },
+            )),
+            Meaning::Words(alphabet) => self.text(place, alphabet),
+            Meaning::Fraction(rule, own) => {
+                let style = own.unwrap_or(context.style).smaller();
+                self.open(Frame::First(First::Fraction(rule, own), place, context.styled(style)))
+            }
+            Meaning::Root => self.root(place, context),
+            Meaning::Accent(side, mark, stretch) => {
+                self.open(Frame::Last(Last::Accent(side, mark, stretch), place, context))
+            }
+            Meaning::Brace(side, mark) => {
+                self.open(Frame::Last(Last::Brace(side, mark), place, context))
+            }
+            Meaning::Stack(side) => self.open(Frame::First(
+                First::Stack(side),
+                place,
+                context.styled(Style::InScript),
+            )),
+            Meaning::StackedRelation => self.open(Frame::First(
+                First::StackedRelation,
+                place,
+                context.styled(Style::InScript),
+            )),
+            Meaning::OperatorName => self.operator_name(place, context),
+            Meaning::Negation => self.negation(place, context),
+            Meaning::Slash => self.open(Frame::Last(Last::Slash, place, context)),
+            Meaning::Sized(size, class) => self.sized(size, class),
+            Meaning::Left => self.left(place, context),
+            Meaning::Middle => Ok(self.refuse(TexErrorKind::MiddleWithoutLeft, place)),
+            Meaning::Right => Ok(self.refuse(TexErrorKind::RightWithoutLeft, place)),
+            Meaning::Limits | Meaning::NoLimits => {
+                Ok(self.refuse(TexErrorKind::LimitsWithoutOperator, place))
+            }
+            Meaning::Classed(class) => {
+                self.open(Frame::Last(Last::Classed(class, context.style), place, context))
+            }
+        }
+    }
+
+    /// A root, and its degree, if one stands next in square brackets.
+    fn root(&mut self, place: usize, context: Context) -> Result<State, AllocError>
+        requires begin { CanBegin 0 self.old }
+        ensures holds { (s : Start) → BeginsIn context (a_root place (context_of context)) 0 s self.old → IfOk result (Holds s self.new) }
+        ensures step { IsStep 13 self.old self.new result }
+    {
+        if self.input.take_character('[') {
+            return self.open(Frame::Row(
+                Ending::Degree,
+                place,
+                context.styled(Style::InScript),
+                Row::empty(),
+            ));
+        }
+        self.open(Frame::Last(Last::SquareRoot, place, context))
+    }
+
+    /// The name of an operator, in upright letters. With a star it has limits.
+    fn operator_name(&mut self, place: usize, context: Context) -> Result<State, AllocError>
+        requires begin { CanBegin 0 self.old }
+        ensures holds { (s : Start) → BeginsIn context (an_operator_name place (context_of context)) 0 s self.old → IfOk result (Holds s self.new) }
+        ensures step { IsStep 13 self.old self.new result }
+    {
+        let limits = if self.input.take_character('*') {
+            LimitPlace::ByStyle
+        } else {
+            LimitPlace::Beside
+        };
+        self.open(Frame::Last(
+            Last::OperatorName(limits),
+            place,
+            Context {
+                alphabet: Some(Alphabet::Upright),
+                ..context
+            },
+        ))
+    }
+
+    /// A relation that is negated: it has a sign of its own, or else a stroke.
+    fn negation(&mut self, place: usize, context: Context) -> Result<State, AllocError>
+        requires begin { CanBegin 0 self.old }
+        ensures holds { (s : Start) → BeginsIn context (a_negation place (context_of context)) 0 s self.old → IfOk result (Holds s self.new) }
+        ensures step { IsStep 13 self.old self.new result }
+    {
+        if let Some(sign) = self.input.take_negated() {
+            self.builder
+                .character(Token::Mo, Attributes::plain(), sign)?;
+            return Ok(State::Core(Core::new(Kind::SignOf(Class::Relation), false)));
+        }
+        self.open(Frame::Negation(place, context))
+    }
+
+    /// The words that a command takes. White space before them is nothing.
+    fn text(&mut self, place: usize, alphabet: Option<Alphabet>) -> Result<State, AllocError>
+        requires begin { CanBegin 0 self.old }
+        ensures holds { (s : Start) → Begins (reads_words place (option_map alphabet_of alphabet) (λ ws. gives (core (words_atom ws)))) 0 s self.old
+            → IfOk result (Holds s self.new) }
+        ensures step { IsStep 13 self.old self.new result }
+    {
+        self.frames.push(Frame::Text)?;
+        self.input.skip_space();
+        let words = Words {
+            count: 0,
+            ends_in_text: false,
+        };
+        Ok(State::Word(words, place, alphabet))
+    }
+
+    /// A row between delimiters, of which the opening one must stand next.
+    fn left(&mut self, place: usize, context: Context) -> Result<State, AllocError>
+        requires begin { CanBegin 0 self.old }
+        ensures holds { (s : Start) → BeginsIn context (meaning_rule place (context_of context) Left) 0 s self.old → IfOk result (Holds s self.new) }
+        ensures step { IsStep 13 self.old self.new result }
+    {
+        let Some(opening) = self.input.take_delimiter() else {
+            return Ok(self.refuse_delimiter());
+        };
+        self.open(Frame::Row(Ending::Delimiters(opening), place, context, Row::empty()))
+    }
+
+    /// A delimiter of this size, which must stand next.
+    fn sized(&mut self, size: Size, class: Class) -> Result<State, AllocError>
+        requires begin { CanBegin 0 self.old }
+        ensures holds { (s : Start) → Begins (takes_delimiter (λ text. gives (Makes.sized (size_of size) (class_of class) text))) 0 s self.old → IfOk result (Holds s self.new) }
+        ensures step { IsStep 13 self.old self.new result }
+    {
+        let Some(delimiter) = self.input.take_delimiter() else {
+            return Ok(self.refuse_delimiter());
+        };
+        put_sized(&mut self.builder, size, class, delimiter)?;
+        Ok(State::Core(Core::new(Kind::Plain(class), true)))
+    }
+}
+
+/// Whether no operand begins with the unit: it ends atoms, or goes on with one.
+fn is_no_operand(piece: Piece) -> bool
+    ensures { result ≡ is_no_operand (piece_of piece.entry) }
+{
+    matches!(
+        piece,
+        Piece::Close
+            | Piece::Character('&' | '_' | '^' | '\'')
+            | Piece::Command("\\" | "right" | "middle" | "limits" | "nolimits")
+    )
+}

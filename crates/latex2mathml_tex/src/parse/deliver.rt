@@ -1,0 +1,173 @@
+//! What goes on after an atom without scripts, and after an operand.
+ghost use Rattle.std.specs.Prelude.{◌≡◌, ◌+◌, IfOk, Ok, drop};
+ghost use Rattle.latex2mathml_tex_grammar.specs.{Makes.struck, Rules.gives, Rules.struck_atom};
+ghost use Rattle.latex2mathml_tex.specs.Frames.{Start, last_count, made_of};
+ghost use Rattle.latex2mathml_tex.specs.{Models.core_with, Models.operand_with, Models.top};
+ghost use Rattle.latex2mathml_tex_grammar.specs.Makes;
+ghost use Rattle.latex2mathml_elements.specs.Element.{Element};
+ghost use Rattle.latex2mathml_tex.specs.Meanings.{class_of};
+ghost use Rattle.latex2mathml_tex.specs.declared.atoms.{Core.Core, Operand.Operand};
+ghost use Rattle.latex2mathml_tex.specs.Steps.{Begins, CanMake, FirstRead, Holds, IsStep, Ready, core_made, elements_of};
+
+use crate::atoms::{Context, Core, Kind, Operand, Row, Scripts};
+use crate::error::TexErrorKind;
+use crate::meaning::{Class, LimitPlace};
+use crate::parse::frames::{First, Frame, Last};
+use crate::parse::{Parser, State};
+use crate::shapes::{make_base, put_accent, put_brace, put_fraction, put_stack, with_atom};
+use latex2mathml_builder::attributes::{Attributes, Side};
+use latex2mathml_builder::tag::{Container, Pair};
+use std::alloc::AllocError;
+
+impl<'a> Parser<'a> {
+    /// Gives the innermost frame an atom without scripts.
+    pub(crate) fn deliver_core(&mut self, core: Core) -> Result<State, AllocError>
+        requires { Ready self.old (State.Core core) }
+        ensures holds { (s : Start) → Holds s self.old (State.Core core) → IfOk result (Holds s self.new) }
+        ensures step { IsStep 3 self.old self.new result }
+    {
+        match self.frames.innermost(self.style) {
+            Frame::Row(_, _, _, _) => Ok(State::Atom(core, Scripts::none(core.kind, core.limits))),
+            Frame::Negation(place, _) => {
+                let _ = self.frames.take(self.style);
+                self.negate(place, core)
+            }
+            Frame::Last(_, _, context)
+            | Frame::First(_, _, context)
+            | Frame::Script(_, _, _, _, context) => {
+                let row = with_atom(&mut self.builder, context.style, Row::empty(), core)?;
+                Ok(State::Operand(Operand {
+                    class: row.class,
+                    high: row.high,
+                }))
+            }
+            Frame::Text | Frame::Words(_, _) => unreachable!(),
+        }
+    }
+
+    /// Strikes the atom through, if it is one sign or letter.
+    fn negate(&mut self, place: usize, core: Core) -> Result<State, AllocError>
+        requires { CanMake core_made 1 self.old }
+        ensures holds { (s : Start) → Begins (struck_atom place (core_with core (top (elements_of self.old))) (struck (top (elements_of self.old)))) 1 s self.old → IfOk result (Holds s self.new) }
+        ensures step { IsStep 4 self.old self.new result }
+    {
+        if self.builder.push('\u{338}')? {
+            return Ok(State::Core(Core::new(core.kind.without_letters(), core.high)));
+        }
+        Ok(self.refuse(TexErrorKind::NothingToNegate, place))
+    }
+
+    /// Gives the innermost frame an operand.
+    pub(crate) fn deliver_operand(&mut self, operand: Operand) -> Result<State, AllocError>
+        requires { Ready self.old (State.Operand operand) }
+        ensures holds { (s : Start) → Holds s self.old (State.Operand operand) → IfOk result (Holds s self.new) }
+        ensures step { IsStep 2 self.old self.new result }
+    {
+        match self.frames.take(self.style) {
+            Frame::Last(last, _, _) => self.make(last, operand),
+            Frame::First(first, place, context) => self.after_first(first, place, context),
+            Frame::Script(core, scripts, side, _, _) => self.with_script(core, scripts, side),
+            _ => unreachable!(),
+        }
+    }
+
+    /// Goes on after the first of two operands.
+    fn after_first(
+        &mut self,
+        first: First,
+        place: usize,
+        context: Context,
+    ) -> Result<State, AllocError>
+        requires { CanMake core_made 1 self.old }
+        ensures holds { (s : Start) (operand : Operand) → FirstRead first place context operand s self.old → IfOk result (Holds s self.new) }
+        ensures step { IsStep 6 self.old self.new result }
+    {
+        let outer = self.frames.innermost(self.style).context();
+        self.open(match first {
+            First::Fraction(rule, own) => Frame::Last(Last::Fraction(rule, own), place, context),
+            First::Stack(side) => Frame::Last(Last::Stack(side, outer.style), place, outer),
+            First::StackedRelation => Frame::Last(Last::StackedRelation(outer.style), place, outer),
+        })
+    }
+
+    /// Makes an atom of the operands that are uppermost.
+    fn make(&mut self, last: Last, operand: Operand) -> Result<State, AllocError>
+        requires { CanMake core_made (last_count last + 1) self.old }
+        ensures holds { (s : Start) → Begins (gives (made_of last (drop 1 (elements_of self.old)) (operand_with operand (top (elements_of self.old))))) (last_count last + 1) s self.old → IfOk result (Holds s self.new) }
+        ensures step { IsStep 4 self.old self.new result }
+    {
+        match last {
+            Last::Group => ordinary(operand.high),
+            Last::SquareRoot => {
+                self.builder
+                    .container(Container::Msqrt, Attributes::plain(), 1)?;
+                ordinary(true)
+            }
+            Last::Root => {
+                self.builder.pair(Pair::Mroot, Attributes::plain(), true)?;
+                ordinary(true)
+            }
+            Last::Accent(side, mark, stretch) => {
+                put_accent(&mut self.builder, side, mark, stretch)?;
+                ordinary(true)
+            }
+            Last::Brace(side, mark) => {
+                put_brace(&mut self.builder, side, mark)?;
+                Ok(State::Core(Core {
+                    kind: Kind::Plain(Class::Operator),
+                    high: true,
+                    limits: LimitPlace::Stacked,
+                }))
+            }
+            Last::OperatorName(limits) => Ok(State::Core(Core {
+                kind: Kind::FunctionWord,
+                high: operand.high,
+                limits,
+            })),
+            Last::Slash => {
+                let is_token = self.builder.push('\u{338}')?;
+                ordinary(!is_token && operand.high)
+            }
+            Last::Classed(class, style) => {
+                make_base(&mut self.builder, style, class, operand.class);
+                classed(class, operand)
+            }
+            Last::Fraction(rule, own) => {
+                put_fraction(&mut self.builder, rule, own)?;
+                Ok(State::Core(Core::new(Kind::Plain(Class::Inner), true)))
+            }
+            Last::Stack(side, style) => {
+                make_base(&mut self.builder, style, operand.class, operand.class);
+                put_stack(&mut self.builder, side)?;
+                Ok(State::Core(Core::new(Kind::Plain(operand.class), true)))
+            }
+            Last::StackedRelation(style) => {
+                make_base(&mut self.builder, style, Class::Relation, operand.class);
+                put_stack(&mut self.builder, Side::Above)?;
+                Ok(State::Core(Core::new(Kind::Plain(Class::Relation), true)))
+            }
+        }
+    }
+}
+
+/// An atom that is ordinary.
+fn ordinary(high: bool) -> Result<State, AllocError>
+    ensures { result ≡ Ok (State.Core (record { kind = Kind.Plain Class.Ordinary; high = high; limits = LimitPlace.Beside })) }
+{
+    Ok(State::Core(Core::new(Kind::Plain(Class::Ordinary), high)))
+}
+
+/// An operand as an atom of this class.
+fn classed(class: Class, operand: Operand) -> Result<State, AllocError>
+    ensures { IfOk result (λ st. (c : Core) × (st ≡ State.Core c) × ((x : Element) → core_with c x ≡ Makes.classed (class_of class) (operand_with operand x))) }
+{
+    let limits = match class {
+        Class::Operator => LimitPlace::ByStyle,
+        _ => LimitPlace::Beside,
+    };
+    Ok(State::Core(Core {
+        kind: Kind::Plain(class),
+        high: operand.high,
+        limits,
+    }))
+}

@@ -1,0 +1,184 @@
+//! Rows: how each atom of one begins, how it is put behind the others, and how a row ends.
+ghost use Rattle.std.specs.Prelude.{◌≡◌, ◌≢◌, ◌+◌, ◌≤◌, ℕ, false, IfOk, length};
+ghost use Rattle.latex2mathml_tex_grammar.specs.{Makes.no_scripts, Meaning.Beside, Starts.empty_base, Starts.ends};
+ghost use Rattle.latex2mathml_tex.specs.{Frames.Start, Frames.ending_count, Frames.ending_of, Taking.piece_of};
+ghost use Rattle.latex2mathml_tex.specs.Steps.{Awaits, AwaitsAtom, BeginsDivider, CanBegin, CanMake, ClosesRow, EndsText, Follows, HasElements, Holds, InnermostIs, IsStep, MadeAtom, Ready, Took, TookMark, atom_made, core_made, elements_of, level, row_makes, to_do};
+ghost use Rattle.latex2mathml_tex.specs.declared.atoms.{Context.Context, Row.Row};
+
+use crate::atoms::{Core, Kind, Operand, Row, Scripts, Words};
+use crate::error::TexErrorKind;
+use crate::meaning::{Class, LimitPlace};
+use crate::parse::frames::{Ending, Frame, Last};
+use crate::parse::scripts::{Mark, mark_of};
+use crate::parse::{Parser, State};
+use crate::shapes::{enclose, lower_dividers, put_divider, put_row, with_atom};
+use crate::unit::{Next, Unit};
+use latex2mathml_builder::attributes::Attributes;
+use latex2mathml_builder::tag::Container;
+use std::alloc::AllocError;
+
+impl<'a> Parser<'a> {
+    /// Reads the next atom of the innermost row, or its ending.
+    pub(crate) fn next_atom(
+        &mut self,
+        ending: Ending,
+        place: usize,
+        row: Row,
+    ) -> Result<State, AllocError>
+        requires ready { Ready self.old State.Next }
+        requires due { AwaitsAtom ending place row self.old }
+        ensures holds { (s : Start) → Holds s self.old State.Next → IfOk result (Holds s self.new) }
+        ensures step { IsStep 1 self.old self.new result }
+    {
+        self.input.skip_space();
+        match self.input.next {
+            Next::Fault(fault, at) => Ok(self.refuse_fault(fault, at)),
+            Next::End(_) => Ok(self.end_of_text(ending, place, row)),
+            Next::Unit(unit) => {
+                self.input.advance();
+                if ending.is(unit.piece) {
+                    let _ = self.frames.take(self.style);
+                    return self.close(ending, place, row);
+                }
+                self.begin_atom(ending, unit)
+            }
+        }
+    }
+
+    /// Begins an atom of a row with this unit, which was taken.
+    fn begin_atom(&mut self, ending: Ending, unit: Unit<'a>) -> Result<State, AllocError>
+        requires begin { CanBegin 0 self.old }
+        requires due { (place : ℕ) × ((row : Row) × AwaitsAtom ending place row self.old) }
+        requires some { (place : ℕ) → ends (ending_of ending place) (piece_of unit.piece) ≡ false }
+        ensures holds { (s : Start) → Took unit.entry s self.old → IfOk result (Holds s self.new) }
+        ensures step { IsStep 13 self.old self.new result }
+    {
+        if ending.is_divided_by(unit.piece) {
+            return self.divider();
+        }
+        let Some(mark) = mark_of(unit.piece) else {
+            return self.begin(unit);
+        };
+        match mark {
+            Mark::Prime | Mark::Script(_) => self.begin_scripts(mark, unit.place),
+            Mark::Limits(_) => self.begin(unit),
+        }
+    }
+
+    /// Begins with a mark, which was taken: it stands on a row without atoms.
+    fn begin_scripts(&mut self, mark: Mark, place: usize) -> Result<State, AllocError>
+        requires begin { CanBegin 0 self.old }
+        requires row { Awaits atom_made self.old }
+        ensures holds { (s : Start) → TookMark mark place (level 0 s self.old) empty_base (no_scripts empty_base.kind Beside) s self.old → IfOk result (Holds s self.new) }
+        ensures step { IsStep 13 self.old self.new result }
+    {
+        self.builder
+            .container(Container::Mrow, Attributes::plain(), 0)?;
+        let base = Core::new(Kind::Plain(Class::Ordinary), false);
+        self.take_mark(
+            mark,
+            place,
+            base,
+            Scripts::none(base.kind, LimitPlace::Beside),
+        )
+    }
+
+    /// A delimiter within others. It takes no scripts.
+    fn divider(&mut self) -> Result<State, AllocError>
+        requires begin { CanBegin 0 self.old }
+        requires row { Awaits atom_made self.old }
+        ensures holds { (s : Start) → BeginsDivider s self.old → IfOk result (Holds s self.new) }
+        ensures step { IsStep 13 self.old self.new result }
+    {
+        let Some(delimiter) = self.input.take_delimiter() else {
+            return Ok(self.refuse_delimiter());
+        };
+        put_divider(&mut self.builder, delimiter)?;
+        self.put(Core::new(Kind::Divider, false))
+    }
+
+    /// Puts an atom, whose element is uppermost, behind the others of the innermost row.
+    pub(crate) fn put(&mut self, core: Core) -> Result<State, AllocError>
+        requires { CanMake atom_made 1 self.old }
+        ensures holds { (s : Start) → MadeAtom core s self.old → IfOk result (Holds s self.new) }
+        ensures step { IsStep 2 self.old self.new result }
+    {
+        let Frame::Row(ending, place, context, row) = self.frames.take(self.style) else {
+            unreachable!()
+        };
+        let row = with_atom(&mut self.builder, context.style, row, core)?;
+        self.open(Frame::Row(ending, place, context, row))
+    }
+
+    /// Ends a row where the text ends.
+    fn end_of_text(&mut self, ending: Ending, place: usize, row: Row) -> State
+        requires elements { HasElements 0 self.old }
+        requires due { (c : Context) × InnermostIs (Frame.Row ending place c row) self.old }
+        ensures holds { (s : Start) → EndsText ending place row s self.old → Holds s self.new result }
+        ensures step { Follows (to_do self.old + 1) self.new result }
+    {
+        let kind = match ending {
+            Ending::Text => return State::End(row.count),
+            Ending::Group | Ending::Operand => TexErrorKind::UnclosedBrace,
+            Ending::Degree => TexErrorKind::UnclosedBracket,
+            Ending::Delimiters(_) => TexErrorKind::LeftWithoutRight,
+            Ending::Formula(_) => TexErrorKind::UnclosedDollar,
+        };
+        self.refuse(kind, place)
+    }
+
+    /// Ends a row, whose ending was taken and whose frame was taken off.
+    fn close(&mut self, ending: Ending, place: usize, row: Row) -> Result<State, AllocError>
+        requires ends { ending ≢ Ending.Text }
+        requires can { CanMake (row_makes ending) (row.count + ending_count ending) self.old }
+        ensures holds { (s : Start) → ClosesRow ending place row s self.old → IfOk result (Holds s self.new) }
+        ensures step { IsStep 13 self.old self.new result }
+    {
+        match ending {
+            Ending::Text => unreachable!(),
+            Ending::Group => {
+                put_row(&mut self.builder, row.count)?;
+                Ok(State::Core(Core::new(Kind::Plain(Class::Ordinary), row.high)))
+            }
+            Ending::Operand => {
+                put_row(&mut self.builder, row.count)?;
+                Ok(State::Operand(Operand {
+                    class: row.class,
+                    high: row.high,
+                }))
+            }
+            Ending::Degree => {
+                put_row(&mut self.builder, row.count)?;
+                let context = self.frames.innermost(self.style).context();
+                self.open(Frame::Last(Last::Root, place, context))
+            }
+            Ending::Delimiters(opening) => self.close_delimiters(opening, row),
+            Ending::Formula(words) => {
+                put_row(&mut self.builder, row.count)?;
+                // all elements of words are among those of the builder, so their number has room in a `usize`
+                let _ = self.builder.len();
+                Ok(State::Words(Words {
+                    count: words.count + 1,
+                    ends_in_text: false,
+                }))
+            }
+        }
+    }
+
+    /// Ends a row between delimiters, whose `\right` was taken.
+    fn close_delimiters(&mut self, opening: Option<char>, row: Row) -> Result<State, AllocError>
+        requires { CanMake core_made row.count self.old }
+        ensures holds { (s : Start) → ClosesRow (Ending.Delimiters opening) 0 row s self.old → IfOk result (Holds s self.new) }
+        ensures step { IsStep 13 self.old self.new result }
+    {
+        let Some(closing) = self.input.take_delimiter() else {
+            return Ok(self.refuse_delimiter());
+        };
+        if !row.high {
+            lower_dividers(&mut self.builder, row.count);
+        }
+        put_row(&mut self.builder, row.count)?;
+        enclose(&mut self.builder, row.high, opening, closing)?;
+        Ok(State::Core(Core::new(Kind::Plain(Class::Inner), row.high)))
+    }
+}

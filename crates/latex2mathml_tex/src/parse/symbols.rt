@@ -1,0 +1,216 @@
+//! What is put for a symbol: one element, which is all of an atom.
+ghost use Rattle.std.specs.Prelude.{◌≡◌, true, IfOk, Some, option_map};
+ghost use Rattle.latex2mathml_builder.specs.{Built.elements_in, Names.attributes_of, Names.token_of};
+ghost use Rattle.latex2mathml_elements.specs.{Attributes.plain, Element.Mo, Element.token};
+ghost use Rattle.latex2mathml_tex_grammar.specs.Makes;
+ghost use Rattle.latex2mathml_tex_grammar.specs.Makes.{core};
+ghost use Rattle.latex2mathml_tex_grammar.specs.{Atoms.Plain, Atoms.atom, Symbols.Operator};
+ghost use Rattle.latex2mathml_tex.specs.{Meanings.alphabet_of, Meanings.class_of, Meanings.limit_place_of, Models.core_with, Models.kind_of};
+ghost use Rattle.latex2mathml_tex.specs.Meanings;
+ghost use Rattle.latex2mathml_tex.specs.Shapes.{IsPut};
+
+use crate::alphabets::in_alphabet;
+use crate::atoms::{Core, Kind};
+use crate::meaning::{Alphabet, Class, LimitPlace, Symbol};
+use latex2mathml_builder::attributes::{Attributes, Form, Space, Stretch};
+use latex2mathml_builder::builder::Builder;
+use latex2mathml_builder::tag::Token;
+use std::alloc::AllocError;
+
+/// Puts a character as it is, or in an alphabet.
+pub(crate) fn put_symbol(
+    builder: &mut Builder,
+    alphabet: Option<Alphabet>,
+    symbol: Symbol,
+) -> Result<Core, AllocError>
+    ensures { IfOk result (λ put. IsPut put (Makes.symbol (option_map alphabet_of alphabet) (Meanings.symbol_of symbol)) (elements_in builder.old) (elements_in builder.new)) }
+{
+    match symbol {
+        Symbol::Letter(c) => put_letter(builder, alphabet, c),
+        Symbol::UprightLetter(c) => put_upright_letter(builder, alphabet, c),
+        Symbol::Sign(class, c) => put_sign(builder, class, c),
+        Symbol::BigOperator(c) => put_operator(builder, c, LimitPlace::Movable),
+        Symbol::Integral(c) => put_operator(builder, c, LimitPlace::Beside),
+    }
+}
+
+/// Puts a letter that is italic by itself.
+pub(crate) fn put_letter(
+    builder: &mut Builder,
+    alphabet: Option<Alphabet>,
+    c: char,
+) -> Result<Core, AllocError>
+    ensures { IfOk result (λ put. IsPut put (core (Makes.letter (option_map alphabet_of alphabet) c)) (elements_in builder.old) (elements_in builder.new)) }
+{
+    match alphabet {
+        Some(alphabet) => put_letter_in(builder, alphabet, c),
+        None => {
+            let ordinary = Core::new(Kind::Plain(Class::Ordinary), false);
+            put_character(builder, Token::Mi, Attributes::plain(), c, ordinary)
+        }
+    }
+}
+
+/// Puts a letter in an alphabet.
+fn put_letter_in(builder: &mut Builder, alphabet: Alphabet, c: char) -> Result<Core, AllocError>
+    ensures { IfOk result (λ put. IsPut put (core (Makes.letter (Some (alphabet_of alphabet)) c)) (elements_in builder.old) (elements_in builder.new)) }
+{
+    match alphabet {
+        Alphabet::Upright => {
+            let letters = Core::new(Kind::UprightLetters, false);
+            put_character(builder, Token::Mi, Attributes::upright(), c, letters)
+        }
+        alphabet => {
+            let c = in_alphabet(alphabet, c);
+            let ordinary = Core::new(Kind::Plain(Class::Ordinary), false);
+            put_character(builder, Token::Mi, Attributes::plain(), c, ordinary)
+        }
+    }
+}
+
+/// Puts a letter that is upright by itself.
+pub(crate) fn put_upright_letter(
+    builder: &mut Builder,
+    alphabet: Option<Alphabet>,
+    c: char,
+) -> Result<Core, AllocError>
+    ensures { IfOk result (λ put. IsPut put (core (Makes.upright_letter (option_map alphabet_of alphabet) c)) (elements_in builder.old) (elements_in builder.new)) }
+{
+    match alphabet {
+        Some(_) => put_letter(builder, alphabet, c),
+        None => {
+            let ordinary = Core::new(Kind::Plain(Class::Ordinary), false);
+            put_character(builder, Token::Mi, Attributes::upright(), c, ordinary)
+        }
+    }
+}
+
+/// Puts a sign of this class.
+fn put_sign(builder: &mut Builder, class: Class, c: char) -> Result<Core, AllocError>
+    ensures { IfOk result (λ put. IsPut put (core (Makes.sign (class_of class) c)) (elements_in builder.old) (elements_in builder.new)) }
+{
+    let sign = Core::new(sign_kind(class, c), false);
+    put_character(builder, Token::Mo, sign_attributes(class, c), c, sign)
+}
+
+/// Puts an operator that is high.
+fn put_operator(builder: &mut Builder, c: char, limits: LimitPlace) -> Result<Core, AllocError>
+    ensures { IfOk result (λ put. IsPut put (Makes.operator (limit_place_of limits) (atom (Plain Operator) true (token Mo plain (Makes.text c)))) (elements_in builder.old) (elements_in builder.new)) }
+{
+    let operator = Core {
+        kind: Kind::Plain(Class::Operator),
+        high: true,
+        limits,
+    };
+    put_character(builder, Token::Mo, Attributes::plain(), c, operator)
+}
+
+/// Puts an element that holds a character, and is all of an atom.
+fn put_character(
+    builder: &mut Builder,
+    tag: Token,
+    attributes: Attributes,
+    c: char,
+    core: Core,
+) -> Result<Core, AllocError>
+    ensures { (k : Makes.Core) → core_with core (token (token_of tag) (attributes_of attributes) (Makes.text c)) ≡ k
+        → IfOk result (λ put. IsPut put k (elements_in builder.old) (elements_in builder.new)) }
+{
+    builder.character(tag, attributes, c)?;
+    Ok(core)
+}
+
+fn sign_attributes(class: Class, c: char) -> Attributes
+    ensures { attributes_of result ≡ Makes.sign_attributes (class_of class) c }
+{
+    match class {
+        Class::Ordinary => Attributes {
+            space: Some(Space::NoSpace),
+            stretch: Some(Stretch::Rigid),
+            ..Attributes::plain()
+        },
+        Class::Opening => Attributes {
+            form: Some(Form::Prefix),
+            stretch: Some(Stretch::Rigid),
+            ..Attributes::plain()
+        },
+        Class::Closing => Attributes {
+            form: Some(Form::Postfix),
+            stretch: Some(Stretch::Rigid),
+            ..Attributes::plain()
+        },
+        Class::Punctuation => Attributes {
+            separator: true,
+            ..Attributes::plain()
+        },
+        Class::Inner => Attributes {
+            space: Some(Space::NoSpace),
+            ..Attributes::plain()
+        },
+        Class::Operator => Attributes::plain(),
+        Class::Binary | Class::Relation => {
+            if stretches(c) {
+                Attributes {
+                    stretch: Some(Stretch::Rigid),
+                    ..Attributes::plain()
+                }
+            } else {
+                Attributes::plain()
+            }
+        }
+    }
+}
+
+fn sign_kind(class: Class, c: char) -> Kind
+    ensures { kind_of result ≡ Makes.sign_kind (class_of class) c }
+{
+    match class {
+        Class::Binary if is_plus_or_minus(c) => Kind::PlusOrMinus,
+        class => Kind::SignOf(class),
+    }
+}
+
+/// Plus, minus, and both of both.
+fn is_plus_or_minus(c: char) -> bool
+    ensures { result ≡ Makes.is_plus_or_minus c }
+{
+    matches!(c, '+' | '−' | '±' | '∓')
+}
+
+/// The signs that MathML stretches, but TeX does not.
+fn stretches(c: char) -> bool
+    ensures { result ≡ Makes.stretches c }
+{
+    matches!(
+        c,
+        '|' | '∣'
+            | '∥'
+            | '←'
+            | '↑'
+            | '→'
+            | '↓'
+            | '↔'
+            | '↕'
+            | '↦'
+            | '↩'
+            | '↪'
+            | '↼'
+            | '↽'
+            | '⇀'
+            | '⇁'
+            | '⇌'
+            | '⇐'
+            | '⇑'
+            | '⇒'
+            | '⇓'
+            | '⇔'
+            | '⇕'
+            | '⟵'
+            | '⟶'
+            | '⟷'
+            | '⟸'
+            | '⟹'
+            | '⟺'
+            | '⟼'
+    )
+}

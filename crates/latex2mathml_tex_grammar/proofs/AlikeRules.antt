@@ -1,0 +1,212 @@
+-- The rules of a piece at two places are alike: they differ in places alone, of refusals too.
+use Rattle.std.proofs.Common.{◌≡◌, ◌==◌, ℕ, Bool, true, false, List, inl, inr, [], ◌∷◌, ◌++◌, Option, Some, None, codes, refl, sym, subst, if◌then◌else◌}
+use Rattle.std.proofs.lemmas.Bool.{cases_Bool}
+use Rattle.std.specs.{Char.is_ascii_alphabetic, Char.is_ascii_digit, Str.byte, Str.bytes_eq}
+use Rattle.latex2mathml_elements.specs.Element.{Element}
+use Rattle.latex2mathml_tex_grammar.specs.{Commands.meaning_of, Commands.symbol_of, Delimiters.delimiter_of, Makes.Core, Refusal.Refusal, Rows.Row, Rows.Operand, Symbols.Alphabet, Symbols.Symbol, Words.Words}
+use Rattle.latex2mathml_tex_grammar.specs.Meaning.{Meaning, Shows, FunctionName, Spacing, Styled, Words as TakesWordsIn, Fraction, Root, Accent, Brace, Stack, StackedRelation, OperatorName, Negation, Slash, Sized, Left, Middle, Right, Limits, NoLimits, Classed}
+use Rattle.latex2mathml_tex_grammar.specs.Rules.{Context, Ending, WholeText, InBraces, InBrackets, InDollars, InDelimiters, Rule, gives, refuses, reads_operand, reads_core, reads_atoms, reads_words, takes_if, takes_digits, takes_delimiter, of_one, of_two, decimal, after_digits, a_number, a_symbol, begins_none, character_rule, struck_atom, command_rule, rule}
+use Rattle.latex2mathml_tex_grammar.specs.Spacing.{Standing, BeforeWords, InWords, BetweenDollars, standing_behind, behind_unit, takes_words}
+use Rattle.latex2mathml_tex_grammar.specs.Starts.{atom_start, ends, unended, is_close, is_character, is_command}
+use Rattle.latex2mathml_tex_grammar.specs.Units.{Piece, Space, Open, Close, Command, Character}
+use Rattle.latex2mathml_tex_grammar.proofs.{OneList.is_byte, Plain.a_character_plain, Plain.close_plain, Plain.delimiter_plain, Plain.named, Plain.open_plain, Plain.negated_of_plain, Plain.right_plain, Plain.takes_none}
+use Rattle.latex2mathml_tex_grammar.proofs.Spaces.{IsCalm, in_formula, in_dollars, IsPlain, AllPlain, character_plain, digit_plain}
+
+-- Endings
+
+-- the same ending, of what begins at two places
+pub data AlikeEndings : Ending → Ending → Type 0 where
+  both_whole : AlikeEndings WholeText WholeText
+  both_braces : {p q : ℕ} → AlikeEndings (InBraces p) (InBraces q)
+  both_brackets : {p q : ℕ} → AlikeEndings (InBrackets p) (InBrackets q)
+  both_dollars : {p q : ℕ} → AlikeEndings (InDollars p) (InDollars q)
+  both_delimiters : {p q : ℕ} → AlikeEndings (InDelimiters p) (InDelimiters q)
+
+pub same_ends : {e f : Ending} → AlikeEndings e f → (piece : Piece) → ends e piece ≡ ends f piece
+same_ends both_whole piece = refl
+same_ends both_braces piece = refl
+same_ends both_brackets piece = refl
+same_ends both_dollars piece = refl
+same_ends both_delimiters piece = refl
+
+pub same_start : {e f : Ending} → AlikeEndings e f → (piece : Piece) → atom_start e piece ≡ atom_start f piece
+same_start both_whole piece = refl
+same_start both_braces piece = refl
+same_start both_brackets piece = refl
+same_start both_dollars piece = refl
+same_start both_delimiters piece = refl
+
+pub unended_too : {e f : Ending} → AlikeEndings e f → unended e ≡ None → unended f ≡ None
+unended_too both_whole h = refl
+unended_too both_braces h = cc
+unended_too both_brackets h = cc
+unended_too both_dollars h = cc
+unended_too both_delimiters h = cc
+
+same_some : {r q : Refusal} → Some r ≡ Some q → r ≡ q
+same_some e = cc
+
+pub never_ended_too : {e f : Ending} {r : Refusal} → AlikeEndings e f → unended e ≡ Some r → (q : Refusal) × (r.kind ≡ q.kind) × (unended f ≡ Some q)
+never_ended_too both_whole h = cc
+never_ended_too both_braces h = (_, rw (sym (same_some h)) refl, refl)
+never_ended_too both_brackets h = (_, rw (sym (same_some h)) refl, refl)
+never_ended_too both_dollars h = (_, rw (sym (same_some h)) refl, refl)
+never_ended_too both_delimiters h = (_, rw (sym (same_some h)) refl, refl)
+
+-- where atoms stand that have this ending, which itself stands here
+abbrev pub inside : Ending → Standing → Standing
+inside WholeText at = at
+inside (InBraces place) at = at
+inside (InBrackets place) at = at
+inside (InDollars place) at = BetweenDollars at
+inside (InDelimiters place) at = at
+
+close_ends : (piece : Piece) → is_close piece ≡ true → IsPlain piece
+close_ends Close h = close_plain
+close_ends Space h = cc
+close_ends Open h = cc
+close_ends (Command name) h = cc
+close_ends (Character c) h = cc
+
+bracket_ends : (piece : Piece) → is_character (byte "]") piece ≡ true → IsPlain piece
+bracket_ends (Character c) h = character_plain c (subst (λ d. (d == byte "$") ≡ false) (is_byte (byte "]") c h) refl)
+bracket_ends Space h = cc
+bracket_ends Open h = cc
+bracket_ends Close h = cc
+bracket_ends (Command name) h = cc
+
+right_ends : (piece : Piece) → is_command (codes "right") piece ≡ true → IsPlain piece
+right_ends (Command name) h = takes_none name (named (codes "right") name right_plain h)
+right_ends Space h = cc
+right_ends Open h = cc
+right_ends Close h = cc
+right_ends (Character c) h = cc
+
+dollar_ends : (at : Standing) (piece : Piece) → is_character (byte "$") piece ≡ true → standing_behind piece (BetweenDollars at) ≡ at
+dollar_ends at (Character c) h = subst (λ d. standing_behind (Character d) (BetweenDollars at) ≡ at) (is_byte (byte "$") c h) refl
+dollar_ends at Space h = cc
+dollar_ends at Open h = cc
+dollar_ends at Close h = cc
+dollar_ends at (Command name) h = cc
+
+-- behind the ending units stand as before what it ends
+pub ended_behind : {at : Standing} (e : Ending) (piece : Piece) → ends e piece ≡ true → IsCalm (inside e at) → standing_behind piece (inside e at) ≡ at
+ended_behind WholeText piece h calm = cc
+ended_behind {at} (InBraces place) piece h calm = close_ends piece h at calm
+ended_behind {at} (InBrackets place) piece h calm = bracket_ends piece h at calm
+ended_behind {at} (InDollars place) piece h calm = dollar_ends at piece h
+ended_behind {at} (InDelimiters place) piece h calm = right_ends piece h at calm
+
+-- Rules
+
+-- where words are read, and where the units behind them stand
+pub data WordsStand : Standing → Standing → Type 0 where
+  before_words : {at : Standing} → WordsStand (BeforeWords at) at
+  within_words : {at : Standing} → WordsStand (InWords at) (InWords at)
+
+-- two rules that are the same but for places, read where units stand that is the index, where what is behind all that
+-- they read stands at the parameter
+pub data AlikeRules (at : Standing) : Standing → Rule → Rule → Type 0 where
+  gives_too : {x : Core} → AlikeRules at at (gives x) (gives x)
+  refuses_too : {before : Standing} {r q : Refusal} → r.kind ≡ q.kind → AlikeRules at before (refuses r) (refuses q)
+  operand_too : {p q : ℕ} {c : Context} {f g : Operand → Rule} → ((x : Operand) → AlikeRules at at (f x) (g x)) → AlikeRules at at (reads_operand p c f) (reads_operand q c g)
+  core_too : {p q : ℕ} {c : Context} {f g : Core → Rule} → ((x : Core) → AlikeRules at at (f x) (g x)) → AlikeRules at at (reads_core p c f) (reads_core q c g)
+  atoms_too : {d e : Ending} {c : Context} {f g : Row → Rule} → AlikeEndings d e → at ≡ inside d at → ((x : Row) → AlikeRules at at (f x) (g x)) → AlikeRules at at (reads_atoms d c f) (reads_atoms e c g)
+  words_too : {p q : ℕ} {a : Option Alphabet} {f g : Words → Rule} → ((x : Words) → AlikeRules at at (f x) (g x)) → AlikeRules at (BeforeWords at) (reads_words p a f) (reads_words q a g)
+  if_too : {tests : List (Piece → Option (List ℕ))} {f g : List ℕ → Rule} {r s : Rule} → AllPlain tests → ((x : List ℕ) → AlikeRules at at (f x) (g x)) → AlikeRules at at r s → AlikeRules at at (takes_if tests f r) (takes_if tests g s)
+  digits_taken_too : {f g : List ℕ → Rule} → ((x : List ℕ) → AlikeRules at at (f x) (g x)) → AlikeRules at at (takes_digits f) (takes_digits g)
+  delimiter_too : {f g : List ℕ → Rule} → ((x : List ℕ) → AlikeRules at at (f x) (g x)) → AlikeRules at at (takes_delimiter f) (takes_delimiter g)
+
+either : {at : Standing} {r s t k : Rule} (b : Bool) → AlikeRules at at r s → AlikeRules at at t k → AlikeRules at at (if b then r else t) (if b then s else k)
+either true x y = x
+either false x y = y
+
+one_too : {at : Standing} {p q : ℕ} {c : Context} {whole : Operand → Core} → AlikeRules at at (of_one p c whole) (of_one q c whole)
+one_too = operand_too (λ x. gives_too)
+
+two_too : {at : Standing} {p q : ℕ} {c d : Context} {whole : Operand → Operand → Core} → AlikeRules at at (of_two p c d whole) (of_two q c d whole)
+two_too = operand_too (λ x. one_too)
+
+symbol_too : {at : Standing} (c : Context) (character : ℕ) (s : Option Symbol) → AlikeRules at at (a_symbol c character s) (a_symbol c character s)
+symbol_too c character (Some s) = gives_too
+symbol_too c character None = gives_too
+
+decimal_too : {at : Standing} (c : Context) (whole : List ℕ) → AlikeRules at at (decimal c whole) (decimal c whole)
+decimal_too c whole = digits_taken_too (λ more. gives_too)
+
+after_too : {at : Standing} (c : Context) (whole : List ℕ) → AlikeRules at at (after_digits c whole) (after_digits c whole)
+after_too c whole = if_too (a_character_plain (byte ".") refl, (digit_plain, tt)) (λ point. decimal_too c (whole ++ point)) gives_too
+
+number_too : {at : Standing} (c : Context) (digit : ℕ) → AlikeRules at at (a_number c digit) (a_number c digit)
+number_too c digit = digits_taken_too (λ more. if_too (a_character_plain (byte ".") refl, (digit_plain, tt)) (λ point. decimal_too c (digit ∷ (more ++ point))) gives_too)
+
+characters_too : {at : Standing} (p q : ℕ) (c : Context) (character : ℕ) → AlikeRules at at (character_rule c character p) (character_rule c character q)
+characters_too p q c character =
+    either (is_ascii_digit character) (number_too c character)
+    (either (is_ascii_alphabetic character) gives_too
+    (either (character == byte ".") (if_too (digit_plain, tt) (λ digit. decimal_too c (character ∷ digit)) (symbol_too c character (symbol_of character)))
+    (either (character == byte "~") gives_too
+    (either (character == byte "&") (refuses_too refl)
+    (either (begins_none character) (refuses_too refl)
+    (symbol_too c character (symbol_of character)))))))
+
+struck_too : {at : Standing} (p q : ℕ) (x : Core) (found : Option Element) → AlikeRules at at (struck_atom p x found) (struck_atom q x found)
+struck_too p q x None = refuses_too refl
+struck_too p q x (Some element) = gives_too
+
+-- a command that takes no words leaves it as it is where units stand
+as_is : {at : Standing} {r s : Rule} → IsCalm at → AlikeRules at at r s → AlikeRules at (behind_unit at) r s
+as_is in_formula h = h
+as_is in_dollars h = h
+
+words_follow : {at : Standing} {r s : Rule} → IsCalm at → AlikeRules at (BeforeWords at) r s → AlikeRules at (BeforeWords (behind_unit at)) r s
+words_follow in_formula h = h
+words_follow in_dollars h = h
+
+unknown_too : {at before : Standing} (r q s t : Refusal) (b : Bool) → r.kind ≡ q.kind → s.kind ≡ t.kind → AlikeRules at before (if b then refuses r else refuses s) (if b then refuses q else refuses t)
+unknown_too r q s t true h k = refuses_too h
+unknown_too r q s t false h k = refuses_too k
+
+abbrev behind_command : Bool → Standing → Standing
+behind_command takes at = if takes then BeforeWords (behind_unit at) else behind_unit at
+
+command_too : {at : Standing} (p q : ℕ) (c : Context) (name : List ℕ) (meaning : Option Meaning) → IsCalm at → AlikeRules at (behind_command (takes_words meaning) at) (command_rule p c name meaning) (command_rule q c name meaning)
+command_too p q c name None calm = unknown_too _ _ _ _ (bytes_eq name (codes "\\")) refl refl
+command_too p q c name (Some (Shows s)) calm = as_is calm gives_too
+command_too p q c name (Some (FunctionName limits own)) calm = as_is calm gives_too
+command_too p q c name (Some (Spacing width)) calm = as_is calm gives_too
+command_too p q c name (Some (Styled alphabet)) calm = as_is calm one_too
+command_too p q c name (Some (TakesWordsIn alphabet)) calm = words_follow calm (words_too (λ ws. gives_too))
+command_too p q c name (Some (Fraction bar own)) calm = as_is calm two_too
+command_too p q c name (Some Root) calm = as_is calm (if_too (a_character_plain (byte "[") refl, tt) (λ bracket. atoms_too both_brackets refl (λ degree. one_too)) one_too)
+command_too p q c name (Some (Accent side mark width)) calm = as_is calm one_too
+command_too p q c name (Some (Brace side mark)) calm = as_is calm one_too
+command_too p q c name (Some (Stack side)) calm = as_is calm two_too
+command_too p q c name (Some StackedRelation) calm = as_is calm two_too
+command_too p q c name (Some OperatorName) calm = as_is calm (if_too (a_character_plain (byte "*") refl, tt) (λ star. one_too) one_too)
+command_too p q c name (Some Negation) calm = as_is calm (if_too (negated_of_plain, tt) (λ sign_text. gives_too) (core_too (λ x. struck_too p q x _)))
+command_too p q c name (Some Slash) calm = as_is calm one_too
+command_too p q c name (Some (Sized size class)) calm = as_is calm (delimiter_too (λ sign_text. gives_too))
+command_too p q c name (Some Left) calm = as_is calm (delimiter_too (λ opening. atoms_too both_delimiters refl (λ row. delimiter_too (λ closing. gives_too))))
+command_too p q c name (Some Middle) calm = refuses_too refl
+command_too p q c name (Some Right) calm = refuses_too refl
+command_too p q c name (Some Limits) calm = refuses_too refl
+command_too p q c name (Some NoLimits) calm = refuses_too refl
+command_too p q c name (Some (Classed class)) calm = as_is calm one_too
+
+plain_rule : {at before : Standing} {r s : Rule} → before ≡ at → AlikeRules at at r s → AlikeRules at before r s
+plain_rule {at} {before} {r} {s} e h = subst (λ k. AlikeRules at k r s) (sym e) h
+
+-- the rules of a piece
+pub rules_too : {at : Standing} (p q : ℕ) (c : Context) (piece : Piece) → IsCalm at → AlikeRules at (standing_behind piece at) (rule p c piece) (rule q c piece)
+rules_too {at} p q c Open calm = plain_rule (open_plain at calm) (atoms_too both_braces refl (λ row. gives_too))
+rules_too p q c Close calm = refuses_too refl
+rules_too p q c Space calm = refuses_too refl
+rules_too {at} p q c (Character character) calm = elim (cases_Bool (character == byte "$")) [
+  | inl s ↦ subst (λ d. AlikeRules at (standing_behind (Character d) at) (character_rule c d p) (character_rule c d q)) (sym (is_byte character (byte "$") s)) (refuses_too refl)
+  | inr s ↦ plain_rule (character_plain character s at calm) (characters_too p q c character)
+]
+rules_too p q c (Command name) calm = command_too p q c name (meaning_of name) calm
+
+pub delimiter_tests : AllPlain (delimiter_of ∷ [])
+delimiter_tests = (delimiter_plain, tt)

@@ -1,0 +1,91 @@
+-- What it means that no text of what is read, and no unit, holds a character that XML forbids.
+use Rattle.std.proofs.Common.{◌≡◌, ℕ, false, List, [], ◌∷◌, ◌++◌, Option, Some, None}
+use Rattle.std.specs.{Bool.⊤, List.AllByRecursion}
+use Rattle.latex2mathml_elements.specs.{Characters.IsAllowed, Characters.HasAllowedTexts, Element.Element}
+use Rattle.latex2mathml_elements.proofs.Plain.{IsPlain}
+use Rattle.latex2mathml_tex_grammar.specs.{Atoms.Atom, Reading.Outcome, Reading.Read, Reading.Refused, Rows.Row, Rows.Operand}
+use Rattle.latex2mathml_tex_grammar.specs.Makes.{Core, Scripts}
+use Rattle.latex2mathml_tex_grammar.specs.Rules.{Rule, gives, refuses, reads_operand, reads_core, reads_atoms, reads_words, takes_if, takes_digits, takes_delimiter}
+use Rattle.latex2mathml_tex_grammar.specs.Starts.{Step, GoesOn, TakesOperand, Forbidden}
+use Rattle.latex2mathml_tex_grammar.specs.Units.{Piece, Command, Character, Units, Next, End, Stop, is_forbidden}
+use Rattle.latex2mathml_tex_grammar.specs.Words.{Word, Shown, Formula, WordRule, IsWord, Words}
+
+-- Units
+
+abbrev pub IsAllowedPiece : Piece → Type 0
+IsAllowedPiece (Command name) = IsAllowed name
+IsAllowedPiece (Character c) = is_forbidden c ≡ false
+IsAllowedPiece piece = ⊤
+
+abbrev pub AreAllowedUnits : Units → Type 0
+AreAllowedUnits (Next u us) = IsAllowedPiece u.piece × AreAllowedUnits us
+AreAllowedUnits (End place) = ⊤
+AreAllowedUnits (Stop refusal) = ⊤
+
+-- What is read
+
+abbrev pub AreAllowedElements : List Element → Type 0
+AreAllowedElements = AllByRecursion HasAllowedTexts
+
+-- where there is one
+abbrev pub IsAllowedElement : Option Element → Type 0
+IsAllowedElement None = ⊤
+IsAllowedElement (Some x) = HasAllowedTexts x
+
+abbrev pub IsAllowedCore : Core → Type 0
+IsAllowedCore x = HasAllowedTexts x.atom.element
+
+abbrev pub IsAllowedAtom : Atom → Type 0
+IsAllowedAtom x = HasAllowedTexts x.element
+
+abbrev pub IsAllowedOperand : Operand → Type 0
+IsAllowedOperand x = HasAllowedTexts x.element
+
+abbrev pub IsAllowedRow : Row → Type 0
+IsAllowedRow row = AreAllowedElements row.elements
+
+abbrev pub AreAllowedWords : Words → Type 0
+AreAllowedWords ws = AreAllowedElements ws.elements
+
+abbrev pub AreAllowedScripts : Scripts → Type 0
+AreAllowedScripts scripts = IsAllowedElement scripts.below × IsAllowedElement scripts.above
+
+abbrev pub IsAllowedWord : Word → Type 0
+IsAllowedWord (Shown text) = IsAllowed text
+IsAllowedWord (Formula x) = HasAllowedTexts x
+
+-- what comes to something that is allowed, with units that are, or is refused
+abbrev pub IsAllowedOutcome : {A : Type 0} → (A → Type 0) → Outcome A → Type 0
+IsAllowedOutcome P (Read x l) = P x × AreAllowedUnits l
+IsAllowedOutcome P (Refused r) = ⊤
+
+-- What is made of what is allowed is allowed
+
+abbrev pub IsAllowedStep : Option Step → Type 0
+IsAllowedStep None = ⊤
+IsAllowedStep (Some (GoesOn scripts)) = AreAllowedScripts scripts
+IsAllowedStep (Some (TakesOperand then)) = (x : Element) → HasAllowedTexts x → AreAllowedScripts (then x)
+IsAllowedStep (Some (Forbidden kind)) = ⊤
+
+abbrev pub IsAllowedWordRule : WordRule → Type 0
+IsAllowedWordRule (IsWord w) = IsAllowedWord w
+IsAllowedWordRule r = ⊤
+
+-- the text is what units give that pass these tests
+abbrev pub AreGiven : List (Piece → Option (List ℕ)) → List ℕ → Type 0
+AreGiven [] text = text ≡ []
+AreGiven (test ∷ tests) text =
+    (piece : Piece) × ((first : List ℕ) × ((rest : List ℕ) × ((test piece ≡ Some first) × ((text ≡ first ++ rest) × AreGiven tests rest))))
+
+-- whatever the rule reads, if it is allowed, so is what it gives
+abbrev pub IsAllowedRule : Rule → Type 0
+IsAllowedRule (gives x) = IsAllowedCore x
+IsAllowedRule (refuses r) = ⊤
+IsAllowedRule (reads_operand place c then) = (x : Operand) → IsAllowedOperand x → IsAllowedRule (then x)
+IsAllowedRule (reads_core place c then) = (x : Core) → IsAllowedCore x → IsAllowedRule (then x)
+IsAllowedRule (reads_atoms ending c then) = (row : Row) → IsAllowedRow row → IsAllowedRule (then row)
+IsAllowedRule (reads_words place a then) = (ws : Words) → AreAllowedWords ws → IsAllowedRule (then ws)
+IsAllowedRule (takes_if tests then otherwise) =
+    ((text : List ℕ) → AreGiven tests text → IsAllowedRule (then text)) × IsAllowedRule otherwise
+IsAllowedRule (takes_digits then) = (digits : List ℕ) → IsPlain digits → IsAllowedRule (then digits)
+IsAllowedRule (takes_delimiter then) = (sign_text : List ℕ) → IsAllowed sign_text → IsAllowedRule (then sign_text)

@@ -1,0 +1,292 @@
+-- Atoms whose parts hold no character that XML forbids hold none.
+use Rattle.std.proofs.Common.{◌≡◌, ℕ, zero, suc, Bool, true, false, ◌==◌, List, [], ◌∷◌, ◌++◌, map, reverse, Option, Some, None, refl, sym, subst, codes}
+use Rattle.std.proofs.{lemmas.Bool.and_parts, lemmas.Grind.reverse_onto}
+use Rattle.std.specs.{List.list_all, Str.NonePass}
+use Rattle.latex2mathml_elements.specs.Attributes.{Attributes, Side, Above, Below, Stretch}
+use Rattle.latex2mathml_elements.specs.Characters.{is_forbidden, IsAllowed, HasAllowedTexts, EachTextOf}
+use Rattle.latex2mathml_elements.specs.Element.{Mi, Mn, Mo, Mtext, Element, token, space, container, pair, triple, children}
+use Rattle.latex2mathml_elements.proofs.{Characters.allowed_both, Characters.allowed_char, Characters.allowed_plain, Characters.plain_is_allowed, Plain.IsPlain, Plain.is_plain}
+use Rattle.latex2mathml_tex_grammar.specs.Alphabets.{in_alphabet}
+use Rattle.latex2mathml_tex_grammar.specs.Atoms.{Atom, Kind, SignOf, PlusOrMinus, Plain, UprightLetters, FunctionWord, Blank, Divider, Before, begins_operand, class_there, as_prefix, without_space, tight, sign_there, element_there, is_parted, lone_sign, element_as}
+use Rattle.latex2mathml_tex_grammar.specs.Makes.{text, letter, upright_letter, number, symbol, struck, classed, on_side, accent, brace, stack, in_style, fenced, fraction_element, fraction, lowered_divider, lowered, between_delimiters, Scripts, primes_text, prime_mark, behind_primes, superscript, are_stacked, fixed_base, with_scripts, scripted_atom, scripted}
+use Rattle.latex2mathml_tex_grammar.specs.Meaning.{FractionRule, Bar, NoBar, LimitPlace, Beside, ByStyle, Movable, Stacked}
+use Rattle.latex2mathml_tex_grammar.specs.Rows.{Row, Operand, as_base, join, parted, put, row_element, single, with_atom, empty_row}
+use Rattle.latex2mathml_tex_grammar.specs.Symbols.{Class, Ordinary, Operator, Binary, Relation, Opening, Closing, Punctuation, Inner, Style, InDisplay, InText, InScript, Alphabet, Upright, Italic, Bold, BoldItalic, DoubleStruck, Fraktur, Calligraphic, SansSerif, Monospace, Symbol, Letter, UprightLetter, Sign, BigOperator, Integral}
+use Rattle.latex2mathml_tex_grammar.proofs.Allowed.{AreAllowedElements, IsAllowedElement, IsAllowedCore, IsAllowedAtom, IsAllowedOperand, IsAllowedRow, AreAllowedScripts}
+use Rattle.latex2mathml_tex_grammar.proofs.AllowedTables.{in_alphabet_allowed, is_allowed_symbol, not_forbidden}
+use Rattle.latex2mathml_tex_grammar.proofs.Choices.{of_either}
+
+-- Letters, signs and digits
+
+pub letter_allowed : (alphabet : Option Alphabet) (c : ℕ) → is_forbidden c ≡ false → IsAllowedAtom (letter alphabet c)
+letter_allowed None c h = allowed_char c h
+letter_allowed (Some Upright) c h = allowed_char c h
+letter_allowed (Some Italic) c h = allowed_char _ (in_alphabet_allowed Italic c h)
+letter_allowed (Some Bold) c h = allowed_char _ (in_alphabet_allowed Bold c h)
+letter_allowed (Some BoldItalic) c h = allowed_char _ (in_alphabet_allowed BoldItalic c h)
+letter_allowed (Some DoubleStruck) c h = allowed_char _ (in_alphabet_allowed DoubleStruck c h)
+letter_allowed (Some Fraktur) c h = allowed_char _ (in_alphabet_allowed Fraktur c h)
+letter_allowed (Some Calligraphic) c h = allowed_char _ (in_alphabet_allowed Calligraphic c h)
+letter_allowed (Some SansSerif) c h = allowed_char _ (in_alphabet_allowed SansSerif c h)
+letter_allowed (Some Monospace) c h = allowed_char _ (in_alphabet_allowed Monospace c h)
+
+pub upright_letter_allowed : (alphabet : Option Alphabet) (c : ℕ) → is_forbidden c ≡ false → IsAllowedAtom (upright_letter alphabet c)
+upright_letter_allowed None c h = allowed_char c h
+upright_letter_allowed (Some alphabet) c h = letter_allowed (Some alphabet) c h
+
+pub symbol_allowed : (alphabet : Option Alphabet) (s : Symbol) → is_allowed_symbol s ≡ true → IsAllowedCore (symbol alphabet s)
+symbol_allowed alphabet (Letter c) h = letter_allowed alphabet c (not_forbidden c h)
+symbol_allowed alphabet (UprightLetter c) h = upright_letter_allowed alphabet c (not_forbidden c h)
+symbol_allowed alphabet (Sign class c) h = allowed_char c (not_forbidden c h)
+symbol_allowed alphabet (BigOperator c) h = allowed_char c (not_forbidden c h)
+symbol_allowed alphabet (Integral c) h = allowed_char c (not_forbidden c h)
+
+digits_pass : (alphabet : Alphabet) (digits : List ℕ) → IsPlain digits → NonePass is_forbidden (map (in_alphabet alphabet) digits)
+digits_pass alphabet [] h = tt
+digits_pass alphabet (c ∷ digits) h =
+    let parts = and_parts (is_plain c) (list_all is_plain digits) h in
+    (in_alphabet_allowed alphabet c (plain_is_allowed c parts.0), digits_pass alphabet digits parts.1)
+
+pub number_allowed : (alphabet : Option Alphabet) (digits : List ℕ) → IsPlain digits → IsAllowedAtom (number alphabet digits)
+number_allowed None digits h = allowed_plain digits h
+number_allowed (Some alphabet) digits h = (map (in_alphabet alphabet) digits, refl, digits_pass alphabet digits h)
+
+-- Elements side by side
+
+children_allowed : (xs : List Element) → AreAllowedElements xs → EachTextOf IsAllowed (children xs)
+children_allowed [] h = tt
+children_allowed (x ∷ xs) h = (h.0, children_allowed xs h.1)
+
+behind : (xs ys : List Element) → AreAllowedElements xs → AreAllowedElements ys → AreAllowedElements (xs ++ ys)
+behind [] ys h k = k
+behind (x ∷ xs) ys h k = (h.0, behind xs ys h.1 k)
+
+reversed : (xs : List Element) → AreAllowedElements xs → AreAllowedElements (reverse xs)
+reversed [] h = tt
+reversed (x ∷ xs) h = subst AreAllowedElements (sym (reverse_onto xs x [])) (behind (reverse xs) (x ∷ []) (reversed xs h.1) (h.0, tt))
+
+pub row_children_allowed : (xs : List Element) → AreAllowedElements xs → EachTextOf IsAllowed (children (reverse xs))
+row_children_allowed xs h = children_allowed (reverse xs) (reversed xs h)
+
+pub row_element_allowed : (xs : List Element) → AreAllowedElements xs → HasAllowedTexts (row_element xs)
+row_element_allowed [] h = tt
+row_element_allowed (x ∷ []) h = h.0
+row_element_allowed (x ∷ y ∷ xs) h = row_children_allowed (x ∷ y ∷ xs) h
+
+-- A row with an atom after it
+
+prefix_allowed : (x : Element) → HasAllowedTexts x → HasAllowedTexts (as_prefix x)
+prefix_allowed (token t a text) h = h
+prefix_allowed (space width) h = h
+prefix_allowed (container c a xs) h = h
+prefix_allowed (pair p a x y) h = h
+prefix_allowed (triple t a x y z) h = h
+
+without_space_allowed : (x : Element) → HasAllowedTexts x → HasAllowedTexts (without_space x)
+without_space_allowed (token t a text) h = h
+without_space_allowed (space width) h = h
+without_space_allowed (container c a xs) h = h
+without_space_allowed (pair p a x y) h = h
+without_space_allowed (triple t a x y z) h = h
+
+tight_allowed : (style : Style) (x : Element) → HasAllowedTexts x → HasAllowedTexts (tight style x)
+tight_allowed InDisplay x h = h
+tight_allowed InText x h = h
+tight_allowed InScript x h = without_space_allowed x h
+
+sign_there_allowed : (style : Style) (class : Class) (x : Element) → HasAllowedTexts x → HasAllowedTexts (sign_there style class x)
+sign_there_allowed style Ordinary x h = h
+sign_there_allowed style Operator x h = h
+sign_there_allowed style Binary x h = tight_allowed style x h
+sign_there_allowed style Relation x h = tight_allowed style x h
+sign_there_allowed style Opening x h = h
+sign_there_allowed style Closing x h = h
+sign_there_allowed style Punctuation x h = tight_allowed style x h
+sign_there_allowed style Inner x h = h
+
+element_there_allowed : (style : Style) (before : Before) (kind : Kind) (x : Element) → HasAllowedTexts x → HasAllowedTexts (element_there style before kind x)
+element_there_allowed style before (SignOf class) x h = sign_there_allowed style (class_there before class) x h
+element_there_allowed style before PlusOrMinus x h =
+    of_either HasAllowedTexts (begins_operand before) (prefix_allowed x h) (tight_allowed style x h)
+element_there_allowed style before (Plain class) x h = h
+element_there_allowed style before UprightLetters x h = h
+element_there_allowed style before FunctionWord x h = h
+element_there_allowed style before Divider x h = h
+element_there_allowed style before Blank x h = h
+
+parted_allowed : (b : Bool) (xs : List Element) → AreAllowedElements xs → AreAllowedElements (parted b xs)
+parted_allowed true xs h = (tt, h)
+parted_allowed false xs h = h
+
+join_allowed : (x : Element) (xs : List Element) → HasAllowedTexts x → AreAllowedElements xs → AreAllowedElements (join x xs)
+join_allowed (token t a letter) [] h k = (h, k)
+join_allowed (token t a letter) (token u b word ∷ xs) h k = (allowed_both word letter k.0 h, k.1)
+join_allowed (token t a letter) (space width ∷ xs) h k = (h, k)
+join_allowed (token t a letter) (container c b ys ∷ xs) h k = (h, k)
+join_allowed (token t a letter) (pair p b y z ∷ xs) h k = (h, k)
+join_allowed (token t a letter) (triple u b x y z ∷ xs) h k = (h, k)
+join_allowed (space width) xs h k = (h, k)
+join_allowed (container c a ys) xs h k = (h, k)
+join_allowed (pair p a y z) xs h k = (h, k)
+join_allowed (triple t a x y z) xs h k = (h, k)
+
+put_allowed : (joins : Bool) (style : Style) (before : Before) (x : Atom) (xs : List Element) → IsAllowedAtom x → AreAllowedElements xs → AreAllowedElements (put joins style before x xs)
+put_allowed true style before x xs h k = join_allowed x.element xs h k
+put_allowed false style before x xs h k =
+    (element_there_allowed style before x.kind x.element h, parted_allowed (is_parted before x.kind) xs k)
+
+pub with_atom_allowed : (style : Style) (row : Row) (x : Atom) → IsAllowedRow row → IsAllowedAtom x → IsAllowedRow (with_atom style row x)
+with_atom_allowed style row x h k = put_allowed _ style row.before x row.elements k h
+
+pub single_allowed : (style : Style) (x : Atom) → IsAllowedAtom x → IsAllowedOperand (single style x)
+single_allowed style x h =
+    row_element_allowed (with_atom style empty_row x).elements (with_atom_allowed style empty_row x tt h)
+
+-- Strokes, classes, marks
+
+pub struck_allowed : (x : Element) → HasAllowedTexts x → IsAllowedElement (struck x)
+struck_allowed (token t a sign_text) h = allowed_both sign_text (text 0x0338) h (allowed_char 0x0338 refl)
+struck_allowed (space width) h = tt
+struck_allowed (container c a xs) h = tt
+struck_allowed (pair p a x y) h = tt
+struck_allowed (triple t a x y z) h = tt
+
+lone_sign_allowed : (style : Style) (class : Class) (x : Element) → HasAllowedTexts x → HasAllowedTexts (lone_sign style class x)
+lone_sign_allowed style class (token Mo a text) h = h
+lone_sign_allowed style class (token Mi a text) h = h
+lone_sign_allowed style class (token Mn a text) h = h
+lone_sign_allowed style class (token Mtext a text) h = h
+lone_sign_allowed style class (space width) h = h
+lone_sign_allowed style class (container c a xs) h = h
+lone_sign_allowed style class (pair p a x y) h = h
+lone_sign_allowed style class (triple t a x y z) h = h
+
+element_as_allowed : (style : Style) (class own : Class) (x : Element) → HasAllowedTexts x → HasAllowedTexts (element_as style class own x)
+element_as_allowed style class Ordinary x h = h
+element_as_allowed style class Operator x h = h
+element_as_allowed style class Binary x h = lone_sign_allowed style class x h
+element_as_allowed style class Relation x h = lone_sign_allowed style class x h
+element_as_allowed style class Opening x h = h
+element_as_allowed style class Closing x h = h
+element_as_allowed style class Punctuation x h = h
+element_as_allowed style class Inner x h = h
+
+pub as_base_allowed : (style : Style) (class : Class) (x : Operand) → IsAllowedOperand x → IsAllowedOperand (as_base style class x)
+as_base_allowed style class x h = element_as_allowed style class x.class x.element h
+
+pub classed_allowed : (class : Class) (x : Operand) → IsAllowedOperand x → IsAllowedCore (classed class x)
+classed_allowed Ordinary x h = h
+classed_allowed Operator x h = h
+classed_allowed Binary x h = h
+classed_allowed Relation x h = h
+classed_allowed Opening x h = h
+classed_allowed Closing x h = h
+classed_allowed Punctuation x h = h
+classed_allowed Inner x h = h
+
+on_side_allowed : (side : Side) (a : Attributes) (base mark : Element) → HasAllowedTexts base → HasAllowedTexts mark → HasAllowedTexts (on_side side a base mark)
+on_side_allowed Above a base mark h k = (h, k)
+on_side_allowed Below a base mark h k = (h, k)
+
+pub accent_allowed : (side : Side) (mark : ℕ) (width : Stretch) (x : Element) → is_forbidden mark ≡ false → HasAllowedTexts x → IsAllowedCore (accent side mark width x)
+accent_allowed side mark width x h k = on_side_allowed side _ x _ k (allowed_char mark h)
+
+pub brace_allowed : (side : Side) (mark : ℕ) (x : Element) → is_forbidden mark ≡ false → HasAllowedTexts x → IsAllowedCore (brace side mark x)
+brace_allowed side mark x h k = on_side_allowed side _ x _ k (allowed_char mark h)
+
+pub stack_allowed : (side : Side) (class : Class) (mark base : Element) → HasAllowedTexts mark → HasAllowedTexts base → IsAllowedCore (stack side class mark base)
+stack_allowed side class mark base h k = on_side_allowed side _ base mark k h
+
+-- Fractions and delimiters
+
+in_style_allowed : (style : Option Style) (x : Element) → HasAllowedTexts x → HasAllowedTexts (in_style style x)
+in_style_allowed None x h = h
+in_style_allowed (Some style) x h = (h, tt)
+
+fenced_allowed : (high : Bool) (opening closing : List ℕ) (inside : Element) → IsAllowed opening → IsAllowed closing → HasAllowedTexts inside → HasAllowedTexts (fenced high opening closing inside)
+fenced_allowed high opening closing inside h k i = (h, (i, (k, tt)))
+
+fraction_element_allowed : (rule : FractionRule) (above below : Element) → HasAllowedTexts above → HasAllowedTexts below → HasAllowedTexts (fraction_element rule above below)
+fraction_element_allowed Bar above below h k = (h, k)
+fraction_element_allowed NoBar above below h k =
+    (allowed_plain (codes "(") refl, ((h, k), (allowed_plain (codes ")") refl, tt)))
+
+pub fraction_allowed : (rule : FractionRule) (own : Option Style) (above below : Element) → HasAllowedTexts above → HasAllowedTexts below → IsAllowedCore (fraction rule own above below)
+fraction_allowed rule own above below h k = in_style_allowed own _ (fraction_element_allowed rule above below h k)
+
+lowered_divider_allowed : (x : Element) → HasAllowedTexts x → HasAllowedTexts (lowered_divider x)
+lowered_divider_allowed (token t a sign_text) h = h
+lowered_divider_allowed (space width) h = h
+lowered_divider_allowed (container c a xs) h = h
+lowered_divider_allowed (pair p a x y) h = h
+lowered_divider_allowed (triple t a x y z) h = h
+
+each_lowered : (xs : List Element) → AreAllowedElements xs → AreAllowedElements (map lowered_divider xs)
+each_lowered [] h = tt
+each_lowered (x ∷ xs) h = (lowered_divider_allowed x h.0, each_lowered xs h.1)
+
+lowered_allowed : (high : Bool) (xs : List Element) → AreAllowedElements xs → AreAllowedElements (lowered high xs)
+lowered_allowed true xs h = h
+lowered_allowed false xs h = each_lowered xs h
+
+pub between_allowed : (opening closing : List ℕ) (row : Row) → IsAllowed opening → IsAllowed closing → IsAllowedRow row → IsAllowedCore (between_delimiters opening closing row)
+between_allowed opening closing row h k i =
+    fenced_allowed row.high opening closing _ h k (row_element_allowed (lowered row.high row.elements) (lowered_allowed row.high row.elements i))
+
+-- Scripts
+
+primes_text_allowed : (n : ℕ) → IsAllowed (primes_text n)
+primes_text_allowed zero = allowed_plain [] refl
+primes_text_allowed (suc n) = allowed_both (primes_text n) (text 0x2032) (primes_text_allowed n) (allowed_char 0x2032 refl)
+
+prime_mark_allowed : (n : ℕ) → HasAllowedTexts (prime_mark n)
+prime_mark_allowed n =
+    of_either IsAllowed (n == 2) (allowed_char 0x2033 refl)
+    (of_either IsAllowed (n == 3) (allowed_char 0x2034 refl)
+    (of_either IsAllowed (n == 4) (allowed_char 0x2057 refl) (primes_text_allowed n)))
+
+pub behind_primes_allowed : (n : ℕ) (x : Element) → HasAllowedTexts x → HasAllowedTexts (behind_primes n x)
+behind_primes_allowed zero x h = h
+behind_primes_allowed (suc n) x h = row_element_allowed (x ∷ prime_mark (suc n) ∷ []) (h, (prime_mark_allowed (suc n), tt))
+
+superscript_allowed : (n : ℕ) (above : Option Element) → IsAllowedElement above → IsAllowedElement (superscript n above)
+superscript_allowed zero None h = tt
+superscript_allowed (suc n) None h = prime_mark_allowed (suc n)
+superscript_allowed zero (Some x) h = h
+superscript_allowed (suc n) (Some x) h = h
+
+fixed_base_allowed : (limits : LimitPlace) (x : Element) → HasAllowedTexts x → HasAllowedTexts (fixed_base limits x)
+fixed_base_allowed Beside x h = h
+fixed_base_allowed ByStyle x h = h
+fixed_base_allowed Movable x h = h
+fixed_base_allowed Stacked (token Mi a sign_text) h = h
+fixed_base_allowed Stacked (token Mn a sign_text) h = h
+fixed_base_allowed Stacked (token Mo a sign_text) h = h
+fixed_base_allowed Stacked (token Mtext a sign_text) h = h
+fixed_base_allowed Stacked (space width) h = h
+fixed_base_allowed Stacked (container c a xs) h = h
+fixed_base_allowed Stacked (pair p a x y) h = h
+fixed_base_allowed Stacked (triple t a x y z) h = h
+
+with_scripts_allowed : (stacked : Bool) (base : Element) (below above : Option Element) → HasAllowedTexts base → IsAllowedElement below → IsAllowedElement above → HasAllowedTexts (with_scripts stacked base below above)
+with_scripts_allowed true base None None h k i = h
+with_scripts_allowed false base None None h k i = h
+with_scripts_allowed true base (Some below) None h k i = (h, k)
+with_scripts_allowed true base None (Some above) h k i = (h, i)
+with_scripts_allowed true base (Some below) (Some above) h k i = (h, k, i)
+with_scripts_allowed false base (Some below) None h k i = (h, k)
+with_scripts_allowed false base None (Some above) h k i = (h, i)
+with_scripts_allowed false base (Some below) (Some above) h k i = (h, k, i)
+
+scripted_atom_allowed : (style : Style) (base : Atom) (scripts : Scripts) (below above : Option Element) → IsAllowedAtom base → IsAllowedElement below → IsAllowedElement above → IsAllowedAtom (scripted_atom style base scripts below above)
+scripted_atom_allowed style base scripts None None h k i = h
+scripted_atom_allowed style base scripts (Some below) None h k i =
+    with_scripts_allowed (are_stacked style scripts.limits) _ (Some below) None (fixed_base_allowed scripts.limits base.element h) k i
+scripted_atom_allowed style base scripts None (Some above) h k i =
+    with_scripts_allowed (are_stacked style scripts.limits) _ None (Some above) (fixed_base_allowed scripts.limits base.element h) k i
+scripted_atom_allowed style base scripts (Some below) (Some above) h k i =
+    with_scripts_allowed (are_stacked style scripts.limits) _ (Some below) (Some above) (fixed_base_allowed scripts.limits base.element h) k i
+
+pub scripted_allowed : (style : Style) (base : Atom) (scripts : Scripts) → IsAllowedAtom base → AreAllowedScripts scripts → IsAllowedAtom (scripted style base scripts)
+scripted_allowed style base scripts h k =
+    scripted_atom_allowed style base scripts scripts.below (superscript scripts.primes scripts.above) h k.0 (superscript_allowed scripts.primes scripts.above k.1)

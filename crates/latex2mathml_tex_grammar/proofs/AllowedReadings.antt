@@ -1,0 +1,122 @@
+-- No reading of units has a text with a character that XML forbids, where the units have none.
+use Rattle.std.proofs.Common.{ℕ, List, [], ◌∷◌, Option, subst, reverse}
+use Rattle.latex2mathml_elements.specs.{Characters.IsAllowed, Dollars.IsDollarFree, Element.children}
+use Rattle.latex2mathml_elements.proofs.{Characters.allowed_print, Characters.dollar_free}
+use Rattle.latex2mathml_tex_grammar.specs.{Atoms.Atom, Delimiters.delimiter_of, Formulas.IsReading, Formulas.row_print, Laws.ReadingsAreAllowed, Rows.Row, Rows.Operand, Rows.row_element, Symbols.Alphabet, Symbols.Style}
+use Rattle.latex2mathml_tex_grammar.specs.Makes.{Core, core, divider, is_display, number, Scripts}
+use Rattle.latex2mathml_tex_grammar.specs.Reading.{Outcome, ReadsRule, rule_gives, rule_refuses, operand_read, operand_refused, core_read, core_refused, core_missing, core_stopped, atoms_read, atoms_refused, words_read, words_refused, units_taken, units_missing, digits_taken, delimiter_taken, delimiter_missing, ReadsOperand, group_operand, group_refused, digit_operand, other_operand, other_refused, no_operand, operand_at_end, operand_stopped, ReadsScripts, scripts_end, mark_taken, script_read, script_refused, mark_refused, ReadsAtom, divider_read, divider_refused, on_empty_row, base_read, base_refused, ReadsAtoms, text_ends, never_ended, atoms_stopped, atoms_end, atom_read, atom_refused, ReadsWord, word_stands, group_of_words, formula_read, formula_refused, words_in_alphabet, no_word, word_missing, word_at_end, word_stopped, ReadsWords, words_end, words_never_ended, words_stopped, word_read, word_refused}
+use Rattle.latex2mathml_tex_grammar.specs.Rules.{Context, Ending, Rule, gives, takes_delimiter}
+use Rattle.latex2mathml_tex_grammar.specs.Starts.{mark_of}
+use Rattle.latex2mathml_tex_grammar.specs.Units.{Unit, Units}
+use Rattle.latex2mathml_tex_grammar.specs.Words.{Formula, Words}
+use Rattle.latex2mathml_tex_grammar.proofs.Allowed.{IsAllowedPiece, AreAllowedUnits, IsAllowedCore, IsAllowedAtom, IsAllowedOperand, IsAllowedRow, AreAllowedScripts, AreAllowedWords, IsAllowedWordRule, IsAllowedStep, IsAllowedRule, IsAllowedOutcome}
+use Rattle.latex2mathml_tex_grammar.proofs.AllowedMakes.{number_allowed, row_children_allowed, row_element_allowed, scripted_allowed, single_allowed, with_atom_allowed}
+use Rattle.latex2mathml_tex_grammar.proofs.AllowedRules.{IsPlainStart, start_plain, delimiter_given, rule_allowed, step_allowed, with_word_allowed, word_rule_allowed}
+use Rattle.latex2mathml_tex_grammar.proofs.AllowedUnits.{digits_taken as digits_next_allowed, next_allowed, next_taken, past_allowed, units_allowed}
+
+divider_allowed : IsAllowedRule (takes_delimiter (λ sign_text. gives (core (divider sign_text))))
+divider_allowed = λ sign_text h. h
+
+mutual
+  rules : {r : Rule} {l : Units} {o : Outcome Core} → ReadsRule r l o → IsAllowedRule r → AreAllowedUnits l → IsAllowedOutcome IsAllowedCore o
+  rules rule_gives h k = (h, k)
+  rules rule_refuses h k = tt
+  rules (operand_read {x = x} d ds) h k = (let read = operands d k in rules ds (h x read.0) read.1)
+  rules (operand_refused d) h k = tt
+  rules (core_read {c = c} {l = l} {u = u} {x = x} p d ds) h k =
+      let next = next_allowed l p k in
+      let read = rules d (rule_allowed u.place c u.piece next.0) next.1 in
+      rules ds (h x read.0) read.1
+  rules (core_refused p d) h k = tt
+  rules (core_missing p) h k = tt
+  rules (core_stopped p) h k = tt
+  rules (atoms_read {row = row} d ds) h k = (let read = rows d tt k in rules ds (h row read.0) read.1)
+  rules (atoms_refused d) h k = tt
+  rules (words_read {l = l} {ws = ws} d ds) h k = (let read = words d tt (past_allowed l k) in rules ds (h ws read.0) read.1)
+  rules (words_refused d) h k = tt
+  rules (units_taken {tests = tests} {l = l} {m = m} {texts = texts} p ds) h k =
+      let taken = next_taken tests l m texts p k in rules ds (h.0 texts taken.0) taken.1
+  rules (units_missing p ds) h k = rules ds h.1 k
+  rules (digits_taken {l = l} d) h k = (let taken = digits_next_allowed l k in rules d (h _ taken.0) taken.1)
+  rules (delimiter_taken {l = l} {m = m} {sign_text = sign_text} p ds) h k =
+      let taken = next_taken (delimiter_of ∷ []) l m sign_text p k in rules ds (h sign_text (delimiter_given sign_text taken.0)) taken.1
+  rules (delimiter_missing p) h k = tt
+
+  operands : {place : ℕ} {c : Context} {l : Units} {o : Outcome Operand} → ReadsOperand place c l o → AreAllowedUnits l → IsAllowedOutcome IsAllowedOperand o
+  operands (group_operand {l = l} {row = row} p s d) k =
+      let read = rows d tt (next_allowed l p k).1 in (row_element_allowed row.elements read.0, read.1)
+  operands (group_refused p s d) k = tt
+  operands (digit_operand {c = c} {l = l} {u = u} {digit = digit} p s) k =
+      (single_allowed c.style (number c.alphabet digit) (number_allowed c.alphabet digit (subst IsPlainStart s (start_plain u.piece))), (next_allowed l p k).1)
+  operands (other_operand {c = c} {l = l} {u = u} {x = x} p s d) k =
+      let next = next_allowed l p k in
+      let read = rules d (rule_allowed u.place c u.piece next.0) next.1 in
+      (single_allowed c.style x.atom read.0, read.1)
+  operands (other_refused p s d) k = tt
+  operands (no_operand p s) k = tt
+  operands (operand_at_end p) k = tt
+  operands (operand_stopped p) k = tt
+
+  marks : {c : Context} {base : Atom} {scripts : Scripts} {l : Units} {o : Outcome Atom} → ReadsScripts c base scripts l o → IsAllowedAtom base → AreAllowedScripts scripts → AreAllowedUnits l → IsAllowedOutcome IsAllowedAtom o
+  marks (scripts_end {c = c} {base = base} {scripts = scripts} s) h i k = (scripted_allowed c.style base scripts h i, k)
+  marks (mark_taken {scripts = scripts} {l = l} {u = u} p s d) h i k =
+      marks d h (subst IsAllowedStep s (step_allowed scripts (mark_of u.piece) i)) (next_allowed l p k).1
+  marks (script_read {scripts = scripts} {l = l} {u = u} {x = x} p s d ds) h i k =
+      let read = operands d (next_allowed l p k).1 in
+      marks ds h (subst IsAllowedStep s (step_allowed scripts (mark_of u.piece) i) x.element read.0) read.1
+  marks (script_refused p s d) h i k = tt
+  marks (mark_refused p s) h i k = tt
+
+  atoms : {ending : Ending} {c : Context} {u : Unit} {l : Units} {o : Outcome Atom} → ReadsAtom ending c u l o → IsAllowedPiece u.piece → AreAllowedUnits l → IsAllowedOutcome IsAllowedAtom o
+  atoms (divider_read s d) h k = rules d divider_allowed k
+  atoms (divider_refused s d) h k = tt
+  atoms (on_empty_row s d) h k = marks d tt (tt, tt) (h, k)
+  atoms (base_read {c = c} {u = u} s d ds) h k =
+      let read = rules d (rule_allowed u.place c u.piece h) k in marks ds read.0 (tt, tt) read.1
+  atoms (base_refused s d) h k = tt
+
+  rows : {ending : Ending} {c : Context} {row : Row} {l : Units} {o : Outcome Row} → ReadsAtoms ending c row l o → IsAllowedRow row → AreAllowedUnits l → IsAllowedOutcome IsAllowedRow o
+  rows (text_ends p s) h k = (h, tt)
+  rows (never_ended p s) h k = tt
+  rows (atoms_stopped p) h k = tt
+  rows (atoms_end {l = l} p s) h k = (h, (next_allowed l p k).1)
+  rows (atom_read {c = c} {row = row} {l = l} {x = x} p s d ds) h k =
+      let next = next_allowed l p k in
+      let read = atoms d next.0 next.1 in
+      rows ds (with_atom_allowed c.style row x h read.0) read.1
+  rows (atom_refused p s d) h k = tt
+
+  words : {place : ℕ} {a : Option Alphabet} {ws : Words} {l : Units} {o : Outcome Words} → ReadsWord place a ws l o → AreAllowedWords ws → AreAllowedUnits l → IsAllowedOutcome AreAllowedWords o
+  words (word_stands {a = a} {ws = ws} {u = u} {w = w} s) h k =
+      (with_word_allowed ws w h (subst IsAllowedWordRule s (word_rule_allowed a u.piece k.0)), k.1)
+  words (group_of_words s d) h k = word_lists d h k.1
+  words (formula_read {ws = ws} {row = row} s d) h k =
+      let read = rows d tt k.1 in (with_word_allowed ws (Formula (row_element row.elements)) h (row_element_allowed row.elements read.0), read.1)
+  words (formula_refused s d) h k = tt
+  words (words_in_alphabet {l = l} s d) h k = words d h (past_allowed l k.1)
+  words (no_word s) h k = tt
+  words (word_missing s) h k = tt
+  words word_at_end h k = tt
+  words word_stopped h k = tt
+
+  word_lists : {place : ℕ} {a : Option Alphabet} {ws : Words} {l : Units} {o : Outcome Words} → ReadsWords place a ws l o → AreAllowedWords ws → AreAllowedUnits l → IsAllowedOutcome AreAllowedWords o
+  word_lists (words_end s) h k = (h, k.1)
+  word_lists words_never_ended h k = tt
+  word_lists words_stopped h k = tt
+  word_lists (word_read s d ds) h k = (let read = words d h k in word_lists ds read.0 read.1)
+  word_lists (word_refused s d) h k = tt
+
+pub reading_allowed : (text : List ℕ) (style : Style) (row : Row) → IsReading text style row → IsAllowedRow row
+unfolding IsReading
+reading_allowed text style row (units, has, (end, d)) = (rows d tt (units_allowed has)).0
+
+-- the markup of a reading holds no character that XML forbids, and no dollar sign
+pub markup_allowed : (text : List ℕ) (style : Style) (row : Row) → IsReading text style row → IsAllowed (row_print style row) × IsDollarFree (row_print style row)
+markup_allowed text style row h =
+    let xs = children (reverse row.elements) in
+    let each = row_children_allowed row.elements (reading_allowed text style row h) in
+    (allowed_print (is_display style) xs each, dollar_free (is_display style) xs)
+
+-- the law
+pub readings_are_allowed : ReadingsAreAllowed
+readings_are_allowed = record { elements = reading_allowed; markup = markup_allowed }

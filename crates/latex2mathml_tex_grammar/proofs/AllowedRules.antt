@@ -1,0 +1,225 @@
+-- The rule of a unit without a character that XML forbids gives none, and so it is of marks and in words.
+use Rattle.std.proofs.Common.{◌≡◌, ℕ, pos, Bool, true, false, ◌==◌, List, [], ◌∷◌, ◌++◌, Option, Some, None, refl, sym, ap, subst, ◌∙◌, append-nil, codes}
+use Rattle.std.specs.{Bool.⊤, Char.is_ascii_digit, Str.byte, Str.bytes_eq}
+use Rattle.latex2mathml_elements.specs.{Element.Element, Element.token, Element.space, Element.container, Element.pair, Element.triple}
+use Rattle.latex2mathml_elements.specs.Characters.{is_forbidden, IsAllowed, HasAllowedTexts}
+use Rattle.latex2mathml_elements.proofs.{Characters.allowed_both, Characters.allowed_char, Characters.allowed_plain, Plain.IsPlain}
+use Rattle.latex2mathml_tex_grammar.specs.{Commands.meaning_of, Commands.symbol_of, Delimiters.negated_of, Delimiters.delimiter_of}
+use Rattle.latex2mathml_tex_grammar.specs.Makes.{Core, core, Scripts, letter, symbol, spacing, struck, text}
+use Rattle.latex2mathml_tex_grammar.specs.Refusal.{Refusal, OutsideTable, MisplacedCharacter, CharacterInWords, refusal_at}
+use Rattle.latex2mathml_tex_grammar.specs.Meaning.{Meaning, Shows, FunctionName, Spacing, Styled, Words as TakesWordsIn, Fraction, Root, Accent, Brace, Stack, StackedRelation, OperatorName, Negation, Slash, Sized, Left, Middle, Right, Limits, NoLimits, Classed}
+use Rattle.latex2mathml_tex_grammar.specs.Rows.{Operand}
+use Rattle.latex2mathml_tex_grammar.specs.Rules.{Context, Rule, gives, refuses, takes_if, a_character, a_digit, decimal, after_digits, a_number, a_symbol, begins_none, character_rule, struck_atom, slashed, meaning_rule, command_rule, rule}
+use Rattle.latex2mathml_tex_grammar.specs.Starts.{OperandStart, NoStart, GroupStart, DigitStart, operand_start, start_of_digit, Mark, Prime, Below, Above as AboveMark, LimitsAt, step_of, step_of_mark}
+use Rattle.latex2mathml_tex_grammar.specs.Symbols.{InText, Relation, Alphabet, Symbol}
+use Rattle.latex2mathml_tex_grammar.specs.Units.{Piece, Space, Open, Close, Command, Character}
+use Rattle.latex2mathml_tex_grammar.specs.Words.{Word, Shown, Formula, WordRule, IsWord, BeginsFormula, NoWord, Words, is_escape, word_space, word_character, with_text, with_word, words_element, word_rule, character_rule as word_of_character, meaning_rule as word_of_meaning}
+use Rattle.latex2mathml_tex_grammar.proofs.Allowed.{IsAllowedPiece, AreAllowedElements, IsAllowedElement, IsAllowedCore, IsAllowedOperand, AreAllowedScripts, AreAllowedWords, IsAllowedWord, IsAllowedWordRule, IsAllowedStep, IsAllowedRule, AreGiven}
+use Rattle.latex2mathml_tex_grammar.proofs.AllowedMakes.{letter_allowed, upright_letter_allowed, symbol_allowed, number_allowed, row_element_allowed, single_allowed, struck_allowed, as_base_allowed, classed_allowed, accent_allowed, brace_allowed, stack_allowed, fraction_allowed, between_allowed, behind_primes_allowed}
+use Rattle.latex2mathml_tex_grammar.proofs.AllowedTables.{IsAllowedText, Passes, allowed_text, in_alphabet_allowed, is_allowed_meaning, is_allowed_symbol, meaning_passes, negated_allowed, delimiter_allowed, not_forbidden, symbol_passes}
+use Rattle.latex2mathml_tex_grammar.proofs.AllowedUnits.{a_digit_plain, a_point_plain, digit_plain, plain_both, point_plain}
+use Rattle.latex2mathml_tex_grammar.proofs.Choices.{of_chosen, of_either}
+
+-- What tests give
+
+digit_given : (given : List ℕ) → AreGiven (a_digit ∷ []) given → IsPlain given
+digit_given given (piece, (first, (rest, (e, (whole, none))))) =
+    subst IsPlain (sym (whole ∙ ap (λ k. first ++ k) none ∙ append-nil first)) (a_digit_plain piece first e)
+
+point_given : (given : List ℕ) → AreGiven (a_character (byte ".") ∷ a_digit ∷ []) given → IsPlain given
+point_given given (piece, (first, (rest, (e, (whole, more))))) =
+    subst IsPlain (sym whole) (plain_both first rest (a_point_plain piece first e) (digit_given rest more))
+
+-- one text of a table
+module _ (test : Piece → Option (List ℕ)) (allowed : (piece : Piece) → IsAllowedText (test piece)) where
+  pub text_given : (given : List ℕ) → AreGiven (test ∷ []) given → IsAllowed given
+  text_given given (piece, (first, (rest, (e, (whole, none))))) =
+      subst IsAllowed (sym (whole ∙ ap (λ k. first ++ k) none ∙ append-nil first)) (subst IsAllowedText e (allowed piece))
+
+pub delimiter_given : (given : List ℕ) → AreGiven (delimiter_of ∷ []) given → IsAllowed given
+delimiter_given = text_given delimiter_of delimiter_allowed
+
+-- Characters
+
+decimal_allowed : (c : Context) (whole : List ℕ) → IsPlain whole → IsAllowedRule (decimal c whole)
+decimal_allowed c whole h digits k = number_allowed c.alphabet (whole ++ digits) (plain_both whole digits h k)
+
+after_digits_allowed : (c : Context) (whole : List ℕ) → IsPlain whole → IsAllowedRule (after_digits c whole)
+after_digits_allowed c whole h =
+    (λ point given. decimal_allowed c (whole ++ point) (plain_both whole point h (point_given point given)), number_allowed c.alphabet whole h)
+
+a_number_allowed : (c : Context) (digit : ℕ) → IsPlain (digit ∷ []) → IsAllowedRule (a_number c digit)
+a_number_allowed c digit h digits k = after_digits_allowed c (digit ∷ digits) (plain_both (digit ∷ []) digits h k)
+
+a_symbol_allowed : (c : Context) (character : ℕ) (s : Option Symbol) → is_forbidden character ≡ false → Passes is_allowed_symbol s → IsAllowedRule (a_symbol c character s)
+a_symbol_allowed c character None h k = upright_letter_allowed c.alphabet character h
+a_symbol_allowed c character (Some s) h k = symbol_allowed c.alphabet s k
+
+-- the rule of a point
+abbrev point_rule : Context → ℕ → Rule
+point_rule c character = takes_if (a_digit ∷ []) (λ digit. decimal c (character ∷ digit)) (a_symbol c character (symbol_of character))
+
+-- what holds of each rule that a character may have holds of its rule
+of_character_rule : (P : Rule → Type 0) (c : Context) (character place : ℕ) → (is_ascii_digit character ≡ true → P (a_number c character)) → P (gives (core (letter c.alphabet character))) → ((character == byte ".") ≡ true → P (point_rule c character)) → P (gives (core (spacing (pos 6)))) → ((r : Refusal) → P (refuses r)) → P (a_symbol c character (symbol_of character)) → P (character_rule c character place)
+of_character_rule P c character place digit a_letter point blank refused other =
+    let misplaced = of_either P (begins_none character) (refused (refusal_at (MisplacedCharacter character) place)) other in
+    let no_table = of_either P (character == byte "&") (refused (refusal_at OutsideTable place)) misplaced in
+    of_chosen P _ digit (λ no. of_either P _ a_letter (of_chosen P _ point (λ no. of_either P _ blank no_table)))
+
+point_allowed : (c : Context) (character : ℕ) → is_forbidden character ≡ false → (character == byte ".") ≡ true → IsAllowedRule (point_rule c character)
+point_allowed c character h is =
+    (λ digit given. decimal_allowed c (character ∷ digit) (plain_both (character ∷ []) digit (point_plain character is) (digit_given digit given)), a_symbol_allowed c character _ h (symbol_passes character))
+
+character_allowed : (c : Context) (character place : ℕ) → is_forbidden character ≡ false → IsAllowedRule (character_rule c character place)
+character_allowed c character place h =
+    of_character_rule IsAllowedRule c character place
+    (λ is. a_number_allowed c character (digit_plain character is))
+    (letter_allowed c.alphabet character h)
+    (point_allowed c character h)
+    tt
+    (λ r. tt)
+    (a_symbol_allowed c character _ h (symbol_passes character))
+
+-- Commands
+
+struck_atom_allowed : (place : ℕ) (x : Core) (found : Option Element) → IsAllowedElement found → IsAllowedRule (struck_atom place x found)
+struck_atom_allowed place x None h = tt
+struck_atom_allowed place x (Some element) h = h
+
+slashed_allowed : (x : Operand) (found : Option Element) → IsAllowedOperand x → IsAllowedElement found → IsAllowedCore (slashed x found)
+slashed_allowed x None h k = h
+slashed_allowed x (Some element) h k = k
+
+words_element_allowed : (xs : List Element) → AreAllowedElements xs → HasAllowedTexts (words_element xs)
+words_element_allowed [] h = allowed_plain [] refl
+words_element_allowed (x ∷ xs) h = row_element_allowed (x ∷ xs) h
+
+meaning_rule_allowed : (place : ℕ) (c : Context) (meaning : Meaning) → is_allowed_meaning meaning ≡ true → IsAllowedRule (meaning_rule place c meaning)
+meaning_rule_allowed place c (Shows s) h = symbol_allowed c.alphabet s h
+meaning_rule_allowed place c (FunctionName limits name) h = allowed_text name h
+meaning_rule_allowed place c (Spacing width) h = tt
+meaning_rule_allowed place c (Styled alphabet) h = λ x k. k
+meaning_rule_allowed place c (TakesWordsIn alphabet) h = λ ws k. words_element_allowed ws.elements k
+meaning_rule_allowed place c (Fraction rule own) h = λ above k below i. fraction_allowed rule own above.element below.element k i
+meaning_rule_allowed place c Root h =
+    (λ bracket given degree k x i. (i, row_element_allowed degree.elements k), λ x k. (k, tt))
+meaning_rule_allowed place c (Accent side mark width) h = λ x k. accent_allowed side mark width x.element (not_forbidden mark h) k
+meaning_rule_allowed place c (Brace side mark) h = λ x k. brace_allowed side mark x.element (not_forbidden mark h) k
+meaning_rule_allowed place c (Stack side) h = λ mark k base i. stack_allowed side base.class mark.element _ k (as_base_allowed c.style base.class base i)
+meaning_rule_allowed place c StackedRelation h = λ mark k base i. (as_base_allowed c.style Relation base i, k)
+meaning_rule_allowed place c OperatorName h = (λ star given x k. k, λ x k. k)
+meaning_rule_allowed place c Negation h =
+    (λ sign_text given. text_given negated_of negated_allowed sign_text given, λ x k. struck_atom_allowed place x (struck x.atom.element) (struck_allowed x.atom.element k))
+meaning_rule_allowed place c Slash h = λ x k. slashed_allowed x (struck x.element) k (struck_allowed x.element k)
+meaning_rule_allowed place c (Sized size class) h = λ sign_text k. k
+meaning_rule_allowed place c Left h = λ opening k row i closing j. between_allowed opening closing row k j i
+meaning_rule_allowed place c Middle h = tt
+meaning_rule_allowed place c Right h = tt
+meaning_rule_allowed place c Limits h = tt
+meaning_rule_allowed place c NoLimits h = tt
+meaning_rule_allowed place c (Classed class) h = λ x k. classed_allowed class _ (as_base_allowed c.style class x k)
+
+command_allowed : (place : ℕ) (c : Context) (name : List ℕ) (meaning : Option Meaning) → Passes is_allowed_meaning meaning → IsAllowedRule (command_rule place c name meaning)
+command_allowed place c name None h = of_either IsAllowedRule (bytes_eq name (codes "\\")) tt tt
+command_allowed place c name (Some meaning) h = meaning_rule_allowed place c meaning h
+
+-- the rule of a unit
+pub rule_allowed : (place : ℕ) (c : Context) (piece : Piece) → IsAllowedPiece piece → IsAllowedRule (rule place c piece)
+rule_allowed place c Open h = λ row k. row_element_allowed row.elements k
+rule_allowed place c Close h = tt
+rule_allowed place c Space h = tt
+rule_allowed place c (Character character) h = character_allowed c character place h
+rule_allowed place c (Command name) h = command_allowed place c name (meaning_of name) (meaning_passes name)
+
+-- The digit with which an operand begins
+
+abbrev pub IsPlainStart : OperandStart → Type 0
+IsPlainStart (DigitStart digit) = IsPlain digit
+IsPlainStart start = ⊤
+
+of_start : (P : OperandStart → Type 0) (piece : Piece) → P NoStart → P GroupStart → P (start_of_digit (a_digit piece)) → P (operand_start piece)
+of_start P piece no_start group digit = of_either P _ no_start (of_either P _ group digit)
+
+digit_start_plain : (digit : Option (List ℕ)) → ((given : List ℕ) → digit ≡ Some given → IsPlain given) → IsPlainStart (start_of_digit digit)
+digit_start_plain None h = tt
+digit_start_plain (Some digit) h = h digit refl
+
+pub start_plain : (piece : Piece) → IsPlainStart (operand_start piece)
+start_plain piece = of_start IsPlainStart piece tt tt (digit_start_plain (a_digit piece) (a_digit_plain piece))
+
+-- Marks
+
+step_of_allowed : (scripts : Scripts) (below above : Option Element) (mark : Mark) → AreAllowedScripts scripts → IsAllowedStep (Some (step_of scripts below above mark))
+step_of_allowed scripts below None Prime h = h
+step_of_allowed scripts below (Some x) Prime h = tt
+step_of_allowed scripts None above Below h = λ x k. (k, h.1)
+step_of_allowed scripts (Some x) above Below h = tt
+step_of_allowed scripts below None AboveMark h = λ x k. (h.0, behind_primes_allowed scripts.primes x k)
+step_of_allowed scripts below (Some x) AboveMark h = tt
+step_of_allowed scripts below above (LimitsAt place) h = of_either (λ step. IsAllowedStep (Some step)) scripts.takes_limits h tt
+
+pub step_allowed : (scripts : Scripts) (mark : Option Mark) → AreAllowedScripts scripts → IsAllowedStep (step_of_mark scripts mark)
+step_allowed scripts None h = tt
+step_allowed scripts (Some mark) h = step_of_allowed scripts scripts.below scripts.above mark h
+
+-- Words
+
+word_space_allowed : IsAllowed (text 0xA0)
+word_space_allowed = allowed_char 0xA0 refl
+
+word_character_allowed : (alphabet : Option Alphabet) (c : ℕ) → is_forbidden c ≡ false → is_forbidden (word_character alphabet c) ≡ false
+word_character_allowed None c h =
+    of_either (λ k. is_forbidden k ≡ false) (c == byte "`") {x = 0x2018} refl (of_either (λ k. is_forbidden k ≡ false) (c == byte "'") {x = 0x2019} {y = c} refl h)
+word_character_allowed (Some alphabet) c h = in_alphabet_allowed alphabet c h
+
+of_word_character : (P : WordRule → Type 0) (alphabet : Option Alphabet) (c : ℕ) → P BeginsFormula → P (IsWord word_space) → P (NoWord (CharacterInWords c)) → P (IsWord (Shown (text (word_character alphabet c)))) → P (word_of_character alphabet c)
+of_word_character P alphabet c formula a_space no_word other = of_either P _ formula (of_either P _ a_space (of_either P _ no_word other))
+
+word_of_character_allowed : (alphabet : Option Alphabet) (c : ℕ) → is_forbidden c ≡ false → IsAllowedWordRule (word_of_character alphabet c)
+word_of_character_allowed alphabet c h =
+    of_word_character IsAllowedWordRule alphabet c tt word_space_allowed tt (allowed_char (word_character alphabet c) (word_character_allowed alphabet c h))
+
+word_of_meaning_allowed : (name : List ℕ) (meaning : Option Meaning) → Passes is_allowed_meaning meaning → IsAllowedWordRule (word_of_meaning name meaning)
+word_of_meaning_allowed name None h = of_either IsAllowedWordRule (bytes_eq name (codes "\\")) tt tt
+word_of_meaning_allowed name (Some (Shows s)) h = single_allowed InText (symbol None s).atom (symbol_allowed None s h)
+word_of_meaning_allowed name (Some (FunctionName limits own)) h = tt
+word_of_meaning_allowed name (Some (Spacing width)) h = word_space_allowed
+word_of_meaning_allowed name (Some (Styled alphabet)) h = tt
+word_of_meaning_allowed name (Some (TakesWordsIn alphabet)) h = tt
+word_of_meaning_allowed name (Some (Fraction rule own)) h = tt
+word_of_meaning_allowed name (Some Root) h = tt
+word_of_meaning_allowed name (Some (Accent side mark width)) h = tt
+word_of_meaning_allowed name (Some (Brace side mark)) h = tt
+word_of_meaning_allowed name (Some (Stack side)) h = tt
+word_of_meaning_allowed name (Some StackedRelation) h = tt
+word_of_meaning_allowed name (Some OperatorName) h = tt
+word_of_meaning_allowed name (Some Negation) h = tt
+word_of_meaning_allowed name (Some Slash) h = tt
+word_of_meaning_allowed name (Some (Sized size class)) h = tt
+word_of_meaning_allowed name (Some Left) h = tt
+word_of_meaning_allowed name (Some Middle) h = tt
+word_of_meaning_allowed name (Some Right) h = tt
+word_of_meaning_allowed name (Some Limits) h = tt
+word_of_meaning_allowed name (Some NoLimits) h = tt
+word_of_meaning_allowed name (Some (Classed class)) h = tt
+
+pub word_rule_allowed : (alphabet : Option Alphabet) (piece : Piece) → IsAllowedPiece piece → IsAllowedWordRule (word_rule alphabet piece)
+word_rule_allowed alphabet Space h = word_space_allowed
+word_rule_allowed alphabet Open h = tt
+word_rule_allowed alphabet Close h = tt
+word_rule_allowed alphabet (Character c) h = word_of_character_allowed alphabet c h
+word_rule_allowed alphabet (Command name) h =
+    of_either IsAllowedWordRule (is_escape name) h (word_of_meaning_allowed name (meaning_of name) (meaning_passes name))
+
+with_text_allowed : (ends_in_text : Bool) (more : List ℕ) (xs : List Element) → IsAllowed more → AreAllowedElements xs → AreAllowedElements (with_text ends_in_text more xs)
+with_text_allowed true more [] h k = (h, k)
+with_text_allowed true more (token t a before ∷ xs) h k = (allowed_both before more k.0 h, k.1)
+with_text_allowed true more (space width ∷ xs) h k = (h, k)
+with_text_allowed true more (container c a ys ∷ xs) h k = (h, k)
+with_text_allowed true more (pair p a y z ∷ xs) h k = (h, k)
+with_text_allowed true more (triple t a x y z ∷ xs) h k = (h, k)
+with_text_allowed false more xs h k = (h, k)
+
+pub with_word_allowed : (ws : Words) (w : Word) → AreAllowedWords ws → IsAllowedWord w → AreAllowedWords (with_word ws w)
+with_word_allowed ws (Shown more) h k = with_text_allowed ws.ends_in_text more ws.elements k h
+with_word_allowed ws (Formula x) h k = (k, h)

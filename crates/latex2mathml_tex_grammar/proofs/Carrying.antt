@@ -1,0 +1,178 @@
+-- What units come to, units come to that are alike but for white space.
+use Rattle.std.proofs.Common.{◌≡◌, ℕ, true, [], ◌∷◌, Option, refl, sym, subst, ◌∙◌}
+use Rattle.latex2mathml_tex_grammar.specs.{Atoms.Atom, Delimiters.delimiter_of, Makes.Core, Makes.Scripts, Refusal.MissingDelimiter, Refusal.Refusal, Rows.Row, Rows.Operand, Symbols.Alphabet, Words.Words}
+use Rattle.latex2mathml_tex_grammar.specs.Next.{digits_next}
+use Rattle.latex2mathml_tex_grammar.specs.Reading.{Outcome, Read, Refused, ReadsRule, rule_gives, rule_refuses, operand_read, operand_refused, core_read, core_refused, core_missing, core_stopped, atoms_read, atoms_refused, words_read, words_refused, units_taken, units_missing, digits_taken, delimiter_taken, delimiter_missing, ReadsOperand, group_operand, group_refused, digit_operand, other_operand, other_refused, no_operand, operand_at_end, operand_stopped, ReadsScripts, scripts_end, mark_taken, script_read, script_refused, mark_refused, ReadsAtom, divider_read, divider_refused, on_empty_row, base_read, base_refused, ReadsAtoms, text_ends, never_ended, atoms_stopped, atoms_end, atom_read, atom_refused, ReadsWord, word_stands, group_of_words, formula_read, formula_refused, words_in_alphabet, no_word, word_missing, word_at_end, word_stopped, ReadsWords, words_end, words_never_ended, words_stopped, word_read, word_refused}
+use Rattle.latex2mathml_tex_grammar.specs.Rules.{Context, Ending, Rule}
+use Rattle.latex2mathml_tex_grammar.specs.Spacing.{Standing, InWords, standing_behind, AreAlike, both_end, same_piece}
+use Rattle.latex2mathml_tex_grammar.specs.Starts.{is_close}
+use Rattle.latex2mathml_tex_grammar.specs.Units.{Piece, Space, Open, Close, Command, Character, Unit, unit, Units, End}
+use Rattle.latex2mathml_tex_grammar.proofs.AlikeRules.{AlikeEndings, both_braces, both_dollars, same_ends, same_start, unended_too, never_ended_too, inside, ended_behind, WordsStand, before_words, within_words, AlikeRules, gives_too, refuses_too, operand_too, core_too, atoms_too, words_too, if_too, digits_taken_too, delimiter_too, rules_too, delimiter_tests}
+use Rattle.latex2mathml_tex_grammar.proofs.Plain.{divider_plain, digit_start_plain, group_start_plain, step_plain}
+use Rattle.latex2mathml_tex_grammar.proofs.Spaces.{Front, both_next, both_ended, both_stopped, fronts, fronts_of_words, next_too, end_too, stop_too, refused_too, same_step, IsCalm, in_dollars, behind_plain, taken_too, missing_too, digits_too}
+use Rattle.latex2mathml_tex_grammar.proofs.{WordPieces.word_ends, WordPieces.formula_begins, WordPieces.words_begin, WordPieces.words_follow}
+
+-- the same is read, and the units behind it are alike, or the refusal is for the same reason
+pub data Carried {A : Type 0} (at : Standing) (reads : Outcome A → Type 0) : Outcome A → Type 0 where
+  also_read : {x : A} {l : Units} (m : Units) → AreAlike at l m → reads (Read x m) → Carried at reads (Read x l)
+  also_refused : {r : Refusal} (q : Refusal) → r.kind ≡ q.kind → reads (Refused q) → Carried at reads (Refused r)
+
+pub read_is : {A : Type 0} {at : Standing} {reads : Outcome A → Type 0} {x : A} {l : Units} → Carried at reads (Read x l) → (m : Units) × AreAlike at l m × reads (Read x m)
+read_is (also_read m h d) = (m, h, d)
+
+pub refused_is : {A : Type 0} {at : Standing} {reads : Outcome A → Type 0} {r : Refusal} → Carried at reads (Refused r) → (q : Refusal) × (r.kind ≡ q.kind) × reads (Refused q)
+refused_is (also_refused q e d) = (q, e, d)
+
+-- so it is of what comes to the same
+also : {A : Type 0} {at : Standing} {P Q : Outcome A → Type 0} {o : Outcome A} → Carried at P o → ((p : Outcome A) → P p → Q p) → Carried at Q o
+also (also_read m h d) f = also_read m h (f (Read _ m) d)
+also (also_refused q e d) f = also_refused q e (f (Refused q) d)
+
+-- units that stand the same are alike the same
+stands : {before at : Standing} {l m : Units} → before ≡ at → AreAlike before l m → AreAlike at l m
+stands {l = l} {m = m} e h = subst (λ k. AreAlike k l m) e h
+
+-- what closes is a brace
+closed : (at : Standing) (piece : Piece) {l m : Units} → is_close piece ≡ true → AreAlike (standing_behind piece at) l m → AreAlike (standing_behind Close at) l m
+closed at Close s h = h
+closed at Space s h = cc
+closed at Open s h = cc
+closed at (Command name) s h = cc
+closed at (Character c) s h = cc
+
+mutual
+  -- Where units stand in a formula all is carried over, to rules that are alike.
+  carry_rule : {at before : Standing} {r s : Rule} {l m : Units} {o : Outcome Core} → ReadsRule r l o → AlikeRules at before r s → IsCalm at → AreAlike before l m → Carried at (ReadsRule s m) o
+  carry_rule {m = m} rule_gives gives_too calm h = also_read m h rule_gives
+  carry_rule rule_refuses (refuses_too e) calm h = also_refused _ e rule_refuses
+  carry_rule (operand_read {x = x} d ds) (operand_too {q = q} same) calm h =
+      let (n, alike, e) = read_is (carry_operand q d calm h) in also (carry_rule ds (same x) calm alike) (λ p. operand_read e)
+  carry_rule (operand_refused d) (operand_too {q = q} same) calm h = (let (r, kind, e) = refused_is (carry_operand q d calm h) in also_refused r kind (operand_refused e))
+  carry_rule (core_read {c = c} {u = u} {x = x} p d ds) (core_too same) calm h =
+      let next = next_too h p in
+      let (n, alike, e) = read_is (carry_rule d (rules_too u.place next.place c u.piece calm) calm next.alike) in
+      also (carry_rule ds (same x) calm alike) (λ p. core_read next.is e)
+  carry_rule (core_refused {c = c} {u = u} p d) (core_too same) calm h =
+      let next = next_too h p in
+      let (r, kind, e) = refused_is (carry_rule d (rules_too u.place next.place c u.piece calm) calm next.alike) in
+      also_refused r kind (core_refused next.is e)
+  carry_rule (core_missing p) (core_too same) calm h = also_refused _ refl (core_missing (end_too h p).1)
+  carry_rule (core_stopped p) (core_too same) calm h = (let (q, kind, e) = stop_too h p in also_refused q kind (core_stopped e))
+  carry_rule {at = at} (atoms_read {row = row} d ds) (atoms_too ending e same) calm h =
+      let (n, alike, a) = read_is (carry_atoms at d ending (subst IsCalm e calm) (stands e h)) in also (carry_rule ds (same row) calm alike) (λ p. atoms_read a)
+  carry_rule {at = at} (atoms_refused d) (atoms_too ending e same) calm h = (let (r, kind, a) = refused_is (carry_atoms at d ending (subst IsCalm e calm) (stands e h)) in also_refused r kind (atoms_refused a))
+  carry_rule (words_read {ws = ws} d ds) (words_too {q = q} same) calm h =
+      let (n, alike, e) = read_is (carry_word q d before_words (fronts h)) in also (carry_rule ds (same ws) calm alike) (λ p. words_read e)
+  carry_rule (words_refused d) (words_too {q = q} same) calm h = (let (r, kind, e) = refused_is (carry_word q d before_words (fronts h)) in also_refused r kind (words_refused e))
+  carry_rule (units_taken {tests = tests} {texts = texts} p d) (if_too plain same other) calm h =
+      let taken = taken_too tests plain calm h p in also (carry_rule d (same texts) calm taken.alike) (λ p. units_taken taken.is)
+  carry_rule (units_missing {tests = tests} p d) (if_too plain same other) calm h = also (carry_rule d other calm h) (λ q. units_missing (missing_too tests plain calm h p))
+  carry_rule {m = m} (digits_taken {l = l} d) (digits_taken_too {g = g} same) calm h =
+      let digits = digits_too calm h in
+      also (carry_rule d (same (digits_next l).0) calm digits.alike) (λ p e. digits_taken (subst (λ t. ReadsRule (g t) (digits_next m).1 p) digits.texts e))
+  carry_rule (delimiter_taken {sign_text = sign_text} p d) (delimiter_too same) calm h =
+      let taken = taken_too (delimiter_of ∷ []) delimiter_tests calm h p in also (carry_rule d (same sign_text) calm taken.alike) (λ p. delimiter_taken taken.is)
+  carry_rule (delimiter_missing p) (delimiter_too same) calm h = also_refused _ (refused_too MissingDelimiter h) (delimiter_missing (missing_too (delimiter_of ∷ []) delimiter_tests calm h p))
+
+  -- the places of what takes it are nothing
+  carry_operand : {at : Standing} {place : ℕ} {c : Context} {l m : Units} {o : Outcome Operand} (other : ℕ) → ReadsOperand place c l o → IsCalm at → AreAlike at l m → Carried at (ReadsOperand other c m) o
+  carry_operand {at = at} other (group_operand {u = u} p s d) calm h =
+      let next = next_too h p in
+      let (n, alike, e) = read_is (carry_atoms at d both_braces calm (behind_plain u.piece (group_start_plain u.piece s) calm next.alike)) in
+      also_read n alike (group_operand next.is s e)
+  carry_operand {at = at} other (group_refused {u = u} p s d) calm h =
+      let next = next_too h p in
+      let (r, kind, e) = refused_is (carry_atoms at d both_braces calm (behind_plain u.piece (group_start_plain u.piece s) calm next.alike)) in
+      also_refused r kind (group_refused next.is s e)
+  carry_operand other (digit_operand {u = u} {digit = digit} p s) calm h =
+      let next = next_too h p in also_read next.rest (behind_plain u.piece (digit_start_plain u.piece digit s) calm next.alike) (digit_operand next.is s)
+  carry_operand other (other_operand {c = c} {u = u} p s d) calm h =
+      let next = next_too h p in
+      let (n, alike, e) = read_is (carry_rule d (rules_too u.place next.place c u.piece calm) calm next.alike) in
+      also_read n alike (other_operand next.is s e)
+  carry_operand other (other_refused {c = c} {u = u} p s d) calm h =
+      let next = next_too h p in
+      let (r, kind, e) = refused_is (carry_rule d (rules_too u.place next.place c u.piece calm) calm next.alike) in
+      also_refused r kind (other_refused next.is s e)
+  carry_operand other (no_operand p s) calm h = (let next = next_too h p in also_refused _ refl (no_operand next.is s))
+  carry_operand other (operand_at_end p) calm h = also_refused _ refl (operand_at_end (end_too h p).1)
+  carry_operand other (operand_stopped p) calm h = (let (q, kind, e) = stop_too h p in also_refused q kind (operand_stopped e))
+
+  carry_scripts : {at : Standing} {c : Context} {base : Atom} {scripts : Scripts} {l m : Units} {o : Outcome Atom} → ReadsScripts c base scripts l o → IsCalm at → AreAlike at l m → Carried at (ReadsScripts c base scripts m) o
+  carry_scripts {m = m} (scripts_end {scripts = k} s) calm h = also_read m h (scripts_end (sym (same_step k h) ∙ s))
+  carry_scripts (mark_taken {scripts = k} {u = u} p s d) calm h =
+      let next = next_too h p in also (carry_scripts d calm (behind_plain u.piece (step_plain u.piece k _ s) calm next.alike)) (λ p. mark_taken next.is s)
+  carry_scripts (script_read {scripts = k} {u = u} p s d ds) calm h =
+      let next = next_too h p in
+      let (n, alike, e) = read_is (carry_operand next.place d calm (behind_plain u.piece (step_plain u.piece k _ s) calm next.alike)) in
+      also (carry_scripts ds calm alike) (λ p. script_read next.is s e)
+  carry_scripts (script_refused {scripts = k} {u = u} p s d) calm h =
+      let next = next_too h p in
+      let (r, kind, e) = refused_is (carry_operand next.place d calm (behind_plain u.piece (step_plain u.piece k _ s) calm next.alike)) in
+      also_refused r kind (script_refused next.is s e)
+  carry_scripts (mark_refused p s) calm h = (let next = next_too h p in also_refused _ refl (mark_refused next.is s))
+
+  -- an atom of the same piece at another place
+  carry_atom : {at : Standing} {e f : Ending} {c : Context} {u : Unit} {l m : Units} {o : Outcome Atom} (place : ℕ) → ReadsAtom e c u l o → AlikeEndings e f → IsCalm at → AreAlike (standing_behind u.piece at) l m → Carried at (ReadsAtom f c (unit u.piece place) m) o
+  carry_atom {e = e} place (divider_read {u = u} s d) ending calm h =
+      let (n, alike, x) = read_is (carry_rule d (delimiter_too (λ sign_text. gives_too)) calm (behind_plain u.piece (divider_plain e u.piece s) calm h)) in
+      also_read n alike (divider_read (sym (same_start ending u.piece) ∙ s) x)
+  carry_atom {e = e} place (divider_refused {u = u} s d) ending calm h =
+      let (r, kind, x) = refused_is (carry_rule d (delimiter_too (λ sign_text. gives_too)) calm (behind_plain u.piece (divider_plain e u.piece s) calm h)) in
+      also_refused r kind (divider_refused (sym (same_start ending u.piece) ∙ s) x)
+  carry_atom place (on_empty_row {u = u} s d) ending calm h =
+      also (carry_scripts d calm (same_piece refl h)) (λ p. on_empty_row (sym (same_start ending u.piece) ∙ s))
+  carry_atom place (base_read {c = c} {u = u} s d ds) ending calm h =
+      let (n, alike, x) = read_is (carry_rule d (rules_too u.place place c u.piece calm) calm h) in
+      also (carry_scripts ds calm alike) (λ p. base_read (sym (same_start ending u.piece) ∙ s) x)
+  carry_atom place (base_refused {c = c} {u = u} s d) ending calm h =
+      let (r, kind, x) = refused_is (carry_rule d (rules_too u.place place c u.piece calm) calm h) in
+      also_refused r kind (base_refused (sym (same_start ending u.piece) ∙ s) x)
+
+  -- atoms stand inside their ending, and the units behind it where it stands
+  pub carry_atoms : {e f : Ending} {c : Context} {row : Row} {l m : Units} {o : Outcome Row} (at : Standing) → ReadsAtoms e c row l o → AlikeEndings e f → IsCalm (inside e at) → AreAlike (inside e at) l m → Carried at (ReadsAtoms f c row m) o
+  carry_atoms at (text_ends p s) ending calm h = (let (place, e) = end_too h p in also_read (End place) both_end (text_ends e (unended_too ending s)))
+  carry_atoms at (never_ended p s) ending calm h =
+      let (place, e) = end_too h p in
+      let (q, kind, t) = never_ended_too ending s in
+      also_refused q kind (never_ended e t)
+  carry_atoms at (atoms_stopped p) ending calm h = (let (q, kind, e) = stop_too h p in also_refused q kind (atoms_stopped e))
+  carry_atoms {e = e} at (atoms_end {u = u} p s) ending calm h =
+      let next = next_too h p in also_read next.rest (stands (ended_behind e u.piece s calm) next.alike) (atoms_end next.is (sym (same_ends ending u.piece) ∙ s))
+  carry_atoms {e = e} at (atom_read {u = u} p s d ds) ending calm h =
+      let next = next_too h p in
+      let (n, alike, x) = read_is (carry_atom next.place d ending calm next.alike) in
+      also (carry_atoms at ds ending calm alike) (λ p. atom_read next.is (sym (same_ends ending u.piece) ∙ s) x)
+  carry_atoms {e = e} at (atom_refused {u = u} p s d) ending calm h =
+      let next = next_too h p in
+      let (r, kind, x) = refused_is (carry_atom next.place d ending calm next.alike) in
+      also_refused r kind (atom_refused next.is (sym (same_ends ending u.piece) ∙ s) x)
+
+  -- one part of words, which is all of those before which it stands
+  carry_word : {before at : Standing} {place : ℕ} {a : Option Alphabet} {ws : Words} {l m : Units} {o : Outcome Words} (other : ℕ) → ReadsWord place a ws l o → WordsStand before at → Front before l m → Carried at (ReadsWord other a ws m) o
+  carry_word {before = before} {at = at} other (word_stands {a = a} {u = u} {w = x} s) w (both_next {m = m} place t h) =
+      also_read m (stands (word_ends a u.piece x s before at w t) h) (word_stands s)
+  carry_word {before = before} {at = at} other (group_of_words {a = a} {u = u} s d) w (both_next place t h) =
+      also (carry_words place d (fronts_of_words (stands (words_begin a u.piece s before at w) h))) (λ p. group_of_words s)
+  carry_word {before = before} {at = at} other (formula_read {a = a} {u = u} s d) w (both_next place t h) =
+      let (n, alike, e) = read_is (carry_atoms at d both_dollars in_dollars (stands (formula_begins a u.piece s before at w) h)) in
+      also_read n alike (formula_read s e)
+  carry_word {before = before} {at = at} other (formula_refused {a = a} {u = u} s d) w (both_next place t h) =
+      let (r, kind, e) = refused_is (carry_atoms at d both_dollars in_dollars (stands (formula_begins a u.piece s before at w) h)) in
+      also_refused r kind (formula_refused s e)
+  carry_word {before = before} {at = at} other (words_in_alphabet {a = a} {b = b} {u = u} s d) w (both_next place t h) =
+      also (carry_word place d before_words (fronts (stands (words_follow a b u.piece s before at w) h))) (λ p. words_in_alphabet s)
+  carry_word other (no_word s) w (both_next place t h) = also_refused _ refl (no_word s)
+  carry_word other (word_missing s) w (both_next place t h) = also_refused _ refl (word_missing s)
+  carry_word other word_at_end w both_ended = also_refused _ refl word_at_end
+  carry_word other word_stopped w (both_stopped e) = also_refused _ e word_stopped
+
+  -- words in braces end with their brace
+  carry_words : {at : Standing} {place : ℕ} {a : Option Alphabet} {ws : Words} {l m : Units} {o : Outcome Words} (other : ℕ) → ReadsWords place a ws l o → Front (InWords at) l m → Carried at (ReadsWords other a ws m) o
+  carry_words {at = at} other (words_end {u = u} s) (both_next {m = m} place t h) = also_read m (closed (InWords at) u.piece s h) (words_end s)
+  carry_words other words_never_ended both_ended = also_refused _ refl words_never_ended
+  carry_words other words_stopped (both_stopped e) = also_refused _ e words_stopped
+  carry_words other (word_read s d ds) (both_next place t h) =
+      let (n, alike, e) = read_is (carry_word other d within_words (both_next place t h)) in
+      also (carry_words other ds (fronts_of_words alike)) (λ p. word_read s e)
+  carry_words other (word_refused s d) (both_next place t h) = (let (r, kind, e) = refused_is (carry_word other d within_words (both_next place t h)) in also_refused r kind (word_refused s e))

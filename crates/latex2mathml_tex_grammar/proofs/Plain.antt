@@ -1,0 +1,187 @@
+-- The pieces that leave it as it is where units stand in a formula: all but dollar signs and what takes words.
+use Rattle.std.proofs.Common.{◌≡◌, ◌==◌, ℕ, Bool, true, false, ◌&&◌, inl, inr, List, [], ◌∷◌, Option, Some, None, codes, not, refl, sym, subst, if◌then◌else◌}
+use Rattle.std.proofs.{lemmas.Bool.cases_Bool, lemmas.Slice.Eq.bytes_eq-Decides}
+use Rattle.std.specs.{Str.byte, Str.bytes_eq}
+use Rattle.latex2mathml_tex_grammar.specs.{Commands.command_entries, Commands.meaning_of, CommandsFromM.commands_from_m, CommandsUpToL.commands_up_to_l}
+use Rattle.latex2mathml_tex_grammar.specs.Delimiters.{delimiter_characters, delimiter_commands, delimiter_of, negated_characters, negated_commands, negated_of, entry_of_name, text_of}
+use Rattle.latex2mathml_tex_grammar.specs.{Rules.a_character, Rules.a_digit}
+use Rattle.latex2mathml_tex_grammar.specs.Spacing.{takes_words}
+use Rattle.latex2mathml_tex_grammar.specs.Starts.{Mark, Prime, Below, Above, LimitsAt, Step, atom_start, DividerStart, start_of_mark, OperandStart, DigitStart, GroupStart, NoStart, operand_start, is_no_operand, is_open, start_of_digit, mark_of, step_of_mark, is_command}
+use Rattle.latex2mathml_tex_grammar.specs.{Makes.Scripts, Rules.Ending, Rules.WholeText, Rules.InBraces, Rules.InBrackets, Rules.InDollars, Rules.InDelimiters}
+use Rattle.latex2mathml_tex_grammar.specs.Units.{Piece, Space, Open, Close, Command, Character}
+use Rattle.latex2mathml_tex_grammar.proofs.Spaces.{in_formula, in_dollars, no_dollar, IsPlain, ArePlain, character_plain, digit_plain}
+
+pub open_plain : IsPlain Open
+open_plain at in_formula = refl
+open_plain at in_dollars = refl
+
+pub close_plain : IsPlain Close
+close_plain at in_formula = refl
+close_plain at in_dollars = refl
+
+-- the command takes no words
+abbrev pub TakesNone : List ℕ → Type 0
+TakesNone name = takes_words (meaning_of name) ≡ false
+
+pub takes_none : (name : List ℕ) → TakesNone name → IsPlain (Command name)
+takes_none name h at in_formula = rw h refl
+takes_none name h at in_dollars = rw h refl
+
+-- it is so of these names
+
+pub right_plain : TakesNone (codes "right")
+unfolding meaning_of command_entries commands_up_to_l commands_from_m
+right_plain = refl
+
+pub middle_plain : TakesNone (codes "middle")
+unfolding meaning_of command_entries commands_up_to_l commands_from_m
+middle_plain = refl
+
+limits_plain : TakesNone (codes "limits")
+unfolding meaning_of command_entries commands_up_to_l commands_from_m
+limits_plain = refl
+
+nolimits_plain : TakesNone (codes "nolimits")
+unfolding meaning_of command_entries commands_up_to_l commands_from_m
+nolimits_plain = refl
+
+-- and of those of tables
+
+abbrev take_none : List (List ℕ × ℕ) → Bool
+take_none [] = true
+take_none (entry ∷ entries) = not (takes_words (meaning_of entry.0)) && take_none entries
+
+delimiters_plain : take_none delimiter_commands ≡ true
+unfolding meaning_of command_entries commands_up_to_l commands_from_m delimiter_commands
+delimiters_plain = refl
+
+negated_plain : take_none negated_commands ≡ true
+unfolding meaning_of command_entries commands_up_to_l commands_from_m negated_commands
+negated_plain = refl
+
+-- a name that is equal is the same
+pub named : (key name : List ℕ) → TakesNone key → bytes_eq key name ≡ true → TakesNone name
+named key name h e = subst TakesNone ((bytes_eq-Decides key name).0 e) h
+
+pub is_named : (key name : List ℕ) → TakesNone key → bytes_eq name key ≡ true → TakesNone name
+is_named key name h e = subst TakesNone (sym ((bytes_eq-Decides name key).0 e)) h
+
+both_hold : (a b : Bool) → not a && b ≡ true → (a ≡ false) × (b ≡ true)
+both_hold true b e = cc
+both_hold false b e = (refl, e)
+
+in_table : (name found : List ℕ) (entries : List (List ℕ × ℕ)) → take_none entries ≡ true → text_of (entry_of_name entries name) ≡ Some found → TakesNone name
+in_table name found [] h e = cc
+in_table name found (entry ∷ entries) h e =
+    let both = both_hold (takes_words (meaning_of entry.0)) (take_none entries) h in
+    elim (cases_Bool (bytes_eq entry.0 name)) [
+      | inl s ↦ named entry.0 name both.0 s
+      | inr s ↦ in_table name found entries both.1 (rw s at e)
+    ]
+
+-- a dollar sign is none of them
+no_delimiter : delimiter_of (Character (byte "$")) ≡ None
+unfolding delimiter_characters
+no_delimiter = refl
+
+not_negated : negated_of (Character (byte "$")) ≡ None
+unfolding negated_characters
+not_negated = refl
+
+pub delimiter_plain : ArePlain delimiter_of
+delimiter_plain (Command name) found e = takes_none name (in_table name found delimiter_commands delimiters_plain e)
+delimiter_plain (Character c) found e = character_plain c (no_dollar (λ c. delimiter_of (Character c)) no_delimiter c found e)
+delimiter_plain Space found e = cc
+delimiter_plain Open found e = cc
+delimiter_plain Close found e = cc
+
+pub negated_of_plain : ArePlain negated_of
+negated_of_plain (Command name) found e = takes_none name (in_table name found negated_commands negated_plain e)
+negated_of_plain (Character c) found e = character_plain c (no_dollar (λ c. negated_of (Character c)) not_negated c found e)
+negated_of_plain Space found e = cc
+negated_of_plain Open found e = cc
+negated_of_plain Close found e = cc
+
+pub a_character_plain : (d : ℕ) → (byte "$" == d) ≡ false → ArePlain (a_character d)
+a_character_plain d h (Character c) found e = character_plain c (no_dollar (λ c. a_character d (Character c)) (rw h refl) c found e)
+a_character_plain d h (Command name) found e = cc
+a_character_plain d h Space found e = cc
+a_character_plain d h Open found e = cc
+a_character_plain d h Close found e = cc
+
+-- a mark is plain
+pub mark_plain : (piece : Piece) (mark : Mark) → mark_of piece ≡ Some mark → IsPlain piece
+mark_plain (Character c) mark e = character_plain c (no_dollar (λ c. mark_of (Character c)) refl c mark e)
+mark_plain Space mark e = cc
+mark_plain Open mark e = cc
+mark_plain Close mark e = cc
+mark_plain (Command name) mark e = elim (cases_Bool (bytes_eq name (codes "limits"))) [
+  | inl s ↦ takes_none name (is_named (codes "limits") name limits_plain s)
+  | inr s ↦ elim (cases_Bool (bytes_eq name (codes "nolimits"))) [
+    | inl t ↦ takes_none name (is_named (codes "nolimits") name nolimits_plain t)
+    | inr t ↦ absurd (cc (rw (s, t) at e))
+  ]
+]
+
+pub step_plain : (piece : Piece) (scripts : Scripts) (step : Step) → step_of_mark scripts (mark_of piece) ≡ Some step → IsPlain piece
+step_plain piece scripts step e = step_of (mark_of piece) refl e
+  where
+    step_of : (mark : Option Mark) → mark_of piece ≡ mark → step_of_mark scripts mark ≡ Some step → IsPlain piece
+    step_of None p e = cc
+    step_of (Some mark) p e = mark_plain piece mark p
+
+-- no mark begins a divider
+none : (mark : Option Mark) → start_of_mark mark ≡ DividerStart → ⊥
+none None e = cc
+none (Some Prime) e = cc
+none (Some Below) e = cc
+none (Some Above) e = cc
+none (Some (LimitsAt place)) e = cc
+
+-- so is what begins a divider
+pub divider_plain : (ending : Ending) (piece : Piece) → atom_start ending piece ≡ DividerStart → IsPlain piece
+divider_plain (InDelimiters place) piece e = elim (cases_Bool (is_command (codes "middle") piece)) [
+  | inl s ↦ middle_is piece s
+  | inr s ↦ absurd (none (mark_of piece) (rw s at e))
+]
+  where
+    middle_is : (piece : Piece) → is_command (codes "middle") piece ≡ true → IsPlain piece
+    middle_is (Command name) s = takes_none name (named (codes "middle") name middle_plain s)
+    middle_is (Character c) s = cc
+    middle_is Space s = cc
+    middle_is Open s = cc
+    middle_is Close s = cc
+divider_plain WholeText piece e = absurd (none (mark_of piece) e)
+divider_plain (InBraces place) piece e = absurd (none (mark_of piece) e)
+divider_plain (InBrackets place) piece e = absurd (none (mark_of piece) e)
+divider_plain (InDollars place) piece e = absurd (none (mark_of piece) e)
+
+-- How operands begin
+
+abbrev start : Bool → Bool → Option (List ℕ) → OperandStart
+start none opens digit = if none then NoStart else if opens then GroupStart else start_of_digit digit
+
+group_is : (none opens : Bool) (digit : Option (List ℕ)) → start none opens digit ≡ GroupStart → opens ≡ true
+group_is true opens digit e = cc
+group_is false true digit e = refl
+group_is false false None e = cc
+group_is false false (Some digit) e = cc
+
+digit_is : (none opens : Bool) (digit : Option (List ℕ)) {found : List ℕ} → start none opens digit ≡ DigitStart found → digit ≡ Some found
+digit_is true opens digit e = cc
+digit_is false true digit e = cc
+digit_is false false None e = cc
+digit_is false false (Some digit) e = cc
+
+open_is : (piece : Piece) → is_open piece ≡ true → IsPlain piece
+open_is Open e = open_plain
+open_is Space e = cc
+open_is Close e = cc
+open_is (Command name) e = cc
+open_is (Character c) e = cc
+
+pub group_start_plain : (piece : Piece) → operand_start piece ≡ GroupStart → IsPlain piece
+group_start_plain piece e = open_is piece (group_is (is_no_operand piece) (is_open piece) (a_digit piece) e)
+
+pub digit_start_plain : (piece : Piece) (digit : List ℕ) → operand_start piece ≡ DigitStart digit → IsPlain piece
+digit_start_plain piece digit e = digit_plain piece digit (digit_is (is_no_operand piece) (is_open piece) (a_digit piece) e)

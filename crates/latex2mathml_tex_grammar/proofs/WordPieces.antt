@@ -1,0 +1,164 @@
+-- What each piece is in words, and where the unit behind it stands.
+use Rattle.std.proofs.Common.{◌≡◌, ℕ, Bool, true, false, inl, inr, List, Option, Some, None, codes, refl, ◌==◌, if◌then◌else◌, ◌||◌}
+use Rattle.std.proofs.lemmas.Bool.{cases_Bool}
+use Rattle.std.specs.Str.{byte, bytes_eq}
+use Rattle.latex2mathml_tex_grammar.specs.{Commands.command_entries, Commands.meaning_of, CommandsFromM.commands_from_m, CommandsUpToL.commands_up_to_l}
+use Rattle.latex2mathml_tex_grammar.specs.Meaning.{Meaning, Shows, FunctionName, Spacing, Styled, Words as TakesWordsIn, Fraction, Root, Accent, Brace, Stack, StackedRelation, OperatorName, Negation, Slash, Sized, Left, Middle, Right, Limits, NoLimits, Classed}
+use Rattle.latex2mathml_tex_grammar.specs.{Next.is_space_piece, Refusal.Kind, Symbols.Alphabet}
+use Rattle.latex2mathml_tex_grammar.specs.Spacing.{Standing, BeforeWords, InWords, BetweenDollars, standing_behind, is_in_words, takes_words}
+use Rattle.latex2mathml_tex_grammar.specs.Units.{Piece, Space, Open, Close, Command, Character}
+use Rattle.latex2mathml_tex_grammar.specs.Words.{Word, WordRule, IsWord, BeginsGroup, EndsGroup, BeginsFormula, TakesWords, NoWord, word_rule, meaning_rule, is_escape}
+use Rattle.latex2mathml_tex_grammar.proofs.{AlikeRules.WordsStand, AlikeRules.before_words, AlikeRules.within_words, Plain.TakesNone, Plain.is_named}
+
+-- the piece is all of the words before which it stands, or one part of those in braces
+abbrev pub EndsWord : Piece → Type 0
+EndsWord piece = (before at : Standing) → WordsStand before at → (is_in_words before ≡ false → is_space_piece piece ≡ false) → standing_behind piece before ≡ at
+
+character_ends : (c : ℕ) → (c == byte "$") ≡ false → EndsWord (Character c)
+character_ends c h before at before_words s = rw h refl
+character_ends c h before at within_words s = rw h refl
+
+-- a dollar sign begins a formula, behind which words stand as said
+dollar_begins : (c : ℕ) → (c == byte "$") ≡ true → (before at : Standing) → WordsStand before at → standing_behind (Character c) before ≡ BetweenDollars at
+dollar_begins c h before at before_words = rw h refl
+dollar_begins c h before at within_words = rw h refl
+
+space_ends : EndsWord Space
+space_ends before at before_words s = cc (s refl)
+space_ends before at within_words s = refl
+
+command_ends : (name : List ℕ) → TakesNone name → EndsWord (Command name)
+command_ends name h before at before_words s = rw h refl
+command_ends name h before at within_words s = rw h refl
+
+-- what a piece is in words
+data InAWord : Piece → WordRule → Type 0 where
+  a_word : {piece : Piece} {w : Word} → EndsWord piece → InAWord piece (IsWord w)
+  a_formula : {c : ℕ} → (c == byte "$") ≡ true → InAWord (Character c) BeginsFormula
+  more_words : {name : List ℕ} {a : Option Alphabet} → takes_words (meaning_of name) ≡ true → InAWord (Command name) (TakesWords a)
+  no_word_here : {piece : Piece} {kind : Kind} → InAWord piece (NoWord kind)
+  opens : InAWord Open BeginsGroup
+  closes : InAWord Close EndsGroup
+
+-- the names that are one character in words take none
+escape_plain : (name : List ℕ) → is_escape name ≡ true → TakesNone name
+unfolding meaning_of command_entries commands_up_to_l commands_from_m
+escape_plain name h = elim (cases_Bool (bytes_eq name (codes "%"))) [
+  | inl s ↦ is_named (codes "%") name refl s
+  | inr s ↦ elim (cases_Bool (bytes_eq name (codes "_"))) [
+    | inl s1 ↦ is_named (codes "_") name refl s1
+    | inr s1 ↦ elim (cases_Bool (bytes_eq name (codes "&"))) [
+      | inl s2 ↦ is_named (codes "&") name refl s2
+      | inr s2 ↦ elim (cases_Bool (bytes_eq name (codes "#"))) [
+        | inl s3 ↦ is_named (codes "#") name refl s3
+        | inr s3 ↦ elim (cases_Bool (bytes_eq name (codes "$"))) [
+          | inl s4 ↦ is_named (codes "$") name refl s4
+          | inr s4 ↦ elim (cases_Bool (bytes_eq name (codes "{"))) [
+            | inl s5 ↦ is_named (codes "{") name refl s5
+            | inr s5 ↦ elim (cases_Bool (bytes_eq name (codes "}"))) [
+              | inl s6 ↦ is_named (codes "}") name refl s6
+              | inr s6 ↦ absurd (cc (rw (s, s1, s2, s3, s4, s5, s6) at h))
+            ]
+          ]
+        ]
+      ]
+    ]
+  ]
+]
+
+unknown : {name : List ℕ} (kind other : Kind) (b : Bool) → InAWord (Command name) (if b then NoWord kind else NoWord other)
+unknown kind other true = no_word_here
+unknown kind other false = no_word_here
+
+by_meaning : (name : List ℕ) (meaning : Option Meaning) → meaning_of name ≡ meaning → InAWord (Command name) (meaning_rule name meaning)
+by_meaning name None e = unknown _ _ (bytes_eq name (codes "\\"))
+by_meaning name (Some (Shows s)) e = a_word (command_ends name (rw e refl))
+by_meaning name (Some (FunctionName limits own)) e = no_word_here
+by_meaning name (Some (Spacing width)) e = a_word (command_ends name (rw e refl))
+by_meaning name (Some (Styled alphabet)) e = no_word_here
+by_meaning name (Some (TakesWordsIn alphabet)) e = more_words (rw e refl)
+by_meaning name (Some (Fraction bar own)) e = no_word_here
+by_meaning name (Some Root) e = no_word_here
+by_meaning name (Some (Accent side mark width)) e = no_word_here
+by_meaning name (Some (Brace side mark)) e = no_word_here
+by_meaning name (Some (Stack side)) e = no_word_here
+by_meaning name (Some StackedRelation) e = no_word_here
+by_meaning name (Some OperatorName) e = no_word_here
+by_meaning name (Some Negation) e = no_word_here
+by_meaning name (Some Slash) e = no_word_here
+by_meaning name (Some (Sized size class)) e = no_word_here
+by_meaning name (Some Left) e = no_word_here
+by_meaning name (Some Middle) e = no_word_here
+by_meaning name (Some Right) e = no_word_here
+by_meaning name (Some Limits) e = no_word_here
+by_meaning name (Some NoLimits) e = no_word_here
+by_meaning name (Some (Classed class)) e = no_word_here
+
+-- one or the other
+either : {piece : Piece} {r s : WordRule} (b : Bool) → (b ≡ true → InAWord piece r) → (b ≡ false → InAWord piece s) → InAWord piece (if b then r else s)
+either true x y = x refl
+either false x y = y refl
+
+in_a_word : (a : Option Alphabet) (piece : Piece) → InAWord piece (word_rule a piece)
+in_a_word a Space = a_word space_ends
+in_a_word a Open = opens
+in_a_word a Close = closes
+in_a_word a (Character c) =
+    either (c == byte "$") a_formula (λ h.
+    either (c == byte "~") (λ e. a_word (character_ends c h)) (λ e.
+    either (c == byte "_" || c == byte "^" || c == byte "&" || c == byte "#") (λ e. no_word_here) (λ e. a_word (character_ends c h))))
+in_a_word a (Command name) = either (is_escape name) (λ e. a_word (command_ends name (escape_plain name e))) (λ e. by_meaning name (meaning_of name) refl)
+
+word_is : {piece : Piece} {r : WordRule} {w : Word} → InAWord piece r → r ≡ IsWord w → EndsWord piece
+word_is (a_word ends) e = ends
+word_is (a_formula ends) e = cc
+word_is (more_words h) e = cc
+word_is no_word_here e = cc
+word_is opens e = cc
+word_is closes e = cc
+
+formula_is : {piece : Piece} {r : WordRule} → InAWord piece r → r ≡ BeginsFormula → (before at : Standing) → WordsStand before at → standing_behind piece before ≡ BetweenDollars at
+formula_is (a_word ends) e before at w = cc
+formula_is (a_formula {c = c} h) e before at w = dollar_begins c h before at w
+formula_is (more_words h) e before at w = cc
+formula_is no_word_here e before at w = cc
+formula_is opens e before at w = cc
+formula_is closes e before at w = cc
+
+group_begins : (before at : Standing) → WordsStand before at → standing_behind Open before ≡ InWords at
+group_begins before at before_words = refl
+group_begins before at within_words = refl
+
+group_is : {piece : Piece} {r : WordRule} → InAWord piece r → r ≡ BeginsGroup → (before at : Standing) → WordsStand before at → standing_behind piece before ≡ InWords at
+group_is (a_word ends) e before at w = cc
+group_is (a_formula h) e before at w = cc
+group_is (more_words h) e before at w = cc
+group_is no_word_here e before at w = cc
+group_is opens e before at w = group_begins before at w
+group_is closes e before at w = cc
+
+more_begin : (name : List ℕ) → takes_words (meaning_of name) ≡ true → (before at : Standing) → WordsStand before at → standing_behind (Command name) before ≡ BeforeWords at
+more_begin name h before at before_words = rw h refl
+more_begin name h before at within_words = rw h refl
+
+words_are : {piece : Piece} {r : WordRule} {b : Option Alphabet} → InAWord piece r → r ≡ TakesWords b → (before at : Standing) → WordsStand before at → standing_behind piece before ≡ BeforeWords at
+words_are (a_word ends) e before at w = cc
+words_are (a_formula h) e before at w = cc
+words_are (more_words {name = name} h) e before at w = more_begin name h before at w
+words_are no_word_here e before at w = cc
+words_are opens e before at w = cc
+words_are closes e before at w = cc
+
+-- So it is of the unit behind each piece.
+
+pub word_ends : (a : Option Alphabet) (piece : Piece) (w : Word) → word_rule a piece ≡ IsWord w → EndsWord piece
+word_ends a piece w e = word_is (in_a_word a piece) e
+
+pub formula_begins : (a : Option Alphabet) (piece : Piece) → word_rule a piece ≡ BeginsFormula → (before at : Standing) → WordsStand before at → standing_behind piece before ≡ BetweenDollars at
+formula_begins a piece e before at w = formula_is (in_a_word a piece) e before at w
+
+pub words_begin : (a : Option Alphabet) (piece : Piece) → word_rule a piece ≡ BeginsGroup → (before at : Standing) → WordsStand before at → standing_behind piece before ≡ InWords at
+words_begin a piece e before at w = group_is (in_a_word a piece) e before at w
+
+pub words_follow : (a b : Option Alphabet) (piece : Piece) → word_rule a piece ≡ TakesWords b → (before at : Standing) → WordsStand before at → standing_behind piece before ≡ BeforeWords at
+words_follow a b piece e before at w = words_are (in_a_word a piece) e before at w

@@ -1,0 +1,83 @@
+-- The formulas of an input, and the replies to them.
+use Rattle.std.proofs.Common.{◌≡◌, ◌≢◌, ◌==◌, ℕ, ◌<◌, false, true, true-eqb, List, [], ◌∷◌, ◌++◌, length, refl, sym, ap, subst, arith, append-nil, append_assoc, slice_index_or}
+use Rattle.std.proofs.lemmas.Grind.{common_steps}
+use Rattle.latex2mathml_tex_grammar.specs.Symbols.{Style}
+use Rattle.latex2mathml_tex_program.specs.Replies.{AreFormulas, AreReplies, IsReply, IsWithoutNul, no_formula, unended, ended, no_reply, one_more}
+
+-- a text of which no byte is a NUL
+pub nul_free : (text : List ℕ) → ((i : ℕ) → i < length text → slice_index_or text i 0 ≢ 0) → IsWithoutNul text
+nul_free text other = record { none = λ before after is. holds before after is }
+  where
+    holds : (before after : List ℕ) → text ≢ before ++ 0 ∷ after
+    holds before after is =
+        let there : slice_index_or (before ++ 0 ∷ after) (length before) 0 ≡ 0 = grind (arith, common_steps) in
+        let inside : length before < length (before ++ 0 ∷ after) = grind (arith, common_steps) in
+        other (length before) (rw is inside) (rw is there)
+
+-- a text that is not at its end, and one that is
+pub some_left : (rest : List ℕ) → false ≡ (length rest == 0) → rest ≢ []
+some_left [] is = absurd (let k : false ≡ true = is in cc)
+some_left (b ∷ rest) is = λ e. absurd (let k : length (b ∷ rest) ≡ 0 = ap length e in omega arith)
+
+pub none_left : (rest : List ℕ) → true ≡ (length rest == 0) → rest ≡ []
+none_left [] is = refl
+none_left (b ∷ rest) is = absurd (let k : length (b ∷ rest) ≡ 0 = true-eqb _ _ is in omega arith)
+
+-- What was replied so far are the replies to the first formulas of the text, and behind these it has whatever formulas the rest
+-- of it has.
+pub record AreRepliedSoFar (text : List ℕ) (style : Style) (replies rest : List ℕ) : Type 0 where
+  pub formulas : List (List ℕ)
+  pub replied : AreReplies formulas style replies
+  pub others : (more : List (List ℕ)) → AreFormulas rest more → AreFormulas text (formulas ++ more)
+
+-- nothing was replied
+pub none_replied : (text : List ℕ) (style : Style) → AreRepliedSoFar text style [] text
+none_replied text style = record { formulas = []; replied = no_reply; others = λ more is. is }
+
+-- one more reply
+one_behind : (formulas : List (List ℕ)) (style : Style) (replies tex reply : List ℕ)
+    → AreReplies formulas style replies → IsReply tex style reply → AreReplies (formulas ++ tex ∷ []) style (replies ++ reply)
+one_behind [] style [] tex reply no_reply is =
+    subst (λ l. AreReplies (tex ∷ []) style l) (append-nil reply) (one_more is no_reply)
+one_behind [] style (_ ∷ _) tex reply none is = elim none [ ]
+one_behind (first ∷ formulas) style all tex reply (one_more {reply = said} {replies = replies} of_first others) is =
+    subst (λ l. AreReplies (first ∷ (formulas ++ tex ∷ [])) style l) (sym (append_assoc said replies reply))
+    (one_more of_first (one_behind formulas style replies tex reply others is))
+
+-- a formula that a NUL ends was replied to
+pub more_replied : (text : List ℕ) (style : Style) (replies rest tex more reply : List ℕ)
+    → AreRepliedSoFar text style replies rest
+    → rest ≡ tex ++ 0 ∷ more
+    → IsWithoutNul tex
+    → IsReply tex style reply
+    → AreRepliedSoFar text style (replies ++ reply) more
+more_replied text style replies rest tex more reply so_far parts free is = record {
+  formulas = so_far.formulas ++ tex ∷ [];
+  replied = one_behind so_far.formulas style replies tex reply so_far.replied is;
+  others = λ others are. subst (AreFormulas text) (sym (append_assoc so_far.formulas (tex ∷ []) others))
+      (so_far.others (tex ∷ others) (subst (λ l. AreFormulas l (tex ∷ others)) (sym parts) (ended free are)));
+}
+
+-- the text is at its end
+pub all_replied : (text : List ℕ) (style : Style) (replies rest : List ℕ)
+    → AreRepliedSoFar text style replies rest
+    → rest ≡ []
+    → (formulas : List (List ℕ)) × AreFormulas text formulas × AreReplies formulas style replies
+all_replied text style replies rest so_far is = (
+  so_far.formulas,
+  subst (AreFormulas text) (append-nil so_far.formulas) (so_far.others [] (subst (λ l. AreFormulas l []) (sym is) no_formula)),
+  so_far.replied,
+)
+
+-- .. or one more formula stands there, which no NUL ends
+pub last_replied : (text : List ℕ) (style : Style) (replies rest reply : List ℕ)
+    → AreRepliedSoFar text style replies rest
+    → rest ≢ []
+    → IsWithoutNul rest
+    → IsReply rest style reply
+    → (formulas : List (List ℕ)) × AreFormulas text formulas × AreReplies formulas style (replies ++ reply)
+last_replied text style replies rest reply so_far some free is = (
+  so_far.formulas ++ rest ∷ [],
+  so_far.others (rest ∷ []) (unended some free),
+  one_behind so_far.formulas style replies rest reply so_far.replied is,
+)

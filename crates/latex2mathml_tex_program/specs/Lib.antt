@@ -1,0 +1,5 @@
+pub mod Exits
+pub mod Faults
+pub mod Replies
+pub mod Requests
+pub mod Runs

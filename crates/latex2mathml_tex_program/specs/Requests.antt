@@ -1,0 +1,68 @@
+-- What the words of the command line ask for. The first of them is the program's name.
+use Rattle.std.specs.Prelude.{◌≡◌, ◌≢◌, ℕ, Bool, true, false, List, [], ◌∷◌, Option, Some, None, Result, IfOk, codes, map}
+use Rattle.clap.specs.Words.{App, FailsBy, Row, Rule, Text, fault_of, first_of, matches_of, new_app, new_rule, one_of, with_rule}
+use Rattle.clap.specs.Simple.{on_top}
+use Rattle.clap.specs.declared.error.{Error.Error, kind.ErrorKind.ErrorKind}
+use Rattle.clap.specs.declared.error.kind.ErrorKind.TheVariants.{DisplayHelp, DisplayVersion, OutOfMemory}
+use Rattle.clap.specs.declared.builder.action.ArgAction.TheVariants.{SetTrue}
+use Rattle.clap.specs.declared.builder.value_parser.ValueParser.{ValueParser}
+use Rattle.clap.specs.declared.builder.value_parser.ValueParser.TheVariants.{Names}
+use Rattle.latex2mathml_tokens.specs.declared.DisplayStyle.{DisplayStyle}
+use Rattle.latex2mathml_tokens.specs.declared.DisplayStyle.TheVariants.{Block, Inline}
+use Rattle.latex2mathml_tex_program.specs.declared.request.Request.{Request}
+
+-- the parser takes one of two words
+abbrev pub IsChoice : ValueParser → Type 0
+IsChoice (Names names) = map (λ name. name.now) names.now ≡ codes "inline" ∷ codes "block" ∷ []
+IsChoice parser = ⊥
+
+-- `--display DISPLAY`, which is `inline` where it is not given
+abbrev pub display_rule : ValueParser → Rule
+display_rule choice = record (new_rule (codes "display")) {
+  long = Some (codes "display");
+  value_names = 1;
+  defaults = codes "inline" ∷ [];
+  parser = Some choice;
+}
+
+-- `--null`
+abbrev pub null_rule : Rule
+null_rule = record (new_rule (codes "null")) {
+  long = Some (codes "null");
+  action = Some SetTrue;
+}
+
+-- the program, as far as its words are read
+abbrev pub program : ValueParser → App
+program choice =
+    with_rule (with_rule (on_top (λ s. record s { has_version = true }) (new_app (codes "tex2mathml"))) (display_rule choice)) null_rule
+
+-- the value of `--display` asks for this style. It is one of two, as the parse has checked.
+abbrev pub IsDisplay : Option Text → DisplayStyle → Type 0
+IsDisplay value Block = value ≡ Some (codes "block")
+IsDisplay value Inline = value ≢ Some (codes "block")
+
+-- the value of `--null` asks for many formulas, or for one
+abbrev pub IsMany : Option Text → Bool → Type 0
+IsMany None is_many = is_many ≡ false
+IsMany (Some text) is_many = (text ≡ codes "true" → is_many ≡ true) × (text ≡ codes "false" → is_many ≡ false)
+
+-- what was found of the arguments asks for this
+abbrev pub IsAsked : List Row → Request → Type 0
+IsAsked rows request = IsDisplay (first_of (codes "display") rows) request.display × IsMany (one_of (codes "null") rows) request.is_many
+
+-- The answer to the words: the request, or an error whose kind says what is wrong with them or what else they ask for. Memory
+-- may be wanting in place of anything.
+abbrev pub IsRequested : List Text → Result Request Error → Type 0
+IsRequested words result =
+    (choice : ValueParser)
+    × IsChoice choice
+    × FailsBy (fault_of (program choice) words) result
+    × IfOk result (IsAsked (matches_of (program choice) words))
+
+-- the exit status for an error of this kind
+abbrev pub status_of_kind : ErrorKind → ℕ
+status_of_kind DisplayHelp = 0
+status_of_kind DisplayVersion = 0
+status_of_kind OutOfMemory = 1
+status_of_kind kind = 2

@@ -1,0 +1,12 @@
+//! What the program `tex2mathml` does, over any streams.
+#![tactic(auto)]
+
+mod fault;
+mod reply;
+mod request;
+mod serving;
+
+pub use fault::Fault;
+pub use reply::{line, replies};
+pub use request::{Request, requested, status_of_error};
+pub use serving::{run, serve};

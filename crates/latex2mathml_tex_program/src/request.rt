@@ -1,0 +1,77 @@
+//! What the arguments ask for.
+ghost use Rattle.std.specs.Prelude.{◌≡◌, codes, map, string_bytes};
+ghost use Rattle.clap.specs.Words.{first_value, found_of, kind_of, one_text};
+ghost use Rattle.latex2mathml_tex_program.specs.Requests.{IsDisplay, IsMany, IsRequested, status_of_kind};
+
+use clap::error::ErrorKind;
+use clap::{Arg, ArgAction, ArgMatches, Command, Error};
+use latex2mathml_tex::DisplayStyle;
+use std::alloc::Global;
+
+/// What the program is asked for.
+#[derive(Debug, Clone, Copy, PartialEq, Eq)]
+pub struct Request {
+    /// Whether the formulas stand in a line of text or on a line of their own.
+    pub display: DisplayStyle,
+    /// Whether the input holds many formulas, with a NUL after each.
+    pub is_many: bool,
+}
+
+/// Returns what the arguments ask for. The first of them is the program's name.
+///
+/// # Errors
+///
+/// If they are wrong, or ask for the help or the version: the error's text is then what is to be printed.
+pub fn requested(alloc: Global, words: &[String]) -> Result<Request, Error>
+    ensures { IsRequested (map string_bytes words.now) result }
+{
+    let display = Arg::new(alloc, "display")
+        .long("display")
+        .value_name("DISPLAY")
+        .value_parser(["inline", "block"].as_slice())
+        .default_value("inline")
+        .help("Whether the formula stands in a line of text or on a line of its own");
+    let null = Arg::new(alloc, "null")
+        .long("null")
+        .action(ArgAction::SetTrue)
+        .help("Read many formulas, with a NUL between them, and end each reply with a NUL");
+    let command = Command::new(alloc, "tex2mathml")
+        .version("0.3.0")
+        .about("Turns a LaTeX formula on standard input into MathML on standard output")
+        .arg(display)?
+        .arg(null)?;
+    let matches = command.try_get_matches_from(words)?;
+    Ok(Request {
+        display: display_in(&matches),
+        is_many: is_many_in(&matches),
+    })
+}
+
+/// Returns the value of `--display`.
+fn display_in(matches: &ArgMatches) -> DisplayStyle
+    ensures { IsDisplay (first_value (found_of matches.now) (codes "display")) result }
+{
+    match matches.get_str("display") {
+        Some("block") => DisplayStyle::Block,
+        _ => DisplayStyle::Inline,
+    }
+}
+
+/// Returns the value of `--null`.
+fn is_many_in(matches: &ArgMatches) -> bool
+    ensures { IsMany (one_text (found_of matches.now) (codes "null")) result }
+{
+    matches.get_flag("null")
+}
+
+/// Returns the exit status for an error that is printed in place of a run: 0 if it is the help or the version, 1 if memory ran
+/// out, and 2 if the arguments are wrong.
+pub fn status_of_error(error: &Error) -> u8
+    ensures { result ≡ status_of_kind (kind_of error.now) }
+{
+    match error.kind() {
+        ErrorKind::DisplayHelp | ErrorKind::DisplayVersion => 0,
+        ErrorKind::OutOfMemory => 1,
+        _ => 2,
+    }
+}

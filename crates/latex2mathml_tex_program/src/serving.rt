@@ -1,0 +1,98 @@
+//! A run of the program, from its input to its exit status.
+ghost use Rattle.std.specs.Prelude.{◌≡◌, ◌++◌, ℕ, [], IfErr, IfOk, IfSome, IsTrue, List, codes, string_bytes};
+ghost use Rattle.std.specs.Io.KnownBytes.{IsAtEnd};
+ghost use Rattle.latex2mathml.specs.Streams.{CanGoOn};
+ghost use Rattle.latex2mathml_tex.specs.Errors.{refusal_of};
+ghost use Rattle.latex2mathml_tex_program.specs.{Exits.IsServed, Exits.LinePrinted, Faults.fault_line};
+ghost use Rattle.latex2mathml_tex_program.specs.Runs.{IsMade, IsNotMade, IsRun};
+
+use crate::fault::Fault;
+use crate::reply::{line, replies};
+use crate::request::Request;
+use latex2mathml::{Sink, Source, read_text, write_text};
+use latex2mathml_tex::TexError;
+use std::alloc::{AllocError, Global};
+
+const DONE: u8 = 0;
+
+const STOPPED: u8 = 1;
+
+/// Does what was asked for, and returns the exit status: 0, or 1 if the run stopped. `errors` then gets a line that says why.
+/// If memory for the line runs out, it is left out. If `errors` does not take the line completely, the status stays 1.
+pub fn serve<R: Source, W: Sink, E: Sink>(
+    alloc: Global,
+    request: Request,
+    input: &mut R,
+    output: &mut W,
+    errors: &mut E,
+) -> u8
+    requires input { CanGoOn (R.state input.old) }
+    requires output { CanGoOn (W.state output.old) }
+    requires errors { CanGoOn (E.state errors.old) }
+    ensures served { IsServed request (R.state input.old) (R.state input.new)
+        (W.state output.old) (W.state output.new)
+        (E.state errors.old) (E.state errors.new) result }
+    ensures all_read { IsTrue (R.state input.new).ended → IsAtEnd (R.state input.new).bytes }
+{
+    match run(alloc, request, input, output) {
+        Ok(()) => DONE,
+        Err(fault) => {
+            put_fault(alloc, errors, &fault);
+            STOPPED
+        }
+    }
+}
+
+/// Converts all of the input, and writes the result to the output: the markup of the formula with a line feed, or a reply to
+/// each formula. Neither stream may have failed or ended before the call.
+///
+/// # Errors
+///
+/// - [`Fault::File`] if the input failed or is not UTF-8, or if the output stopped. It then took the first bytes of the result.
+/// - [`Fault::Refused`] if the formula is refused, or memory runs out. Nothing was written then.
+pub fn run<R: Source, W: Sink>(
+    alloc: Global,
+    request: Request,
+    input: &mut R,
+    output: &mut W,
+) -> Result<(), Fault>
+    requires input { CanGoOn (R.state input.old) }
+    requires output { CanGoOn (W.state output.old) }
+    ensures outcome { IsRun request (R.state input.old) (R.state input.new)
+        (W.state output.old) (W.state output.new) result }
+    ensures all_read { IsTrue (R.state input.new).ended → IsAtEnd (R.state input.new).bytes }
+{
+    let text = match read_text(alloc, input) {
+        Ok(text) => text,
+        Err(fault) => return Err(Fault::File(fault)),
+    };
+    let product = match product(alloc, request, text.as_str()) {
+        Ok(product) => product,
+        Err(error) => return Err(Fault::Refused(error)),
+    };
+    match write_text(output, product.as_str()) {
+        Ok(()) => Ok(()),
+        Err(fault) => Err(Fault::File(fault)),
+    }
+}
+
+/// Returns what is to be put out for a text.
+fn product(alloc: Global, request: Request, text: &str) -> Result<String, TexError>
+    ensures made { IfOk result (λ product. IsMade request text.now (string_bytes product)) }
+    ensures refusal { IfErr result (λ error. IfSome (refusal_of error) (IsNotMade request text.now)) }
+{
+    if request.is_many {
+        return Ok(replies(alloc, text, request.display)?);
+    }
+    line(alloc, text, request.display)
+}
+
+/// Writes the line that reports the fault, if there is memory for it.
+fn put_fault<E: Sink>(alloc: Global, errors: &mut E, fault: &Fault)
+    requires { CanGoOn (E.state errors.old) }
+    ensures put { LinePrinted (fault_line fault.now) (E.state errors.old) (E.state errors.new) }
+{
+    if let Ok(line) = format!(in alloc; "tex2mathml: {fault}\n") {
+        let _ = write_text(errors, line.as_str());
+    }
+}
