@@ -31,6 +31,8 @@ def answers_of_program(command, formulas):
 
 
 def answers_of_katex(folder, formulas):
+    if not Path(folder, "package.json").is_file():
+        sys.exit(f"compare_with_katex.py: there is no KaTeX in {folder}: Debian's package `katex` has it, or --katex names its folder")
     run = subprocess.run(["node", HERE / "katex.js", folder], input=json.dumps(formulas), stdout=subprocess.PIPE, text=True, check=True)
     return json.loads(run.stdout)
 

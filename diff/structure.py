@@ -8,6 +8,7 @@ Two programs that read a formula alike may still write other elements for it. Th
 - of a number, or of what a closing bracket ends, the last sign alone has the scripts, as in TeX;
 - a sign that has several characters, as the accents have, is one of them.
 """
+import re
 import unicodedata
 import xml.etree.ElementTree as xml
 
@@ -17,6 +18,7 @@ TEXTS = {"mi", "mo", "mn", "mtext", "ms"}
 # where the subscript and the superscript stand among the children
 SCRIPTS = {"msub": (1, None), "munder": (1, None), "msup": (None, 1), "mover": (None, 1), "msubsup": (1, 2), "munderover": (1, 2)}
 CLOSING = set(")]}\u27e9")
+NUMBER = re.compile(r"\d*\.?\d+")
 INVISIBLE = dict.fromkeys(map(ord, "\u2061\u2062\u2063\u2064\u200b\u200c\u200d\ufe0e\ufe0f"))
 ALIKE = str.maketrans({
     "\u2212": "-", "\u2010": "-", "\u2217": "*", "\u22c6": "*", "\u2236": ":", "\u2044": "/", "\u2215": "/",
@@ -49,9 +51,10 @@ def parts(element):
     name = element.tag.rpartition("}")[2]
     if name in NOTHING:
         return []
-    if name in TEXTS:
+    if name in TEXTS and not len(element):
         return [text(element)]
-    if name in TRANSPARENT:
+    # KaTeX puts a sign with something above it into a token
+    if name in TRANSPARENT or name in TEXTS:
         return row(element)
     if name in SCRIPTS:
         return scripted(element, *SCRIPTS[name])
@@ -83,7 +86,7 @@ def scripted(element, lower, upper):
 
 def parted(base):
     """The base without its last sign, and that sign, where the base is a number or ends with a closing bracket."""
-    if not base or not isinstance(base[-1], str) or not (base[-1][-1:] in CLOSING or len(base) == 1 and base[0].isdecimal()):
+    if not base or not isinstance(base[-1], str) or not (base[-1][-1:] in CLOSING or len(base) == 1 and NUMBER.fullmatch(base[0])):
         return (), base
     return (*base[:-1], *filter(None, [base[-1][:-1]])), (base[-1][-1],)
 

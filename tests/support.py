@@ -43,6 +43,12 @@ def program():
 
 
 @functools.cache
+def tex_program():
+    """The path of the program `tex2mathml`, which is built first in the same way."""
+    return build("latex2mathml_tex_app")
+
+
+@functools.cache
 def build(crate):
     """The path of the built program of a crate, or of its static library."""
     with once(crate), open(os.environ.get(SCREEN, "/dev/stderr"), "ab", buffering=0) as screen:

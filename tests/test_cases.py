@@ -1,9 +1,10 @@
-"""Gives each case of `cases/` to the built program and to the library for C. Each case is a test, named by its line."""
+"""Gives each case of `cases/` to the built programs and to the library for C. Each case is a test, named by its line."""
+import functools
 import unittest
 
 from tests import cases
 from tests.answers import WAYS, AnswerCase, Code, show
-from tests.support import build, run, scratch
+from tests.support import build, run, scratch, tex_program
 
 WHITE_SPACE = [space * count for space in (b" ", b"\t", b"\n", b"\r") for count in (1, 1000)]
 NO_WHITE_SPACE = ["\u000c".encode(), "\u00a0".encode()]
@@ -55,6 +56,36 @@ class CaseOfFile(AnswerCase):
                 self.assertEqual(found[f"{name.removesuffix('s')}s"], count, f"{case.place}: {name}")
 
 
+    def tex_formula(self, case):
+        self.tex_inline(case)
+        self.tex_block(case)
+
+    def tex_inline(self, case):
+        self.assertEqual(tex_reply(case, "inline"), b"mathml\n" + cases.math("inline", case.answer), case.place)
+
+    def tex_block(self, case):
+        self.assertEqual(tex_reply(case, "block"), b"mathml\n" + cases.math("block", case.answer), case.place)
+
+    def tex_refusal(self, case):
+        for display in ("inline", "block"):
+            self.assertEqual(tex_reply(case, display), b"error\n" + case.answer, case.place)
+
+
+@functools.cache
+def tex_replies(name, display):
+    """What `tex2mathml` replies to each formula of a file of cases, which it is given all at once."""
+    formulas = [case.input for case in cases.read(name)]
+    done = run([tex_program(), "--null", "--display", display], stdin=b"".join(it + b"\0" for it in formulas))
+    *replies, rest = done.stdout.split(b"\0")
+    if done.returncode or done.stderr or rest or len(replies) != len(formulas):
+        raise RuntimeError(f"status {done.returncode}, {len(replies)} replies to {len(formulas)} formulas: {done.stderr.decode()}")
+    return dict(zip(formulas, replies))
+
+
+def tex_reply(case, display):
+    return tex_replies(str(case.first.path.relative_to(cases.CASES)), display)[case.input]
+
+
 def code_of(case):
     """The code of the library for C for a refused text."""
     try:
@@ -72,6 +103,10 @@ KINDS = [
     ("document_refusals.txt", CaseOfFile.refused_document),
     ("white_space.txt", CaseOfFile.white_space),
     ("counts.txt", CaseOfFile.counts),
+    ("tex/*.txt", CaseOfFile.tex_formula),
+    ("tex_inline.txt", CaseOfFile.tex_inline),
+    ("tex_block.txt", CaseOfFile.tex_block),
+    ("tex_refusals.txt", CaseOfFile.tex_refusal),
 ]
 
 

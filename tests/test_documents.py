@@ -7,13 +7,13 @@ import unittest
 
 from tests import cases
 from tests.integration import answer_of
-from tests.support import ROOT, Case, program, requires, run, scratch
+from tests.support import ROOT, Case, program, requires, run, scratch, tex_program
 from tools import quotes, specs
 
 # the most words that a sentence may have
 LONGEST = 35
 
-README_LINES = 130
+README_LINES = 155
 
 
 def documents():
@@ -183,6 +183,14 @@ class Readme(Case):
         self.assertIsNotNone(shown)
         done = run([program(), shown[2]], stdin=shown[1].encode())
         self.expect(done, status=1, stdout=b"", stderr=f"{shown[3]}\n".encode())
+
+    def test_its_second_formula_and_refusal_are_those_that_it_shows(self):
+        shown = re.search(r"^    printf '(.*)' \| \./tex2mathml\n\nprints\n\n    (.*)\n", self.text, re.M)
+        self.expect(run([tex_program()], stdin=shown[1].encode()), stdout=f"{shown[2]}\n".encode())
+        for text in (self.text, (ROOT / "docs/TEX.md").read_text()):
+            shown = re.search(r"^    \$ (printf '.*') \| \./tex2mathml\n    (.*)\n", text, re.M)
+            refused = run(["sh", "-c", f"{shown[1]} | {tex_program()}"])
+            self.expect(refused, status=1, stdout=b"", stderr=f"{shown[2]}\n".encode())
 
     def test_its_words_are_all_that_there_are(self):
         words = re.findall(r"^\| `latex2mathml (\w+)(?: PATH)?` \|", self.text, re.M)

@@ -25,6 +25,11 @@ OF_ENERGY = faulty.math("<mi>E</mi><mo>=</mo><mi>m</mi><msup><mi>c</mi><mn>2</mn
 PROSE = r"Let $x$ be é, and $$\sum_a^b \frac12$$ its sum."
 OF_SUM = "<munderover><mo>∑</mo><mi>a</mi><mi>b</mi></munderover><mfrac><mn>1</mn><mn>2</mn></mfrac>"
 OF_PROSE = b"Let " + faulty.X + " be é, and ".encode() + faulty.math(OF_SUM, "block") + b" its sum."
+TEX = r"\left(\frac{x_i'^2}{\hat y}\right) \text{if $a$}"
+OF_TEX = (
+    '<mrow><mo form="prefix" stretchy="true">(</mo><mfrac><msubsup><mi>x</mi><mi>i</mi>'
+    '<mrow><mo lspace="0" rspace="0">′</mo><mn>2</mn></mrow></msubsup><mover accent="true"><mi>y</mi><mo stretchy="false">ˆ</mo></mover>'
+    '</mfrac><mo form="postfix" stretchy="true">)</mo></mrow><mrow><mtext>if\u00a0</mtext><mi>a</mi></mrow>')
 OF_GROUP = "<mrow><mi>a</mi><msup><mi>b</mi><mn>2</mn></msup></mrow>"
 
 
@@ -41,6 +46,9 @@ CALLS = {
                                b'refusal: An unknown environment "foo" is found', NO_MEMORY),
     "a counted formula": ("latex_to_mathml_counted", "{{a}b^2}",
                           b"answer: " + faulty.math(OF_GROUP, "block") + b"\n8 tokens, 2 frames", NO_MEMORY),
+    "a formula of tex_to_mathml": ("tex_to_mathml", TEX, b"answer: " + faulty.math(OF_TEX), b"out of memory"),
+    "an unknown command of tex_to_mathml": ("tex_to_mathml", r"x \foo", b"refusal: unknown command \\foo at 2", b"out of memory"),
+    "an open group of tex_to_mathml": ("tex_to_mathml", r"\frac{x_i", b"refusal: { is not closed at 5", b"out of memory"),
     "a document": ("replace", ENERGY, b"answer: " + OF_ENERGY, NO_MEMORY),
     "a document of two formulas": ("replace", PROSE, b"answer: " + OF_PROSE, NO_MEMORY),
     "a document with an open group": ("replace", r"$\foo$ ${$", b"refusal: " + OPEN_GROUP, NO_MEMORY),

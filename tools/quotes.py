@@ -13,7 +13,8 @@ DEFINITION = re.compile(r"\[`(?P<word>[^`]+)`\]\((?P<path>[^)#\s]+\.antt)#L(?P<l
 QUOTE = re.compile(r"<!-- quoted from (?P<path>\S+) -->\n```rust\n(?P<text>.*?)```", re.S)
 
 # the library's crates with public calls
-LIBRARY = ("latex2mathml_tokens", "latex2mathml_trees", "latex2mathml_nodes", "latex2mathml_formulas", "latex2mathml")
+LIBRARY = ("latex2mathml_tokens", "latex2mathml_trees", "latex2mathml_nodes", "latex2mathml_formulas", "latex2mathml",
+           "latex2mathml_elements", "latex2mathml_tex_grammar", "latex2mathml_tex")
 
 # the files whose public calls are for the library's own crates alone
 OWN_CALLS = ("latex2mathml_tokens/lexeme.rt", "latex2mathml_tokens/names.rt", "latex2mathml_trees/append.rt", "latex2mathml_trees/text.rt",
@@ -89,5 +90,6 @@ def sources():
 def public_sources():
     """The sources whose public functions are called from outside: those of the library, of the program, and of the library for C."""
     yield from sources()
-    for path in ("latex2mathml_program/src/job.rt", "latex2mathml_program/src/serving.rt", "latex2mathml_c/src/lib.rt"):
+    for path in ("latex2mathml_program/src/job.rt", "latex2mathml_program/src/serving.rt", "latex2mathml_c/src/lib.rt",
+                 "latex2mathml_tex_program/src/request.rt", "latex2mathml_tex_program/src/reply.rt", "latex2mathml_tex_program/src/serving.rt"):
         yield ROOT / "crates" / path
