@@ -93,7 +93,7 @@ class Words(Case):
     def test_help(self):
         done = ask("--help")
         self.expect(done, stdout=None)
-        for word in (b"--display", b"--null", b"inline", b"block"):
+        for word in (b"Usage: tex2mathml [OPTIONS]", b"--display", b"--null", b"inline", b"block"):
             self.assertIn(word, done.stdout)
 
     def test_version(self):

@@ -34,14 +34,16 @@ pub no_request : (kinds : Kinds) (P : Request → Type 0) (result : Result Reque
 no_request kinds P (Ok request) error is has = absurd is
 no_request kinds P (Err e) error is has = (subst (HasKind kinds) (sym is) has, tt)
 
--- a command that gets a version and a text about it
-pub versioned : (first second third : Command) (name : Text) (version about : Bor Text)
+-- a command that gets a version, a text about it and its usage
+pub versioned : (first second third fourth : Command) (name : Text) (version about usage : Bor Text)
     → app_of first ≡ new_app name
     → out-Command second ≡ record (out-Command first) { version = Some version }
     → out-Command third ≡ record (out-Command second) { about = Some about }
-    → app_of third ≡ on_top (λ s. record s { has_version = true }) (new_app name)
-versioned first second third name version about named has told =
-    ap app_of_fields (told ∙ ap (λ (f : Command-F Command). record f { about = Some about }) has)
+    → out-Command fourth ≡ record (out-Command third) { usage_str = Some usage }
+    → app_of fourth ≡ on_top (λ s. record s { has_version = true }) (new_app name)
+versioned first second third fourth name version about usage named has told shown =
+    ap app_of_fields (shown ∙ ap (λ (f : Command-F Command). record f { usage_str = Some usage })
+    (told ∙ ap (λ (f : Command-F Command). record f { about = Some about }) has))
     ∙ ap (on_top (λ s. record s { has_version = true })) named
 
 -- `--display`

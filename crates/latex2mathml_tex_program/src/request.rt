@@ -38,6 +38,7 @@ pub fn requested(alloc: Global, words: &[String]) -> Result<Request, Error>
     let command = Command::new(alloc, "tex2mathml")
         .version("0.3.0")
         .about("Turns a LaTeX formula on standard input into MathML on standard output")
+        .override_usage("tex2mathml [OPTIONS]")
         .arg(display)?
         .arg(null)?;
     let matches = command.try_get_matches_from(words)?;

@@ -39,7 +39,7 @@ returns-in_err-matches c =
     c.new-2.ensures.rule c.long-2.ensures (search rules) c.action.ensures c.help-null.ensures in
     let program_is : app_of c.in_ok-command.command ≡ program given.0 =
     c.in_ok-command.ensures.shape null_local ∙ ap₂ with_rule (c.in_ok-arg.ensures.shape display_local
-    ∙ ap₂ with_rule (versioned c.new-3.result c.version.result c.about.result _ _ _ c.new-3.ensures.app c.version.ensures c.about.ensures) display_is) null_is in
+    ∙ ap₂ with_rule (versioned c.new-3.result c.version.result c.about.result c.override_usage.result _ _ _ _ c.new-3.ensures.app c.version.ensures c.about.ensures c.override_usage.ensures) display_is) null_is in
     let words = map string_bytes c.args.words.now in
     let has = subst (λ a. HasKind (fault_of a words) c.in_err-matches.field-0.0) program_is
     (c.in_err-matches.ensures.kinds (ap is_simple_and_free program_is)) in
@@ -63,7 +63,7 @@ returns c =
     c.new-2.ensures.rule c.long-2.ensures (search rules) c.action.ensures c.help-null.ensures in
     let program_is : app_of c.in_ok-command.command ≡ program given.0 =
     c.in_ok-command.ensures.shape null_local ∙ ap₂ with_rule (c.in_ok-arg.ensures.shape display_local
-    ∙ ap₂ with_rule (versioned c.new-3.result c.version.result c.about.result _ _ _ c.new-3.ensures.app c.version.ensures c.about.ensures) display_is) null_is in
+    ∙ ap₂ with_rule (versioned c.new-3.result c.version.result c.about.result c.override_usage.result _ _ _ _ c.new-3.ensures.app c.version.ensures c.about.ensures c.override_usage.ensures) display_is) null_is in
     let words = map string_bytes c.args.words.now in
     let none = ap (λ a. fault_of a words) program_is in
     let rows = (c.in_ok-matches.ensures.matches (ap is_simple program_is)).0 ∙ ap (λ a. matches_of a words) program_is in (
