@@ -1,4 +1,5 @@
-"""The command table as docs/COMMANDS.md lists it, and as the definitions of the proofs have it: names, and texts of tokens."""
+"""The command table of `latex_to_mathml` as docs/COMMANDS.md lists it, and as the definitions of the proofs have it: names, and texts
+of tokens."""
 import functools
 import re
 
@@ -20,12 +21,12 @@ def quotation(text):
     return '"' + re.sub(r'(["\\])', r"\\\1", text) + '"'
 
 
-# The page. A kind of token stands before its commands, as in "`Operator(c)`: .. `\pm` ±, `\mp` ∓".
+# The page. A kind of token stands before its commands, as in "- `Operator(c)`: .. `\pm` ±, `\mp` ∓".
 # The letter of its argument says what the argument is.
-KIND = re.compile(r"^(?:- )?(?:`(?P<kind>\w+)(?:\((?P<argument>\w)(?P<more>, \w+)?\))?`[^:`]*|Tokens that hold nothing):", re.MULTILINE)
-NAME = r"`\\(?P<name>[A-Za-z]+|[^A-Za-z\s])`|(?P<space>a backslash and a space)"
-VALUE = r"`(?P<code>[^`\\]+)`|(?<=\| )(?P<number>-?\d+)(?= \|)|(?P<backquote>a backquote)|(?<=\s)(?P<sign>[^\s\w\-|]|[^\W\d_])(?=[\s,;.])"
-PART = re.compile(rf"{NAME}|(?:{VALUE})(?:\s+\(U\+(?P<point>[0-9A-F]{{4}})\))?")
+KIND = re.compile(r"^- (?:`(?P<kind>\w+)(?:\((?P<argument>\w)(?P<more>, \w+)?\))?`[^:`]*|Tokens that hold nothing):", re.MULTILINE)
+NAME = r"`\\(?P<name>[A-Za-z]+|[^A-Za-z])`"
+VALUE = r"`(?P<code>[^`\\]+)`|(?P<backquote>a backquote)|(?<=\s)(?P<sign>[^\s\w\-|]|[^\W\d_])(?=[\s,.])"
+PART = re.compile(rf"{NAME}(?:\s+(?:{VALUE})(?:\s+\(U\+(?P<point>[0-9A-F]{{4,6}})\))?)?")
 SHAPES = {"c": character, "p": quotation, "f": quotation, "s": quotation, "v": str, "d": str, "n": str}
 
 
@@ -33,7 +34,7 @@ SHAPES = {"c": character, "p": quotation, "f": quotation, "s": quotation, "v": s
 def on_the_page():
     """The text of each command's token, by docs/COMMANDS.md."""
     text = PAGE.read_text(encoding="utf-8")
-    text = text[text.index("\n## Letters"):]
+    text = text.partition("\n## `latex_to_mathml`\n")[2]
     kinds = list(KIND.finditer(text))
     ends = [kind.start() for kind in kinds[1:]] + [len(text)]
     tokens = {}
@@ -45,18 +46,12 @@ def on_the_page():
 
 
 def entries(kind, text):
-    """Names and token texts of a kind. A value is that of the names before it that have none."""
-    waiting = []
+    """Names and token texts of a kind. A name without a value is its own."""
     for part in PART.finditer(text):
-        if part["name"] or part["space"]:
-            waiting.append(part["name"] or " ")
-            continue
-        value = "`" if part["backquote"] else part["code"] or part["number"] or part["sign"]
+        value = "`" if part["backquote"] else part["code"] or part["sign"] or part["name"]
         if part["point"] and int(part["point"], 16) != ord(value):
             raise WrongTable(f"{PAGE.name}: {value} is not U+{part['point']}")
-        yield from ((name, token_text(kind, value)) for name in waiting)
-        waiting = []
-    yield from ((name, token_text(kind, name)) for name in waiting)
+        yield part["name"], token_text(kind, value)
 
 
 def token_text(kind, value):

@@ -58,6 +58,14 @@ def program():
     return copy
 
 
+def open_input(given):
+    """A file with these bytes, whose position moves as a program reads it."""
+    file = os.memfd_create("input")
+    os.write(file, given)
+    os.lseek(file, 0, os.SEEK_SET)
+    return open(file, "rb", buffering=0)
+
+
 @dataclasses.dataclass(frozen=True)
 class Fault:
     """Calls of one kind that fail: the first and the last of them, and their error number, where 0 is an answer of 0.

@@ -137,7 +137,7 @@ class Modules(Case):
         rows = [line.split("|") for line in (ROOT / "docs/ARCHITECTURE.md").read_text().split("\n") if line.startswith("| ")]
         for folder, column in (("specs", 3), ("proofs", 4)):
             named = {name for row in rows if len(row) == 6 for name in re.findall(r"`([A-Z]\w+)`", row[column])}
-            files = {it.stem for crate in (*quotes.LIBRARY, "latex2mathml_parts") for it in (ROOT / "crates" / crate / folder).glob("*.antt")}
+            files = {it.stem for crate in (*quotes.LIBRARY, "latex2mathml_parts", "latex2mathml_builder") for it in (ROOT / "crates" / crate / folder).glob("*.antt")}
             self.assertEqual(named, files - {"Lib"}, folder)
 
 

@@ -7,7 +7,7 @@ import subprocess
 import unittest
 
 from tests import faulty, support
-from tests.faulty import ERROR, Fault
+from tests.faulty import ERROR, Fault, open_input
 
 UNREAD = ERROR + b"The input could not be read.\n"
 USAGE = b"usage: latex2mathml inline | block | document | html PATH\n"
@@ -79,14 +79,6 @@ class Inputs(Streams):
 for word, (name, error) in itertools.product(ANSWERS, READ_ERRORS.items()):
     setattr(Inputs, case_name(f"{word} {name} at each read"),
             lambda self, word=word, error=error: self.fails_at_each_read(word, error))
-
-
-def open_input(given):
-    """A file with these bytes, whose position moves as a program reads it."""
-    file = os.memfd_create("input")
-    os.write(file, given)
-    os.lseek(file, 0, os.SEEK_SET)
-    return open(file, "rb", buffering=0)
 
 
 # bytes that are not UTF-8: alone, after text and before text

@@ -167,8 +167,12 @@ class Growth(support.Case):
     def count(self, word, text, status=0):
         """The counts of a run, with the length of its answer."""
         done, counts = faulty.counts_of([support.program(), word], stdin=text)
-        self.assertEqual(done.returncode, status, done.stderr[:200])
+        self.is_whole(done, status)
         return counts | {"answer": len(done.stdout)}
+
+    def is_whole(self, done, status):
+        """A run that answers nothing would count as cheap."""
+        self.assertEqual((done.returncode, bool(done.stdout)), (status, status == 0), done.stderr[:200])
 
 
 @support.requires("valgrind")
@@ -176,6 +180,7 @@ class Instructions(Growth):
     """Four times the text takes four times the instructions."""
 
     def judge(self, status, word, text, size):
+        self.is_whole(support.run([support.program(), word], stdin=text(4 * size)), status)
         small, large = (instructions([support.program(), word], text(n), status=status) for n in (size, 4 * size))
         self.assertLessEqual(large, MOST_TIMES * small, f"{small:,} for {size} bytes, {large:,} for four times as many")
 

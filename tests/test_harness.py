@@ -334,3 +334,18 @@ class Names(unittest.TestCase):
 
     def test_clock(self):
         self.assertEqual([clock(0), clock(59.9), clock(100), clock(3723)], ["0:00", "0:59", "1:40", "1:02:03"])
+
+
+class SilentProgram(Case):
+    """`tools/try-silent-program` tries the classes that it is told, and names each that passes."""
+
+    def test_a_class_that_fails_over_a_silent_program(self):
+        self.expect(run([ROOT / "tools/try-silent-program", "test_beginnings"], timeout=300), stdout=b"1 passed, 0 failed\n")
+
+    def test_a_class_that_does_not_ask(self):
+        done = run([ROOT / "tools/try-silent-program", "test_wrong_bodies"], timeout=300)
+        self.assertEqual((done.returncode, done.stderr), (0, b""))
+        self.assertRegex(done.stdout, rb"^(does not ask: tests/test_wrong_bodies.py::\w+\n)+0 passed, 0 failed\n$")
+
+    def test_no_class(self):
+        self.expect(run([ROOT / "tools/try-silent-program", "test_nothing"], timeout=300), 1, b"", b"try-silent-program: no class has such a name\n")

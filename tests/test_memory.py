@@ -1,4 +1,4 @@
-"""Allocations that fail, in calls of the library and in the whole program: each one in turn, and then each one with all that follow
+"""Allocations that fail, in calls of the library and in the whole programs: each one in turn, and then each one with all that follow
 it, until a run makes fewer allocations. At the end of each run all memory is freed.
 """
 import itertools
@@ -65,6 +65,18 @@ CALLS = {
 # and seven lists, of which the four with more than four members grow once.
 COPIES = {"node": 71, "token": 1, "refusal": 2}
 
+# Two formulas that a converter is given, the second one twice, and its answers with enough memory.
+OF_X = b"answer: " + faulty.X
+CONVERTED = {
+    "a converter that has done little": ("x", TEX, OF_X, b"answer: " + faulty.math(OF_TEX)),
+    "a converter that has done the same": (TEX, TEX, b"answer: " + faulty.math(OF_TEX), b"answer: " + faulty.math(OF_TEX)),
+    "a converter that has refused": (r"x_i \foo", TEX, b"refusal: unknown command \\foo at 4", b"answer: " + faulty.math(OF_TEX)),
+    "a converter that is to refuse": ("x", r"\frac{x_i}{y \foo}", OF_X, b"refusal: unknown command \\foo at 13"),
+}
+
+# How often a converter that has done the same asks for memory: only for its answer, whose room grows.
+FOR_THE_ANSWER = 4
+
 # an argument of the program, its input, and its status and streams
 RUNS = {
     "inline": ("inline", ERROR_FUNCTION, 0, faulty.math(OF_ERROR_FUNCTION) + b"\n", b""),
@@ -80,6 +92,22 @@ RUNS = {
     "document, a lone sign": ("document", "$$$", 1, b"", faulty.ERROR + WRONG_SIGNS + b"\n"),
     "a wrong word": ("inlines", "x", 2, b"", USAGE),
 }
+
+# words of `tex2mathml` and its input
+TEX_RUNS = {
+    "tex, a formula": ([], TEX),
+    "tex, a block": (["--display", "block"], "x"),
+    "tex, an unknown command": ([], r"x \foo"),
+    "tex, a text that is none": ([], b"x\xff"),
+    "tex, no formula": (["--null"], ""),
+    "tex, many formulas": (["--null"], f"x\0{{\0{TEX}"),
+    "tex, a wrong word": (["x"], "x"),
+    "tex, its version": (["--version"], ""),
+}
+
+# its lines if memory runs out: before its words are read, as they are read, for the input, and for a formula
+TEX_LINES = {b"tex2mathml: out of memory\n", b"error: out of memory\n", b"tex2mathml: Memory could not be found.\n"}
+NO_MEMORY_FOR_ONE = b"error\nout of memory"
 
 
 def one(number):
@@ -138,6 +166,31 @@ class Program(Refused):
             self.assertEqual((done.returncode, way), (1, this_and_all_that_follow), "no line where memory was left for it")
 
 
+class TexProgram(Refused):
+    """The same of `tex2mathml`. Of many formulas each has its reply, or one that says that memory ran out."""
+
+    def serves(self, due, done, is_refused, way):
+        if (done.returncode, done.stdout, done.stderr) == (due.returncode, due.stdout, due.stderr):
+            return
+        if not is_refused:
+            self.expect(done, due.returncode, due.stdout, due.stderr)
+        if done.returncode == 0:
+            self.assertEqual(done.stderr, b"")
+            self.answers_each(due.stdout.split(b"\0"), done.stdout.split(b"\0"))
+            return
+        self.assertEqual(done.stdout, b"")
+        if done.stderr:
+            self.assertEqual((done.returncode, done.stderr in TEX_LINES), (1, True), done)
+        elif not (due.stderr and done.returncode == due.returncode):
+            self.assertEqual((done.returncode, way), (1, this_and_all_that_follow), "no line where memory was left for it")
+
+    def answers_each(self, due, replies):
+        self.assertEqual(len(replies), len(due))
+        self.assertGreater(len(replies), 1, "a formula alone has no reply")
+        for reply, whole in zip(replies, due):
+            self.assertIn(reply, (whole, NO_MEMORY_FOR_ONE))
+
+
 def call(name, text, answer, wanting, way):
     def case(self):
         def judge(done, is_refused):
@@ -147,6 +200,29 @@ def call(name, text, answer, wanting, way):
         refused = self.in_turn([support.build("latex2mathml_single_calls"), name, text], way, judge, marked=True)
         if name == "clone":
             self.assertLessEqual(refused, COPIES[text], "a copy asks for memory more often than it has parts")
+    return case
+
+
+def convert_again(first, second, of_first, of_second, way):
+    """The answers to a formula, to a second one in which allocations fail, and to the second one again, with enough memory."""
+    def case(self):
+        def judge(done, is_refused):
+            self.expect(done, 0, None)
+            may_be = [of_second] + [b"refusal: out of memory"] * is_refused
+            self.assertIn(done.stdout, [b"\n".join([of_first, it, of_second, b""]) for it in may_be])
+        words = [support.build("latex2mathml_single_calls"), "tex_formulas", first, second]
+        refused = self.in_turn(words, way, judge, marked=True)
+        if first == second:
+            self.assertLessEqual(refused, FOR_THE_ANSWER, "a converter does not keep its room")
+    return case
+
+
+def serve_tex(words, text, way):
+    def case(self):
+        given = text if isinstance(text, bytes) else text.encode()
+        command = [support.tex_program(), *words]
+        due = support.run(command, stdin=given)
+        self.in_turn(command, way, lambda done, is_refused: self.serves(due, done, is_refused, way), stdin=given)
     return case
 
 
@@ -197,6 +273,10 @@ for way in WAYS:
         add(Library, f"{way.__name__} of {name}", call(*given, way))
     for name, given in RUNS.items():
         add(Program, f"{way.__name__} of {name}", serve(*given, way))
+    for name, given in CONVERTED.items():
+        add(Library, f"{way.__name__} of {name}", convert_again(*given, way))
+    for name, given in TEX_RUNS.items():
+        add(TexProgram, f"{way.__name__} of {name}", serve_tex(*given, way))
     add(Library, f"{way.__name__} of convert_html", walk_of_library(way))
     add(Program, f"{way.__name__} of html", walk_of_program(way))
 

@@ -11,6 +11,7 @@ import subprocess
 import threading
 
 from tests import support
+from tests.command_table import on_the_page
 
 PAGES = support.ROOT / "tests/page"
 
@@ -193,22 +194,14 @@ def data(name):
     return (PAGES / name).read_text().splitlines()
 
 
-def table():
-    """The page that lists the commands."""
-    return (support.ROOT / "docs/COMMANDS.md").read_text()
-
-
-def commands(text):
-    """The commands in a part of docs/COMMANDS.md, each once."""
-    return sorted({name for name in re.findall(r"`(\\[^`]*)`", text) if len(name) > 1})
+def commands(*kinds):
+    """The commands whose tokens are of these kinds."""
+    return sorted(f"\\{name}" for name, token in on_the_page().items() if token.partition("(")[0] in kinds or not kinds)
 
 
 def signs():
     """All signs: the operators and parentheses among the commands, sums and integrals, and single characters."""
-    listed = table()
-    operators = listed[listed.index("\n## Operators"):listed.index("\n## Parentheses")]
-    parts = [operators, *re.findall(r"\n- `(?:Paren|BigOp|Integral)\(.*?(?=\n- )", listed, re.DOTALL)]
-    return [*"=;,.+-*/!<>()[]|:", ":=", *commands("".join(parts))]
+    return [*"=;,.+-*/!<>()[]|:", ":=", *commands("Operator", "Paren", "BigOp", "Integral")]
 
 
 def build_site(site):
@@ -237,14 +230,14 @@ class Gallery(support.Case):
         self.assertTrue(done.stdout == (support.ROOT / "docs/gallery.html").read_bytes(), "tools/draw-gallery makes it anew")
 
     def test_language_lists_the_commands(self):
-        self.assertGreater(len(commands(table())), 400)
+        self.assertGreater(len(commands()), 400)
 
     def test_gallery_shows_each_command(self):
         source = (support.ROOT / "docs/gallery.source.html").read_text()
         shown = set()
         for formula in re.findall("<code>(.*)</code>", source):
             shown.update(re.findall(r"\\(?:[A-Za-z]+|.)", html.unescape(formula)))
-        self.assertEqual([name for name in commands(table()) if name not in shown], [])
+        self.assertEqual([name for name in commands() if name not in shown], [])
 
 
 class Links(support.Case):

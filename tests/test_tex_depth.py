@@ -1,5 +1,4 @@
-"""Formulas of `tex_to_mathml` that are 100,000 levels deep, on a stack of 8 MiB, and a megabyte of each sign; and how instructions
-grow with the text."""
+"""Formulas of `tex_to_mathml` that are a million levels deep, on a stack of 8 MiB, and a megabyte of each sign."""
 import resource
 import string
 import unittest
@@ -8,16 +7,13 @@ from dataclasses import dataclass
 import pytest
 
 from tests import support
-from tests.instructions import instructions
 
 pytestmark = [pytest.mark.long, pytest.mark.timeout(1800)]
 
-LEVELS = 100_000
+# 8 bytes of stack for each
+LEVELS = 1_000_000
 STACK = 8 << 20
 MEGABYTE = 1_000_000
-
-# four times the text takes at most this many times as many instructions
-MOST_TIMES = 4.1
 
 MATH = '<math xmlns="http://www.w3.org/1998/Math/MathML" display="inline">{}</math>'
 
@@ -64,6 +60,10 @@ CONSTRUCTS = {
     "base of a stack": Construct("\\overset y{", "}", "<mover>", "<mi>y</mi></mover>", OPEN_BRACE, 10),
     "alphabet": Construct("\\mathbf{", "}", "", "", OPEN_BRACE, 7, "<mi>\U0001d431</mi>"),
     "style of its own": Construct("\\dfrac1{", "}", '<mstyle displaystyle="true" scriptlevel="0"><mfrac><mn>1</mn>', "</mfrac></mstyle>", OPEN_BRACE, 7),
+    "alphabet of a group": Construct("{\\bf ", "}", "", "", OPEN_BRACE, 0, "<mi>\U0001d431</mi>"),
+    "style of a group": Construct("{\\displaystyle ", "}", '<mstyle displaystyle="true" scriptlevel="0">', "</mstyle>", OPEN_BRACE, 0),
+    "upper part of a group": Construct("{", "\\over1}", "<mfrac>", "<mn>1</mn></mfrac>", OPEN_BRACE, 0),
+    "lower part of a group": Construct("{1\\over ", "}", "<mfrac><mn>1</mn>", "</mfrac>", OPEN_BRACE, 0),
     "delimiters": Construct("\\left(", "\\right)", '<mrow><mo form="prefix" stretchy="false">(</mo>',
                             '<mo form="postfix" stretchy="false">)</mo></mrow>', "\\left without \\right", 0),
     "formula in words": Construct("\\text{$", "$}", "", "", "$ is not closed", 6),
@@ -116,36 +116,10 @@ class Long(support.Case):
                 self.is_told(command)
 
 
-@support.requires("valgrind")
-class Growth(support.Case):
-    """Four times the text takes at most about four times the instructions."""
-
-    def grows(self, text_of):
-        few, many = (instructions([support.tex_program()], stdin=text_of(count).encode(), timeout=600) for count in (2_000, 8_000))
-        self.assertLessEqual(many, MOST_TIMES * few)
-
-    def test_side_by_side(self):
-        for piece in ("x", "1", "1.5 ", "+", "x+", "\\alpha ", "x_1^2", "x''", "\\sin x", "\\frac12", "{ab}", "\\left(x\\right)", "\\text{a b}", "\\mathrm{ab}", "% c\n", "\\not="):
-            with self.subTest(piece):
-                self.grows(lambda count, piece=piece: piece * count)
-
-    def test_in_words(self):
-        for piece in ("a", "$x$", "{a}", "\\textbf{a}", "\\alpha"):
-            with self.subTest(piece):
-                self.grows(lambda count, piece=piece: "\\text{" + piece * count + "}")
-
-    def test_between_delimiters(self):
-        for piece in ("x", "\\middle|", "\\frac12\\middle|"):
-            with self.subTest(piece):
-                self.grows(lambda count, piece=piece: "\\left(" + piece * count + "\\right)")
-
-
 def add_cases():
     for name, kind in CONSTRUCTS.items():
         for check in ("answers", "is_cut_off"):
             setattr(Deep, f"test_{check}_{name.replace(' ', '_')}", lambda self, kind=kind, check=check: getattr(self, check)(kind))
-        setattr(Growth, f"test_{name.replace(' ', '_')}",
-                lambda self, kind=kind: self.grows(lambda count: kind.before * count + "x" + kind.behind * count))
 
 
 add_cases()

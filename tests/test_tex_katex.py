@@ -21,17 +21,27 @@ OTHERWISE = {
     "a⟂b": "KaTeX puts the sign of a bottom in place of this one",
     # the signs in place of angle brackets
     "\\left<x\\right>": "KaTeX leaves the signs as they are in its MathML",
+    "\\begin{matrix}a\\\\*[2pt]b\\cr[c]\\end{matrix}": "KaTeX draws the star and the length",
+    "\\begin{array}{l|r}\\hline a&b\\\\ \\hline\\end{array}": "KaTeX draws the lines",
+    "\\def\\a{x}\\providecommand{\\a}{y}\\a": "KaTeX defines anew what is there already; LaTeX leaves it",
 }
 
 # and those that it refuses
 REFUSED = {
     "\\sqrt\\sqrt x": "a root without braces is no argument of a root",
     "\\mbox{x}": "KaTeX has no such command",
+    "{\\mit x}": "KaTeX has no such command",
     "\\slashed{D}": "KaTeX has no such command",
     "\\slashed\\partial": "KaTeX has no such command",
     "\\slashed{ab}": "KaTeX has no such command",
     "\\text{\\alpha}": "KaTeX has no signs in words",
+    "\\newcommand{\\R}{\\mathbb{R}}\\R": "KaTeX has this macro already",
+    "\\newcommand*{\\sq}[1]{#1^2}\\sq{x}": "KaTeX takes no star there",
+    "\\begin{array}[t]{@{}p{2cm}c@{\\,}}a&b&d\\end{array}": "KaTeX has no place of an array and no columns of a width",
 }
+
+# and those that it reads in a block alone
+BLOCK_ALONE = {"\\begin{alignat*}{2}a&b\\end{alignat*}"}
 
 
 @unittest.skipUnless(KATEX.is_dir(), "KaTeX is not installed")
@@ -51,7 +61,7 @@ class AsKatexReads(Case):
         for display in ("inline", "block"):
             for formula, ours, theirs in self.structures(display, [*cases.files("tex/*.txt"), f"tex_{display}.txt"]):
                 with self.subTest(f"{display}: {formula}"):
-                    if formula in REFUSED:
+                    if formula in REFUSED or display == "inline" and formula in BLOCK_ALONE:
                         self.assertIsNone(theirs)
                     elif formula in OTHERWISE:
                         self.assertNotEqual(ours, theirs)

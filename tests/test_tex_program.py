@@ -1,11 +1,13 @@
 """The program `tex2mathml`: its words, its streams, its statuses and its replies to many formulas."""
 import importlib.machinery
 import importlib.util
+import itertools
 import os
 import re
 import unittest
 
-from tests.support import ROOT, Case, run, tex_program
+from tests import faulty
+from tests.support import ROOT, Case, requires, run, tex_program
 
 MATH = b'<math xmlns="http://www.w3.org/1998/Math/MathML" display="%s">%s</math>'
 
@@ -87,6 +89,58 @@ class ManyFormulas(Case):
 
     def test_what_is_no_text(self):
         self.expect(ask("--null", stdin=b"x\0\xff"), 1, b"", b"tex2mathml: The input is not UTF-8 text.\n")
+
+
+# the bytes that the program requests at a time
+ROOM = 4096
+
+
+@requires("cc")
+class Calls(Case):
+    """How often the program reads and writes, and what it does where one of these calls fails."""
+
+    INPUTS = [([], b"a<\\frac12"), (["--display", "block"], "é".encode()), (["--null"], b"x\0{\0y")]
+
+    def test_counted(self):
+        """A short input is read by two calls, of which one reports the end. What is put out is written by one."""
+        for words, piece in (([], b"x"), (["--null"], b"x_1^2\0")):
+            for size in (0, 1, ROOM - 1, ROOM, ROOM + 1, 1_000_000):
+                given = piece * (size // len(piece))
+                with self.subTest(words=words, size=size), faulty.open_input(given) as source:
+                    done, counts = faulty.counts_of([tex_program(), *words], stdin=source)
+                    self.expect(done, stdout=None)
+                    self.assertLessEqual(counts["read"], len(given) // ROOM + 2)
+                    self.assertEqual(counts["write"], int(bool(done.stdout)))
+
+    def test_each_read_fails(self):
+        for (words, given), error in itertools.product(self.INPUTS, (5, 4)):
+            due = ask(*words, stdin=given)
+            for number in range(1, len(given) + 3):
+                with self.subTest(words=words, error=error, call=number):
+                    done, failed = self.run_with(words, given, faulty.Fault("read", number, number, error))
+                    self.assertEqual(bool(failed), number < len(given) + 2)
+                    if failed:
+                        self.expect(done, 1, b"", b"tex2mathml: The input could not be read.\n")
+                    else:
+                        self.expect(done, stdout=due.stdout)
+
+    def test_each_write_fails(self):
+        for (words, given), error in itertools.product(self.INPUTS, (28, 4, 0)):
+            due = ask(*words, stdin=given)
+            self.assertGreater(len(due.stdout), 40)
+            for number in range(1, len(due.stdout) + 2):
+                with self.subTest(words=words, error=error, call=number):
+                    done, failed = self.run_with(words, given, faulty.Fault("write", number, number, error))
+                    self.assertEqual(bool(failed), number <= len(due.stdout))
+                    if failed:
+                        told = f"tex2mathml: The output stopped after {number - 1} bytes.\n".encode()
+                        self.expect(done, 1, due.stdout[:number - 1], told)
+                    else:
+                        self.expect(done, stdout=due.stdout)
+
+    def run_with(self, words, given, fault):
+        """The program with calls that move one byte each, of which one fails."""
+        return faulty.run_with([tex_program(), *words], stdin=given, fault=fault, step=1)
 
 
 class Words(Case):

@@ -1,8 +1,10 @@
 pub mod Below
+pub mod ColumnPlaces
 pub mod Joined
 pub mod Opens
 pub mod Parts
 pub mod Places
 pub mod Sound
+pub mod Tables
 pub mod Tokens
 pub mod Written

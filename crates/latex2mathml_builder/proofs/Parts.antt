@@ -1,13 +1,15 @@
 -- Parts fit as well where texts and settled elements are added, and their elements stay.
-use Rattle.std.proofs.Common.{◌≡◌, ℕ, suc, ◌+◌, ◌-◌, ◌≤◌, false, List, [], ◌∷◌, ◌++◌, length, length-append, append-nil, append_assoc, length-drop, take, drop, map, refl, sym, ap, ◌∙◌, arith, subst}
+use Rattle.std.proofs.Common.{◌≡◌, ℕ, suc, ◌+◌, ◌-◌, ◌≤◌, false, List, [], ◌∷◌, ◌++◌, length, length-append, append-nil, append_assoc, length-drop, take, drop, map, option_map, refl, sym, ap, ◌∙◌, arith, subst}
 use Rattle.std.specs.Str.{IsUtf8, IsCharBoundary}
 use Rattle.std.proofs.lemmas.Str.{IsCharBoundary-from_take}
 use Rattle.std.proofs.lemmas.List.{drop-append-le, take-append-le}
 use Rattle.std.proofs.Math.Seq.{take-length}
+use Rattle.latex2mathml_elements.specs.Attributes.{styled}
 use Rattle.latex2mathml_elements.specs.Element.{Element, token, container, children}
 use Rattle.latex2mathml_builder.specs.Built.{AllFit, Adjoin, EachFits, EndsAt, Fits, HasText, IsCut, Meets, between, element_of, is_token_part, settled_on}
-use Rattle.latex2mathml_builder.specs.Names.{attributes_of, container_of, pair_of, token_of, triple_of}
-use Rattle.latex2mathml_builder.specs.Stacks.{pair_with, triple_with}
+use Rattle.latex2mathml_builder.specs.Columns.{columns_of}
+use Rattle.latex2mathml_builder.specs.Names.{attributes_of, container_of, math_style_of, pair_of, token_of, triple_of}
+use Rattle.latex2mathml_builder.specs.Stacks.{pair_with, table_with, triple_with}
 use Rattle.latex2mathml_builder.specs.declared.{attributes.Attributes.Attributes, tag.Token.Token}
 use Rattle.latex2mathml_builder.specs.declared.part.Part.{Part}
 use Rattle.latex2mathml_builder.specs.declared.part.Part.TheVariants as part
@@ -68,6 +70,7 @@ fits_more texts more n m (part.Space width) h f = tt
 fits_more texts more n m (part.Container c a first count) h f = omega arith
 fits_more texts more n m (part.Pair p a first) h f = omega arith
 fits_more texts more n m (part.Triple t a first is_exchanged) h f = omega arith
+fits_more texts more n m (part.Table own columns first count) h f = (f.0, omega (arith, f.1))
 
 pub element_kept : (texts more : List ℕ) (xs ys : List Element) (n : ℕ) (p : Part) → n ≤ length xs → Fits texts n p → element_of (texts ++ more) (xs ++ ys) p ≡ element_of texts xs p
 element_kept texts more xs ys n (part.Token t a start end) h f = ap (token (token_of t) (attributes_of a)) (between_kept texts more start end f)
@@ -75,6 +78,7 @@ element_kept texts more xs ys n (part.Space width) h f = refl
 element_kept texts more xs ys n (part.Container c a first count) h f = ap (λ l. container (container_of c) (attributes_of a) (children l)) (same_children xs ys first count n f h)
 element_kept texts more xs ys n (part.Pair p a first) h f = ap (pair_with (pair_of p) (attributes_of a)) (same_children xs ys first 2 n f h)
 element_kept texts more xs ys n (part.Triple t a first is_exchanged) h f = ap (triple_with (triple_of t) (attributes_of a) is_exchanged) (same_children xs ys first 3 n f h)
+element_kept texts more xs ys n (part.Table own columns first count) h f = ap (table_with (styled (option_map math_style_of own)) (columns_of columns)) (same_children xs ys first count n f.1 h)
 
 -- Lists of parts
 
@@ -150,6 +154,7 @@ meets_no_token (part.Token t a start end) (part.Space width) e = tt
 meets_no_token (part.Token t a start end) (part.Container c b first count) e = tt
 meets_no_token (part.Token t a start end) (part.Pair p b first) e = tt
 meets_no_token (part.Token t a start end) (part.Triple u b first is_exchanged) e = tt
+meets_no_token (part.Token t a start end) (part.Table own columns first count) e = tt
 meets_no_token p q e = tt
 
 pub ends_no_token : (n : ℕ) (p : Part) → is_token_part p ≡ false → EndsAt n p

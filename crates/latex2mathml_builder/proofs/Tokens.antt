@@ -1,8 +1,8 @@
 -- Parts that are no tokens are elements without a text of their own.
-use Rattle.std.proofs.Common.{◌≡◌, ℕ, Bool, true, false, List, [], ◌∷◌, None, refl}
-use Rattle.latex2mathml_elements.specs.{Attributes.Attributes, Element.Element, Element.Pair, Element.Triple}
-use Rattle.latex2mathml_builder.specs.{Names.attributes_of, Names.pair_of, Names.triple_of}
-use Rattle.latex2mathml_builder.specs.Stacks.{pair_with, token_of_element, triple_with, with_attributes}
+use Rattle.std.proofs.Common.{◌≡◌, ℕ, Bool, true, false, List, [], ◌∷◌, None, option_map, refl}
+use Rattle.latex2mathml_elements.specs.{Attributes.Attributes, Attributes.styled, Columns.Columns, Element.Element, Element.Pair, Element.Triple}
+use Rattle.latex2mathml_builder.specs.{Columns.columns_of, Names.attributes_of, Names.math_style_of, Names.pair_of, Names.triple_of}
+use Rattle.latex2mathml_builder.specs.Stacks.{pair_with, table_with, token_of_element, triple_with, with_attributes}
 use Rattle.latex2mathml_builder.specs.declared.{attributes.Attributes.Attributes as OwnAttributes, part.Part.Part, tag.Token.Token}
 use Rattle.latex2mathml_builder.specs.declared.part.Part.TheVariants as part
 use Rattle.latex2mathml_builder.proofs.Sound.{element}
@@ -25,9 +25,14 @@ triple_has_none t a true (x ∷ y ∷ []) = (refl, λ b. refl)
 triple_has_none t a false (x ∷ y ∷ z ∷ xs) = (refl, λ b. refl)
 triple_has_none t a true (x ∷ y ∷ z ∷ xs) = (refl, λ b. refl)
 
+table_has_none : (a : Attributes) (columns : Columns) (xs : List Element) → HasNoText (table_with a columns xs)
+table_has_none a columns [] = (refl, λ b. refl)
+table_has_none a columns (x ∷ xs) = (refl, λ b. refl)
+
 pub has_none : (texts : List ℕ) (settled : List Part) (p : Part) → ((t : Token) (a : OwnAttributes) (start end : ℕ) → p ≡ part.Token t a start end → ⊥) → HasNoText (element texts settled p)
 has_none texts settled (part.Token t a start end) h = absurd (h t a start end refl)
 has_none texts settled (part.Space width) h = (refl, λ b. refl)
 has_none texts settled (part.Container c a first count) h = (refl, λ b. refl)
 has_none texts settled (part.Pair p a first) h = pair_has_none (pair_of p) (attributes_of a) _
 has_none texts settled (part.Triple t a first is_exchanged) h = triple_has_none (triple_of t) (attributes_of a) is_exchanged _
+has_none texts settled (part.Table own columns first count) h = table_has_none (styled (option_map math_style_of own)) (columns_of columns) _

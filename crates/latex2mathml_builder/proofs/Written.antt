@@ -9,7 +9,7 @@ use Rattle.latex2mathml_builder.specs.Stacks.{pair_with, triple_with}
 
 -- The children of an element
 
-taken_length : (xs : List Element) (first count : ℕ) → first + count ≤ length xs → length (take count (drop first xs)) ≡ count
+pub taken_length : (xs : List Element) (first count : ℕ) → first + count ≤ length xs → length (take count (drop first xs)) ≡ count
 taken_length xs first count h = length-take-le count (drop first xs) (omega (arith, length-drop first xs))
 
 print_two : (p : Pair) (a : Attributes) (xs : List Element) → length xs ≡ 2 → print (pair_with p a xs) ≡ start_tag (pair_name p) a ++ (prints (children xs) ++ end_tag (pair_name p))

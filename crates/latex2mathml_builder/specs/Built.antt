@@ -1,9 +1,11 @@
 -- The elements of a builder: those of its parts.
-use Rattle.std.specs.Prelude.{◌≡◌, ℕ, suc, ◌+◌, ◌-◌, ◌≤◌, Bool, true, false, ⊤, List, [], ◌∷◌, ◌++◌, drop, length, map, reverse, take}
+use Rattle.std.specs.Prelude.{◌≡◌, ℕ, suc, ◌+◌, ◌-◌, ◌<◌, ◌≤◌, Bool, true, false, ⊤, List, [], ◌∷◌, ◌++◌, drop, length, map, option_map, reverse, take}
 use Rattle.std.specs.Str.{IsUtf8}
+use Rattle.latex2mathml_elements.specs.Attributes.{styled}
 use Rattle.latex2mathml_elements.specs.Element.{Element, token, space, container, children}
-use Rattle.latex2mathml_builder.specs.Names.{attributes_of, container_of, pair_of, token_of, triple_of}
-use Rattle.latex2mathml_builder.specs.Stacks.{pair_with, triple_with}
+use Rattle.latex2mathml_builder.specs.Columns.{columns_of}
+use Rattle.latex2mathml_builder.specs.Names.{attributes_of, container_of, math_style_of, pair_of, token_of, triple_of}
+use Rattle.latex2mathml_builder.specs.Stacks.{pair_with, table_with, triple_with}
 use Rattle.latex2mathml_builder.specs.declared.part.Part.{Part}
 use Rattle.latex2mathml_builder.specs.declared.part.Part.TheVariants as part
 
@@ -18,6 +20,7 @@ element_of texts xs (part.Space width) = space width
 element_of texts xs (part.Container c a first count) = container (container_of c) (attributes_of a) (children (take count (drop first xs)))
 element_of texts xs (part.Pair p a first) = pair_with (pair_of p) (attributes_of a) (take 2 (drop first xs))
 element_of texts xs (part.Triple t a first is_exchanged) = triple_with (triple_of t) (attributes_of a) is_exchanged (take 3 (drop first xs))
+element_of texts xs (part.Table own columns first count) = table_with (styled (option_map math_style_of own)) (columns_of columns) (take count (drop first xs))
 
 -- these elements, and behind them those of parts each of whose children are among the elements before it
 abbrev pub settled_on : List ℕ → List Element → List Part → List Element
@@ -38,6 +41,7 @@ Fits texts n (part.Space width) = ⊤
 Fits texts n (part.Container c a first count) = first + count ≤ n
 Fits texts n (part.Pair p a first) = first + 2 ≤ n
 Fits texts n (part.Triple t a first is_exchanged) = first + 3 ≤ n
+Fits texts n (part.Table own columns first count) = (0 < count) × (first + count ≤ n)
 
 abbrev pub AllFit : List ℕ → ℕ → List Part → Type 0
 AllFit texts n [] = ⊤

@@ -1,9 +1,12 @@
 -- What is still to be written of the elements of a builder. The work that was put last is done first.
-use Rattle.std.specs.Prelude.{◌≡◌, ℕ, ◌+◌, ◌≤◌, Bool, true, List, ◌∷◌, ◌++◌, drop, length, reverse, sum_by, take}
+use Rattle.std.specs.Prelude.{◌≡◌, ℕ, suc, ◌+◌, ◌-◌, ◌≤◌, Bool, true, List, [], ◌∷◌, ◌++◌, drop, length, reverse, sum_by, take}
 use Rattle.std.specs.List.{All, flat_map}
-use Rattle.latex2mathml_elements.specs.Element.{Element, Elements, token, space, container, pair, triple, none, more, children}
-use Rattle.latex2mathml_elements.specs.Print.{prints}
+use Rattle.latex2mathml_elements.specs.Element.{Element, Elements, Rows, Cells, token, space, container, pair, triple, table, none, more, one_row, more_rows, one_cell, more_cells, children, Mrow}
+use Rattle.latex2mathml_elements.specs.Columns.{Columns, column_at}
+use Rattle.latex2mathml_elements.specs.Print.{cell_print, cells_print, prints, row_print}
+use Rattle.latex2mathml_elements.specs.Tables.{cells_in}
 use Rattle.latex2mathml_builder.specs.Built.{Built, settled_in}
+use Rattle.latex2mathml_builder.specs.Columns.{columns_of}
 use Rattle.latex2mathml_builder.specs.declared.works.Work.{Work}
 use Rattle.latex2mathml_builder.specs.declared.works.Work.TheVariants as work
 
@@ -11,8 +14,20 @@ use Rattle.latex2mathml_builder.specs.declared.works.Work.TheVariants as work
 abbrev pub settled_from : Built → ℕ → ℕ → List Element
 settled_from b first count = take count (drop first (settled_in b))
 
+-- cells with these elements, behind so many others
+abbrev pub cell_prints : Columns → ℕ → List Element → List ℕ
+cell_prints columns k [] = []
+cell_prints columns k (x ∷ xs) = cell_print (column_at columns k) (prints (more x none)) ++ cell_prints columns (suc k) xs
+
+-- the rows that these elements become
+abbrev pub row_prints : Columns → List Element → List ℕ
+row_prints columns [] = []
+row_prints columns (x ∷ xs) = row_print (cells_print (cells_in columns x)) ++ row_prints columns xs
+
 abbrev pub work_print : Built → Work → List ℕ
 work_print b (work.Elements first count) = prints (children (settled_from b first count))
+work_print b (work.Rows columns first count) = row_prints (columns_of columns) (settled_from b first count)
+work_print b (work.Cells columns start first count) = cell_prints (columns_of columns) (first - start) (settled_from b first count)
 work_print b (work.End tag) = tag.now
 
 abbrev pub due : Built → List Work → List ℕ
@@ -21,10 +36,22 @@ due b ws = flat_map (work_print b) (reverse ws)
 -- the elements of a work are settled
 abbrev pub IsIn : Built → Work → Type 0
 IsIn b (work.Elements first count) = first + count ≤ length b.settled
+IsIn b (work.Rows columns first count) = first + count ≤ length b.settled
+IsIn b (work.Cells columns start first count) = (start ≤ first) × (first + count ≤ length b.settled)
 IsIn b (work.End tag) = Unit {0}
 
 unfoldable pub AreIn : Built → List Work → Type 0
 AreIn b = All (IsIn b)
+
+-- the elements that stand in the cells of the row which the first of these elements becomes
+abbrev pub listed : Elements → List Element
+listed none = []
+listed (more x xs) = x ∷ listed xs
+
+abbrev pub in_cells : List Element → List Element
+in_cells [] = []
+in_cells (container Mrow a (more x xs) ∷ ys) = x ∷ listed xs
+in_cells (x ∷ ys) = x ∷ []
 
 -- three elements as they are written, of which the last two may be exchanged
 abbrev pub arranged : Bool → List Element → List Element
@@ -39,14 +66,34 @@ abbrev mutual
   weight (container c a xs) = 3 + weights xs
   weight (pair p a x y) = 3 + (weight x + weight y)
   weight (triple t a x y z) = 5 + (weight x + (weight y + weight z))
+  weight (table a rows) = 3 + row_weights rows
 
   pub weights : Elements → ℕ
   weights none = 0
   weights (more x xs) = weight x + weights xs
 
+  pub row_weights : Rows → ℕ
+  row_weights (one_row cells) = 3 + cell_weights cells
+  row_weights (more_rows cells rows) = 3 + (cell_weights cells + row_weights rows)
+
+  pub cell_weights : Cells → ℕ
+  cell_weights (one_cell column xs) = 3 + weights xs
+  cell_weights (more_cells column xs cells) = 3 + (weights xs + cell_weights cells)
+
+-- .. of the cells with these elements, and of the rows that elements become
+abbrev pub cell_loads : List Element → ℕ
+cell_loads [] = 0
+cell_loads (x ∷ xs) = 3 + (weights (more x none) + cell_loads xs)
+
+abbrev pub row_loads : Columns → List Element → ℕ
+row_loads columns [] = 0
+row_loads columns (x ∷ xs) = 3 + (cell_weights (cells_in columns x) + row_loads columns xs)
+
 -- of a work, and of all works
 abbrev pub work_weight : Built → Work → ℕ
 work_weight b (work.Elements first count) = 1 + weights (children (settled_from b first count))
+work_weight b (work.Rows columns first count) = 1 + row_loads (columns_of columns) (settled_from b first count)
+work_weight b (work.Cells columns start first count) = 1 + cell_loads (settled_from b first count)
 work_weight b (work.End tag) = 1
 
 abbrev pub load : Built → List Work → ℕ

@@ -1,4 +1,5 @@
 pub mod Built
+pub mod Columns
 pub mod Due
 pub mod Names
 pub mod Stacks

@@ -5,6 +5,8 @@ use Rattle.latex2mathml_elements.specs.Element as element
 use Rattle.latex2mathml_builder.specs.declared.attributes.Attributes.{Attributes}
 use Rattle.latex2mathml_builder.specs.declared.attributes.Form.{Form}
 use Rattle.latex2mathml_builder.specs.declared.attributes.Form.TheVariants as form
+use Rattle.latex2mathml_builder.specs.declared.attributes.MathStyle.{MathStyle}
+use Rattle.latex2mathml_builder.specs.declared.attributes.MathStyle.TheVariants as math_style
 use Rattle.latex2mathml_builder.specs.declared.attributes.Side.{Side}
 use Rattle.latex2mathml_builder.specs.declared.attributes.Side.TheVariants as side
 use Rattle.latex2mathml_builder.specs.declared.attributes.Size.{Size}
@@ -25,6 +27,11 @@ use Rattle.latex2mathml_builder.specs.declared.tag.Triple.TheVariants as triple
 abbrev pub form_of : Form → attributes.Form
 form_of form.Prefix = attributes.Prefix
 form_of form.Postfix = attributes.Postfix
+
+abbrev pub math_style_of : MathStyle → attributes.MathStyle
+math_style_of math_style.Display = attributes.DisplayStyle
+math_style_of math_style.Text = attributes.TextStyle
+math_style_of math_style.Script = attributes.ScriptStyle
 
 abbrev pub side_of : Side → attributes.Side
 side_of side.Above = attributes.Above
@@ -56,7 +63,7 @@ attributes_of a = record {
   limits_stay = a.limits_stay;
   accent = option_map side_of a.accent;
   no_line = a.no_line;
-  display = a.display;
+  style = option_map math_style_of a.style;
 }
 
 abbrev pub token_of : Token → element.Token

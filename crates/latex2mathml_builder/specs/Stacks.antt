@@ -1,7 +1,9 @@
 -- What the builder's functions make of a list of elements, of which the uppermost stands first.
 use Rattle.std.specs.Prelude.{ℕ, zero, suc, pos, Bool, true, false, List, [], ◌∷◌, ◌++◌, Option, Some, None}
 use Rattle.latex2mathml_elements.specs.Attributes.{Attributes, plain}
-use Rattle.latex2mathml_elements.specs.Element.{Token, Pair, Triple, Element, token, space, pair, triple}
+use Rattle.latex2mathml_elements.specs.Columns.{Columns}
+use Rattle.latex2mathml_elements.specs.Element.{Token, Pair, Triple, Element, token, space, pair, triple, table}
+use Rattle.latex2mathml_elements.specs.Tables.{rows_in}
 
 -- whether the uppermost element holds a text
 abbrev pub is_token : List Element → Bool
@@ -49,7 +51,7 @@ given depth a [] = []
 given zero a (x ∷ xs) = with_attributes a x ∷ xs
 given (suc depth) a (x ∷ xs) = x ∷ given depth a xs
 
--- an element of two and of three; of fewer there is none, and this stands for it
+-- an element of two, of three, and of one or more; of fewer there is none, and this stands for it
 abbrev pub no_element : Element
 no_element = space (pos 0)
 
@@ -61,3 +63,7 @@ abbrev pub triple_with : Triple → Attributes → Bool → List Element → Ele
 triple_with t a false (x ∷ y ∷ z ∷ xs) = triple t a x y z
 triple_with t a true (x ∷ y ∷ z ∷ xs) = triple t a x z y
 triple_with t a is_exchanged xs = no_element
+
+abbrev pub table_with : Attributes → Columns → List Element → Element
+table_with a columns [] = no_element
+table_with a columns (x ∷ xs) = table a (rows_in columns x xs)

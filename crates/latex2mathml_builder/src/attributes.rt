@@ -1,8 +1,8 @@
 //! The attributes of elements.
-ghost use Rattle.std.specs.Prelude.{◌≡◌, ◌++◌, true, OnOk, option_map, string_bytes};
-ghost use Rattle.latex2mathml_elements.specs.Attributes.{plain};
-ghost use Rattle.latex2mathml_elements.specs.Print.{accent_text, attributes_text, display_text, form_text, if_so, size_text, space_text, stretch_text};
-ghost use Rattle.latex2mathml_builder.specs.Names.{attributes_of, form_of, side_of, size_of, space_of, stretch_of};
+ghost use Rattle.std.specs.Prelude.{◌≡◌, ◌++◌, [], true, IsTrue, OnOk, option_map, string_bytes};
+ghost use Rattle.latex2mathml_elements.specs.Attributes.{plain, styled};
+ghost use Rattle.latex2mathml_elements.specs.Print.{accent_text, attributes_text, form_text, if_so, size_text, space_text, stretch_text, style_text};
+ghost use Rattle.latex2mathml_builder.specs.Names.{attributes_of, form_of, math_style_of, side_of, size_of, space_of, stretch_of};
 
 use std::alloc::AllocError;
 
@@ -44,6 +44,17 @@ pub enum Size {
     Biggest,
 }
 
+/// The style of a formula.
+#[derive(Debug, Clone, Copy)]
+pub enum MathStyle {
+    /// Displayed.
+    Display,
+    /// In a line of text.
+    Text,
+    /// As small as a script.
+    Script,
+}
+
 /// The attributes of an element. Where one is missing, the browser decides.
 #[derive(Debug, Clone, Copy)]
 pub struct Attributes {
@@ -62,8 +73,8 @@ pub struct Attributes {
     pub accent: Option<Side>,
     /// A fraction without its line.
     pub no_line: bool,
-    /// In display style or not, and not as small as a script.
-    pub display: Option<bool>,
+    /// The style of what stands in it, whatever the style around it is.
+    pub style: Option<MathStyle>,
 }
 
 impl Attributes {
@@ -82,7 +93,7 @@ impl Attributes {
             limits_stay: false,
             accent: None,
             no_line: false,
-            display: None,
+            style: None,
         }
     }
 
@@ -96,23 +107,67 @@ impl Attributes {
         }
     }
 
+    /// Those of an element with a style of its own, where it has one.
+    pub fn styled(style: Option<MathStyle>) -> Attributes
+        ensures { attributes_of result ≡ styled (option_map math_style_of style) }
+    {
+        Attributes {
+            style,
+            ..Attributes::plain()
+        }
+    }
+
+    /// Whether there are no attributes.
+    #[inline(always)]
+    pub(crate) fn are_none(&self) -> bool
+        ensures { IsTrue result → attributes_text (attributes_of self.now) ≡ [] }
+    {
+        matches!(
+            self,
+            Attributes {
+                upright: false,
+                form: None,
+                stretch: None,
+                fence: false,
+                separator: false,
+                size: None,
+                space: None,
+                limits_stay: false,
+                accent: None,
+                no_line: false,
+                style: None,
+            }
+        )
+    }
+
     /// Appends the attributes, each after a space.
     pub(crate) fn append(self, out: &mut String) -> Result<(), AllocError>
         ensures { OnOk result (string_bytes out.new ≡ string_bytes out.old ++ attributes_text (attributes_of self)) }
     {
-        out.push_str(text_if(self.upright, " mathvariant=\"normal\""))?;
-        out.push_str(form_text(self.form))?;
-        out.push_str(stretch_text(self.stretch))?;
-        out.push_str(text_if(self.fence, " fence=\"true\""))?;
-        out.push_str(text_if(self.separator, " separator=\"true\""))?;
-        out.push_str(size_text(self.size))?;
-        out.push_str(space_text(self.space))?;
-        out.push_str(text_if(self.limits_stay, " movablelimits=\"false\""))?;
-        out.push_str(accent_text(self.accent))?;
-        out.push_str(text_if(self.no_line, " linethickness=\"0\""))?;
-        out.push_str(display_text(self.display))?;
+        append_some(text_if(self.upright, " mathvariant=\"normal\""), out)?;
+        append_some(form_text(self.form), out)?;
+        append_some(stretch_text(self.stretch), out)?;
+        append_some(text_if(self.fence, " fence=\"true\""), out)?;
+        append_some(text_if(self.separator, " separator=\"true\""), out)?;
+        append_some(size_text(self.size), out)?;
+        append_some(space_text(self.space), out)?;
+        append_some(text_if(self.limits_stay, " movablelimits=\"false\""), out)?;
+        append_some(accent_text(self.accent), out)?;
+        append_some(text_if(self.no_line, " linethickness=\"0\""), out)?;
+        append_some(style_text(self.style), out)?;
         Ok(())
     }
+}
+
+/// Appends a text, which may be empty.
+#[inline(always)]
+fn append_some(text: &'static str, out: &mut String) -> Result<(), AllocError>
+    ensures { OnOk result (string_bytes out.new ≡ string_bytes out.old ++ text.now) }
+{
+    if text.is_empty() {
+        return Ok(());
+    }
+    out.push_str(text)
 }
 
 fn text_if(flag: bool, text: &'static str) -> &'static str
@@ -173,12 +228,13 @@ fn accent_text(accent: Option<Side>) -> &'static str
     }
 }
 
-fn display_text(display: Option<bool>) -> &'static str
-    ensures { result.now ≡ display_text display }
+fn style_text(style: Option<MathStyle>) -> &'static str
+    ensures { result.now ≡ style_text (option_map math_style_of style) }
 {
-    match display {
+    match style {
         None => "",
-        Some(true) => " displaystyle=\"true\" scriptlevel=\"0\"",
-        Some(false) => " displaystyle=\"false\" scriptlevel=\"0\"",
+        Some(MathStyle::Display) => " displaystyle=\"true\" scriptlevel=\"0\"",
+        Some(MathStyle::Text) => " displaystyle=\"false\" scriptlevel=\"0\"",
+        Some(MathStyle::Script) => " displaystyle=\"false\" scriptlevel=\"1\"",
     }
 }

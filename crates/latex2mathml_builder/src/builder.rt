@@ -1,13 +1,15 @@
 //! The stack of open elements.
-ghost use Rattle.std.specs.Prelude.{◌≡◌, ◌⊎◌, ◌+◌, ◌-◌, ◌<◌, ◌≤◌, ◌∷◌, ◌++◌, [], false, true, IfOk, MatchOption, None, OnErr, OnOk, Some, drop, length, reverse, take};
+ghost use Rattle.std.specs.Prelude.{◌≡◌, ◌⊎◌, ◌+◌, ◌-◌, ◌<◌, ◌≤◌, ◌∷◌, ◌++◌, [], false, true, IfOk, MatchOption, None, OnErr, OnOk, Some, drop, length, option_map, reverse, take};
 ghost use Rattle.std.specs.Char.{encode_utf8};
-ghost use Rattle.latex2mathml_elements.specs.{Attributes.plain, Element.Mrow};
+ghost use Rattle.latex2mathml_elements.specs.{Attributes.plain, Attributes.styled, Element.Mrow};
 ghost use Rattle.latex2mathml_elements.specs.Element.{children, container, space, token};
 ghost use Rattle.latex2mathml_builder.specs.Built.{Fits, HasText, between, element_of, elements_in, is_token_part, nothing, settled_in};
-ghost use Rattle.latex2mathml_builder.specs.Names.{attributes_of, container_of, pair_of, token_of, triple_of};
-ghost use Rattle.latex2mathml_builder.specs.Stacks.{are_tokens, given, is_token, joined, lengthened, ordered, pair_with, token_at, triple_with};
+ghost use Rattle.latex2mathml_builder.specs.Columns.{columns_of};
+ghost use Rattle.latex2mathml_builder.specs.Names.{attributes_of, container_of, math_style_of, pair_of, token_of, triple_of};
+ghost use Rattle.latex2mathml_builder.specs.Stacks.{are_tokens, given, is_token, joined, lengthened, ordered, pair_with, table_with, token_at, triple_with};
 
-use crate::attributes::Attributes;
+use crate::attributes::{Attributes, MathStyle};
+use crate::columns::Columns;
 use crate::part::Part;
 use crate::tag::{Container, Pair, Token, Triple};
 use std::alloc::{AllocError, Global};
@@ -268,6 +270,26 @@ impl Builder {
     {
         let first = self.settled.as_slice().len();
         self.wrap(3, false, Part::Triple(tag, attributes, first, is_exchanged))
+    }
+
+    /// Makes a table of so many of the uppermost elements: each becomes a row. The children of an `mrow` become the cells of
+    /// its row, and any other element stands in a cell alone.
+    pub fn table(
+        &mut self,
+        style: Option<MathStyle>,
+        columns: Columns,
+        count: usize,
+    ) -> Result<(), AllocError>
+        requires some { 0 < count }
+        requires all { count ≤ length (elements_in self.old) }
+        ensures elements { OnOk result (elements_in self.new
+            ≡ table_with (styled (option_map math_style_of style)) (columns_of columns)
+            (reverse (take count (elements_in self.old)))
+            ∷ drop count (elements_in self.old)) }
+        ensures err { OnErr result (self.new ≡ self.old) }
+    {
+        let first = self.settled.as_slice().len();
+        self.wrap(count, false, Part::Table(style, columns, first, count))
     }
 
     /// Puts an element in place of so many of the uppermost ones, which become settled, the first two of them exchanged if

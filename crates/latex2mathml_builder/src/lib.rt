@@ -6,7 +6,9 @@
 
 pub mod attributes;
 pub mod builder;
+pub mod columns;
 mod part;
+mod rows;
 pub mod tag;
 #[cfg(test)]
 mod tests;

@@ -1,6 +1,7 @@
 //! An element without its children.
 
-use crate::attributes::Attributes;
+use crate::attributes::{Attributes, MathStyle};
+use crate::columns::Columns;
 use crate::tag::{Container, Pair, Token, Triple};
 
 /// An element. Its text is a part of the builder's texts; its children stand side by side among the settled elements.
@@ -16,4 +17,6 @@ pub(crate) enum Part {
     Pair(Pair, Attributes, usize),
     /// The first child, and whether the third stands before the second.
     Triple(Triple, Attributes, usize, bool),
+    /// A style of its own, where there is one, and the columns; the first row, and how many there are.
+    Table(Option<MathStyle>, Columns, usize, usize),
 }

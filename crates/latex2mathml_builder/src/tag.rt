@@ -51,6 +51,18 @@ impl Token {
         }
     }
 
+    /// The start tag without attributes.
+    pub(crate) fn start_tag(self) -> &'static str
+        ensures { result.now ≡ (codes "<" ++ token_name (token_of self)) ++ codes ">" }
+    {
+        match self {
+            Token::Mi => "<mi>",
+            Token::Mn => "<mn>",
+            Token::Mo => "<mo>",
+            Token::Mtext => "<mtext>",
+        }
+    }
+
     /// The end tag.
     pub(crate) fn end(self) -> &'static str
         ensures { result.now ≡ end_tag (token_name (token_of self)) }
@@ -73,6 +85,17 @@ impl Container {
             Container::Mrow => "<mrow",
             Container::Msqrt => "<msqrt",
             Container::Mstyle => "<mstyle",
+        }
+    }
+
+    /// The start tag without attributes.
+    pub(crate) fn start_tag(self) -> &'static str
+        ensures { result.now ≡ (codes "<" ++ container_name (container_of self)) ++ codes ">" }
+    {
+        match self {
+            Container::Mrow => "<mrow>",
+            Container::Msqrt => "<msqrt>",
+            Container::Mstyle => "<mstyle>",
         }
     }
 
@@ -103,6 +126,20 @@ impl Pair {
         }
     }
 
+    /// The start tag without attributes.
+    pub(crate) fn start_tag(self) -> &'static str
+        ensures { result.now ≡ (codes "<" ++ pair_name (pair_of self)) ++ codes ">" }
+    {
+        match self {
+            Pair::Mfrac => "<mfrac>",
+            Pair::Mroot => "<mroot>",
+            Pair::Msub => "<msub>",
+            Pair::Msup => "<msup>",
+            Pair::Munder => "<munder>",
+            Pair::Mover => "<mover>",
+        }
+    }
+
     /// The end tag.
     pub(crate) fn end(self) -> &'static str
         ensures { result.now ≡ end_tag (pair_name (pair_of self)) }
@@ -126,6 +163,16 @@ impl Triple {
         match self {
             Triple::Msubsup => "<msubsup",
             Triple::Munderover => "<munderover",
+        }
+    }
+
+    /// The start tag without attributes.
+    pub(crate) fn start_tag(self) -> &'static str
+        ensures { result.now ≡ (codes "<" ++ triple_name (triple_of self)) ++ codes ">" }
+    {
+        match self {
+            Triple::Msubsup => "<msubsup>",
+            Triple::Munderover => "<munderover>",
         }
     }
 

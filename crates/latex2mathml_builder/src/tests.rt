@@ -1,7 +1,8 @@
 //! Elements that are built and written.
 
-use crate::attributes::{Attributes, Form, Side, Size, Space, Stretch};
+use crate::attributes::{Attributes, Form, MathStyle, Side, Size, Space, Stretch};
 use crate::builder::Builder;
+use crate::columns::{Column, Columns};
 use crate::tag::{Container, Pair, Token, Triple};
 use crate::works::Works;
 use std::test::Fail;
@@ -103,7 +104,7 @@ fn every_other_attribute(rt: HostRuntime) -> Result<(), Fail> {
     };
     let style = Attributes {
         accent: Some(Side::Below),
-        display: Some(false),
+        style: Some(MathStyle::Text),
         ..plain
     };
     builder.text(Token::Mo, delimiter, "|")?;
@@ -121,6 +122,57 @@ fn every_other_attribute(rt: HostRuntime) -> Result<(), Fail> {
 }
 
 #[test]
+fn rows_become_cells(rt: HostRuntime) -> Result<(), Fail> {
+    let mut builder = Builder::new(rt.alloc());
+    let mut works = Works::new(rt.alloc());
+    let mut out = String::new(rt.alloc());
+    let plain = Attributes::plain();
+    builder.text(Token::Mi, plain, "a")?;
+    builder.text(Token::Mi, plain, "b")?;
+    builder.container(Container::Mrow, plain, 2)?;
+    builder.container(Container::Mrow, plain, 0)?;
+    builder.text(Token::Mi, plain, "c")?;
+    builder.table(Some(MathStyle::Script), Columns::in_pairs(), 3)?;
+    builder.write(1, &mut works, &mut out)?;
+    assert!(rt;
+        out.as_str()
+            == "<mtable displaystyle=\"false\" scriptlevel=\"1\"><mtr><mtd columnalign=\"right\" style=\"text-align: right; text-align: -webkit-right; padding-right: 0\"><mi>a</mi></mtd><mtd columnalign=\"left\" style=\"text-align: left; padding-left: 0\"><mi>b</mi></mtd></mtr><mtr><mtd columnalign=\"right\" style=\"text-align: right; text-align: -webkit-right; padding-right: 0\"><mrow></mrow></mtd></mtr><mtr><mtd columnalign=\"right\" style=\"text-align: right; text-align: -webkit-right; padding-right: 0\"><mi>c</mi></mtd></mtr></mtable>",
+        "{out}"
+    );
+    Ok(())
+}
+
+#[test]
+fn columns_of_each_kind(rt: HostRuntime) -> Result<(), Fail> {
+    let mut builder = Builder::new(rt.alloc());
+    let mut works = Works::new(rt.alloc());
+    let mut out = String::new(rt.alloc());
+    let plain = Attributes::plain();
+    builder.text(Token::Mi, plain, "a")?;
+    builder.text(Token::Mi, plain, "b")?;
+    builder.text(Token::Mi, plain, "c")?;
+    builder.container(Container::Mrow, plain, 3)?;
+    builder.table(None, Columns::right_center_left(), 1)?;
+    builder.text(Token::Mi, plain, "d")?;
+    builder.text(Token::Mi, plain, "e")?;
+    builder.container(Container::Mrow, plain, 2)?;
+    let mut listed = Columns::none();
+    assert!(rt; listed.push(Column::LeftAligned));
+    builder.table(None, listed, 1)?;
+    builder.text(Token::Mi, plain, "f")?;
+    let mut alike = Columns::alike(Column::Dense);
+    assert!(rt; !alike.push(Column::LeftAligned));
+    builder.table(None, alike, 1)?;
+    builder.write(3, &mut works, &mut out)?;
+    assert!(rt;
+        out.as_str()
+            == "<mtable><mtr><mtd columnalign=\"right\" style=\"text-align: right; text-align: -webkit-right\"><mi>a</mi></mtd><mtd><mi>b</mi></mtd><mtd columnalign=\"left\" style=\"text-align: left\"><mi>c</mi></mtd></mtr></mtable><mtable><mtr><mtd columnalign=\"left\" style=\"text-align: left\"><mi>d</mi></mtd><mtd><mi>e</mi></mtd></mtr></mtable><mtable><mtr><mtd style=\"padding: 0.1em 0.3em\"><mi>f</mi></mtd></mtr></mtable>",
+        "{out}"
+    );
+    Ok(())
+}
+
+#[test]
 fn deep(rt: HostRuntime) -> Result<(), Fail> {
     let mut builder = Builder::new(rt.alloc());
     let mut works = Works::new(rt.alloc());
@@ -132,5 +184,21 @@ fn deep(rt: HostRuntime) -> Result<(), Fail> {
     }
     builder.write(1, &mut works, &mut out)?;
     assert!(rt; out.len() == 100000 * 13 + 10);
+    Ok(())
+}
+
+#[test]
+fn deep_tables(rt: HostRuntime) -> Result<(), Fail> {
+    let mut builder = Builder::new(rt.alloc());
+    let mut works = Works::new(rt.alloc());
+    let mut out = String::new(rt.alloc());
+    let plain = Attributes::plain();
+    builder.character(Token::Mi, plain, 'x')?;
+    for _ in 0..100000 {
+        builder.container(Container::Mrow, plain, 1)?;
+        builder.table(None, Columns::alike(Column::Centered), 1)?;
+    }
+    builder.write(1, &mut works, &mut out)?;
+    assert!(rt; out.len() == 100000 * 39 + 10);
     Ok(())
 }

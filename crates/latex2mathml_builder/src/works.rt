@@ -1,6 +1,7 @@
 //! What is still to be written.
 ghost use Rattle.std.specs.Prelude.{◌≡◌, []};
 
+use crate::columns::Columns;
 use std::alloc::Global;
 use std::marker::Model;
 
@@ -35,6 +36,10 @@ impl Works {
 pub(crate) enum Work {
     /// So many settled elements from this one on.
     Elements(usize, usize),
+    /// So many settled elements from this one on, each as a row of these columns.
+    Rows(Columns, usize, usize),
+    /// The cells of a row that begins with the first of these settled elements: so many from the second one on.
+    Cells(Columns, usize, usize, usize),
     /// An end tag.
     End(&'static str),
 }

@@ -65,10 +65,23 @@ impl Builder {
                 self.push_work(Work::Elements(first + 1, count - 1), works)?;
                 self.write_part(self.settled_at(first), works, out)
             }
+            Work::Rows(_, _, 0) => Ok(()),
+            Work::Rows(columns, first, count) => {
+                let _ = self.settled_len();
+                self.push_work(Work::Rows(columns, first + 1, count - 1), works)?;
+                self.write_row(columns, first, works, out)
+            }
+            Work::Cells(_, _, _, 0) => Ok(()),
+            Work::Cells(columns, start, first, count) => {
+                let _ = self.settled_len();
+                self.push_work(Work::Cells(columns, start, first + 1, count - 1), works)?;
+                self.write_cell(columns, start, first, works, out)
+            }
         }
     }
 
     /// Writes what stands before the children of an element, and puts what follows on the list.
+    #[inline(always)]
     fn write_part(
         &self,
         part: Part,
@@ -85,25 +98,30 @@ impl Builder {
     {
         match part {
             Part::Token(tag, attributes, start, end) => {
-                start_tag(tag.start(), attributes, out)?;
+                start_tag(tag.start_tag(), tag.start(), &attributes, out)?;
                 append_content(self.text_between(start, end), out)?;
                 out.push_str(tag.end())
             }
             Part::Space(width) => append_space(width, out),
             Part::Container(tag, attributes, first, count) => {
-                start_tag(tag.start(), attributes, out)?;
+                start_tag(tag.start_tag(), tag.start(), &attributes, out)?;
                 self.push_work(Work::End(tag.end()), works)?;
                 self.push_work(Work::Elements(first, count), works)
             }
             Part::Pair(tag, attributes, first) => {
-                start_tag(tag.start(), attributes, out)?;
+                start_tag(tag.start_tag(), tag.start(), &attributes, out)?;
                 self.push_work(Work::End(tag.end()), works)?;
                 self.push_work(Work::Elements(first, 2), works)
             }
             Part::Triple(tag, attributes, first, is_exchanged) => {
-                start_tag(tag.start(), attributes, out)?;
+                start_tag(tag.start_tag(), tag.start(), &attributes, out)?;
                 self.push_work(Work::End(tag.end()), works)?;
                 self.push_three(first, is_exchanged, works)
+            }
+            Part::Table(style, columns, first, count) => {
+                start_with_attributes("<mtable", &Attributes::styled(style), out)?;
+                self.push_work(Work::End("</mtable>"), works)?;
+                self.push_work(Work::Rows(columns, first, count), works)
             }
         }
     }
@@ -136,7 +154,7 @@ impl Builder {
 
     /// Puts a work on the list.
     #[tactic(auto, unfolding(crate::specs::Due::AreIn))]
-    fn push_work(&self, work: Work, works: &mut Vec<Work>) -> Result<(), AllocError>
+    pub(crate) fn push_work(&self, work: Work, works: &mut Vec<Work>) -> Result<(), AllocError>
         requires one { IsIn self.now work }
         requires inside { AreIn self.now works.old.items }
         ensures inside { OnOk result (AreIn self.now works.new.items) }
@@ -148,14 +166,35 @@ impl Builder {
     }
 }
 
-/// Appends a start tag, which begins so.
+/// Appends a start tag: this one if there are no attributes, else one that begins so.
+#[inline(always)]
 #[tactic(auto, using(std::proofs::lemmas::Grind::common_steps))]
 fn start_tag(
+    whole: &'static str,
     beginning: &'static str,
-    attributes: Attributes,
+    attributes: &Attributes,
     out: &mut String,
 ) -> Result<(), AllocError>
-    ensures { OnOk result (string_bytes out.new ≡ string_bytes out.old ++ (beginning.now ++ (attributes_text (attributes_of attributes) ++ codes ">"))) }
+    requires { whole.now ≡ beginning.now ++ codes ">" }
+    ensures { OnOk result (string_bytes out.new ≡ string_bytes out.old
+        ++ (beginning.now ++ (attributes_text (attributes_of attributes.now) ++ codes ">"))) }
+{
+    if attributes.are_none() {
+        return out.push_str(whole);
+    }
+    start_with_attributes(beginning, attributes, out)
+}
+
+/// Appends a start tag, which begins so.
+#[inline(never)]
+#[tactic(auto, using(std::proofs::lemmas::Grind::common_steps))]
+fn start_with_attributes(
+    beginning: &'static str,
+    attributes: &Attributes,
+    out: &mut String,
+) -> Result<(), AllocError>
+    ensures { OnOk result (string_bytes out.new ≡ string_bytes out.old
+        ++ (beginning.now ++ (attributes_text (attributes_of attributes.now) ++ codes ">"))) }
 {
     out.push_str(beginning)?;
     attributes.append(out)?;

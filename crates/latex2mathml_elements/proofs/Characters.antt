@@ -3,9 +3,9 @@ use Rattle.std.proofs.Common.{◌≡◌, inl, inr, ℕ, ◌<◌, Bool, true, fal
 use Rattle.std.proofs.{lemmas.Bool.and_parts, lemmas.Bool.Decides.nat_tests, lemmas.Bool.Decides.eqb_tells, lemmas.List.Folds.list_all-append}
 use Rattle.std.proofs.lemmas.Str.{NoCharPasses-nil, NoCharPasses-append, encode_ascii}
 use Rattle.std.specs.{Bool.⊤, Char.encode_utf8, List.list_all, Str.byte, Str.NonePass, Str.encode_utf8_all}
-use Rattle.latex2mathml_elements.specs.Characters.{is_forbidden, IsAllowed, EachText, EachTextOf}
+use Rattle.latex2mathml_elements.specs.Characters.{is_forbidden, IsAllowed, EachText, EachTextOf, EachTextOfCells, EachTextOfRows}
 use Rattle.latex2mathml_elements.specs.Dollars.{IsDollarFree}
-use Rattle.latex2mathml_elements.specs.Element.{Element, Elements, token, space, container, pair, triple, none, more}
+use Rattle.latex2mathml_elements.specs.Element.{Element, Elements, Rows, Cells, token, space, container, pair, triple, table, none, more, one_row, more_rows, one_cell, more_cells}
 use Rattle.latex2mathml_elements.specs.Print.{formula_print}
 use Rattle.latex2mathml_elements.proofs.Plain.{IsPlain, is_plain, formula_holds}
 use Rattle.latex2mathml_tokens.specs.Escape.{content, content_byte}
@@ -43,10 +43,19 @@ mutual
   any_text (container c a xs) = any_text_of xs
   any_text (pair p a x y) = (any_text x, any_text y)
   any_text (triple t a x y z) = (any_text x, any_text y, any_text z)
+  any_text (table a rows) = any_text_of_rows rows
 
   any_text_of : (xs : Elements) → EachTextOf (λ text. ⊤) xs
   any_text_of none = tt
   any_text_of (more x xs) = (any_text x, any_text_of xs)
+
+  any_text_of_rows : (rows : Rows) → EachTextOfRows (λ text. ⊤) rows
+  any_text_of_rows (one_row cells) = any_text_of_cells cells
+  any_text_of_rows (more_rows cells rows) = (any_text_of_cells cells, any_text_of_rows rows)
+
+  any_text_of_cells : (cells : Cells) → EachTextOfCells (λ text. ⊤) cells
+  any_text_of_cells (one_cell column xs) = any_text_of xs
+  any_text_of_cells (more_cells column xs cells) = (any_text_of xs, any_text_of_cells cells)
 
 pub dollar_free : (is_display : Bool) (xs : Elements) → IsDollarFree (formula_print is_display xs)
 dollar_free is_display xs =

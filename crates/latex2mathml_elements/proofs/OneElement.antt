@@ -1,14 +1,14 @@
 -- The print of an element is one element that obeys the child table.
 use Rattle.std.proofs.Common.{◌≡◌, ℕ, ℤ, Bool, true, false, ◌&&◌, IsTrue, List, [], ◌∷◌, ◌++◌, Option, refl, sym, ap, ◌∙◌, append_assoc, append-nil, codes, map}
-use Rattle.std.specs.List.{list_all}
-use Rattle.latex2mathml_elements.specs.Attributes.{Attributes}
-use Rattle.latex2mathml_elements.specs.Element.{Token, Mi, Mn, Mo, Mtext, Container, Mrow, Msqrt, Mstyle, Pair, Mfrac, Mroot, Msub, Msup, Munder, Mover, Triple, Msubsup, Munderover, Element, Elements, token, space, container, pair, triple, none, more as one_more}
+use Rattle.std.specs.{List.list_all, Str.bytes_eq}
+use Rattle.latex2mathml_elements.specs.{Attributes.Attributes, Columns.Column}
+use Rattle.latex2mathml_elements.specs.Element.{Token, Mi, Mn, Mo, Mtext, Container, Mrow, Msqrt, Mstyle, Pair, Mfrac, Mroot, Msub, Msup, Munder, Mover, Triple, Msubsup, Munderover, Element, Elements, Rows, Cells, token, space, container, pair, triple, table, none, more as one_more, one_row, more_rows, one_cell, more_cells}
 use Rattle.latex2mathml_elements.specs.Laws.{PrintAsElements}
-use Rattle.latex2mathml_elements.specs.Print.{container_name, formula_print, pair_name, print, prints, start_tag, token_name, triple_name}
-use Rattle.latex2mathml_elements.proofs.{Characters.allowed_print, Characters.dollar_free, Settings.settings}
-use Rattle.latex2mathml_trees.specs.{MathSchema.child_table, MathSchema.IsMathElement}
+use Rattle.latex2mathml_elements.specs.Print.{cell_print, cells_print, container_name, formula_print, pair_name, print, prints, row_print, rows_print, start_tag, token_name, triple_name}
+use Rattle.latex2mathml_elements.proofs.{Characters.allowed_print, Characters.dollar_free, Settings.AreSettings, Settings.column, Settings.settings}
+use Rattle.latex2mathml_trees.specs.{MathSchema.child_table, MathSchema.has_some, MathSchema.IsMathElement}
 use Rattle.latex2mathml_trees.specs.Markup.{Name, attribute, plain, open_tag, empty_tag, above, add, at_start, lowest, name_of, IsElement, OpenElements, Runs, is_attribute, is_name}
-use Rattle.latex2mathml_trees.proofs.Runs.{closed, content_leads, ending_as, joined, more, more-above, more-append, obeying, single, spelled_as, staying}
+use Rattle.latex2mathml_trees.proofs.Runs.{closed, content_leads, ending_as, joined, more, more-above, more-append, obeying, opened, single, spelled_as, staying}
 use Rattle.latex2mathml_trees.proofs.ValueTexts.{beside, no_text, plain_before, plain_width}
 
 abbrev called : Element → Name
@@ -17,6 +17,7 @@ called (space width) = codes "mspace"
 called (container c a xs) = container_name c
 called (pair p a x y) = pair_name p
 called (triple t a x y z) = triple_name t
+called (table a rows) = codes "mtable"
 
 -- The names of elements are names, and the child table gives each element what its constructor gives it
 
@@ -67,11 +68,30 @@ triple_fits Msubsup parent m n o = refl
 triple_fits Munderover parent m n o = refl
 
 -- a start tag opens an element
-starts : (n : Name) (a : Attributes) (s : OpenElements) → IsTrue (is_name n) → Runs child_table (start_tag n a) s (above n [] false (add n s))
-starts n a s valid =
-    let some = settings a in
+opens : {text : List ℕ} (n : Name) (s : OpenElements) → IsTrue (is_name n) → AreSettings text → Runs child_table (codes "<" ++ (n ++ (text ++ codes ">"))) s (above n [] false (add n s))
+opens n s valid some =
     spelled_as (ap (λ l. codes "<" ++ (n ++ (l ++ codes ">"))) some.spelled)
     (single child_table (open_tag n some.list) s (above n [] false (add n s)) (ap (λ b. b && list_all is_attribute some.list) valid ∙ some.valid) refl)
+
+starts : (n : Name) (a : Attributes) (s : OpenElements) → IsTrue (is_name n) → Runs child_table (start_tag n a) s (above n [] false (add n s))
+starts n a s valid = opens n s valid (settings a)
+
+-- The rows of a table, and the cells of a row
+
+-- children of this name, and one at least
+abbrev AreSome : Name → List Name → Type 0
+AreSome name names = IsTrue (has_some names && list_all (bytes_eq name) names)
+
+-- a row stands in a table, and a cell in a row
+row_runs : (inside : List ℕ) (ks names : List Name) (s : OpenElements) → AreSome (codes "mtd") names → Runs child_table inside (above (codes "mtr") [] false (above (codes "mtable") (codes "mtr" ∷ ks) false s)) (above (codes "mtr") names false (above (codes "mtable") (codes "mtr" ∷ ks) false s)) → Runs child_table (row_print inside) (above (codes "mtable") ks false s) (above (codes "mtable") (codes "mtr" ∷ ks) false s)
+row_runs inside ks names s are runs =
+    joined (opened child_table (codes "mtr") (above (codes "mtable") ks false s) refl)
+    (joined runs (obeying child_table (codes "mtr") names false (above (codes "mtable") (codes "mtr" ∷ ks) false s) refl are))
+
+cell_runs : (c : Column) (inside : List ℕ) (ks names : List Name) (s : OpenElements) → Runs child_table inside (above (codes "mtd") [] false (above (codes "mtr") (codes "mtd" ∷ ks) false s)) (above (codes "mtd") names false (above (codes "mtr") (codes "mtd" ∷ ks) false s)) → Runs child_table (cell_print c inside) (above (codes "mtr") ks false s) (above (codes "mtr") (codes "mtd" ∷ ks) false s)
+cell_runs c inside ks names s runs =
+    joined (opens (codes "mtd") (above (codes "mtr") ks false s) refl (column c))
+    (joined runs (obeying child_table (codes "mtd") names false (above (codes "mtr") (codes "mtd" ∷ ks) false s) refl refl))
 
 space_runs : (width : ℤ) (s : OpenElements) → Runs child_table (print (space width)) s (add (codes "mspace") s)
 space_runs width s =
@@ -98,6 +118,28 @@ mutual
   element_runs (triple t a x y z) s =
       let n = triple_name t in
       joined (starts n a s (triple_named t)) (joined (element_runs x _) (joined (element_runs y _) (joined (element_runs z _) (obeying child_table n (called z ∷ called y ∷ called x ∷ []) false (add n s) (triple_named t) (triple_fits t (name_of (add n s)) (called z) (called y) (called x))))))
+  element_runs (table a rows) s =
+      let n = codes "mtable" in
+      let inner = rows_run rows [] (add n s) refl in
+      joined (starts n a s refl) (joined inner.1.1 (obeying child_table n inner.0 false (add n s) refl inner.1.0))
+
+  rows_run : (rows : Rows) (ks : List Name) (s : OpenElements) → IsTrue (list_all (bytes_eq (codes "mtr")) ks) → (names : List Name) × (AreSome (codes "mtr") names × Runs child_table (rows_print rows) (above (codes "mtable") ks false s) (above (codes "mtable") names false s))
+  rows_run (one_row cells) ks s h =
+      let inner = cells_run cells [] (above (codes "mtable") (codes "mtr" ∷ ks) false s) refl in
+      (codes "mtr" ∷ ks, (h, row_runs _ ks inner.0 s inner.1.0 inner.1.1))
+  rows_run (more_rows cells rows) ks s h =
+      let inner = cells_run cells [] (above (codes "mtable") (codes "mtr" ∷ ks) false s) refl in
+      let others = rows_run rows (codes "mtr" ∷ ks) s h in
+      (others.0, (others.1.0, joined (row_runs _ ks inner.0 s inner.1.0 inner.1.1) others.1.1))
+
+  cells_run : (cells : Cells) (ks : List Name) (s : OpenElements) → IsTrue (list_all (bytes_eq (codes "mtd")) ks) → (names : List Name) × (AreSome (codes "mtd") names × Runs child_table (cells_print cells) (above (codes "mtr") ks false s) (above (codes "mtr") names false s))
+  cells_run (one_cell c xs) ks s h =
+      let inner = elements_run xs (above (codes "mtd") [] false (above (codes "mtr") (codes "mtd" ∷ ks) false s)) in
+      (codes "mtd" ∷ ks, (h, cell_runs c _ ks (inner.0 ++ []) s (ending_as (more-above inner.0 [] (codes "mtd") false _) inner.1)))
+  cells_run (more_cells c xs cells) ks s h =
+      let inner = elements_run xs (above (codes "mtd") [] false (above (codes "mtr") (codes "mtd" ∷ ks) false s)) in
+      let others = cells_run cells (codes "mtd" ∷ ks) s h in
+      (others.0, (others.1.0, joined (cell_runs c _ ks (inner.0 ++ []) s (ending_as (more-above inner.0 [] (codes "mtd") false _) inner.1)) others.1.1))
 
   elements_run : (xs : Elements) (s : OpenElements) → (names : List Name) × Runs child_table (prints xs) s (more names s)
   elements_run none s = ([], staying)

@@ -2,10 +2,11 @@
 use Rattle.std.proofs.Common.{ℕ, ◌+◌, ◌<◌, Bool, true, false, ◌&&◌, ◌==◌, not, IsTrue, List, [], ◌++◌, Option, Some, None, refl, arith, codes, nat_lt}
 use Rattle.std.proofs.lemmas.Bool.Decides.{nat_tests}
 use Rattle.std.specs.{List.list_all, Str.byte}
-use Rattle.latex2mathml_elements.specs.Attributes.{Attributes, Side, Above, Below, Form, Prefix, Postfix, Stretch, Stretching, Rigid, Space, NoSpace, Narrow, Size, Big, Bigger, VeryBig, Biggest}
-use Rattle.latex2mathml_elements.specs.Characters.{EachText, EachTextOf}
-use Rattle.latex2mathml_elements.specs.Element.{Token, Mi, Mn, Mo, Mtext, Container, Mrow, Msqrt, Mstyle, Pair, Mfrac, Mroot, Msub, Msup, Munder, Mover, Triple, Msubsup, Munderover, Element, Elements, token, space, container, pair, triple, none, more}
-use Rattle.latex2mathml_elements.specs.Print.{accent_text, attributes_text, container_name, display_text, end_tag, form_text, formula_print, if_so, math_tag, pair_name, print, prints, size_text, space_text, start_tag, stretch_text, token_name, triple_name}
+use Rattle.latex2mathml_elements.specs.Attributes.{Attributes, Side, Above, Below, Form, Prefix, Postfix, Stretch, Stretching, Rigid, Space, NoSpace, Narrow, Size, Big, Bigger, VeryBig, Biggest, MathStyle, DisplayStyle, TextStyle, ScriptStyle}
+use Rattle.latex2mathml_elements.specs.Columns.{Column, Centered, LeftAligned, RightAligned, FirstOfPair, SecondOfPair, Dense}
+use Rattle.latex2mathml_elements.specs.Characters.{EachText, EachTextOf, EachTextOfCells, EachTextOfRows}
+use Rattle.latex2mathml_elements.specs.Element.{Token, Mi, Mn, Mo, Mtext, Container, Mrow, Msqrt, Mstyle, Pair, Mfrac, Mroot, Msub, Msup, Munder, Mover, Triple, Msubsup, Munderover, Element, Elements, Rows, Cells, token, space, container, pair, triple, table, none, more, one_row, more_rows, one_cell, more_cells}
+use Rattle.latex2mathml_elements.specs.Print.{accent_text, attributes_text, cell_print, cells_print, column_text, container_name, end_tag, form_text, formula_print, if_so, math_tag, pair_name, print, prints, row_print, rows_print, size_text, space_text, start_tag, stretch_text, style_text, token_name, triple_name}
 use Rattle.latex2mathml_tokens.specs.Escape.{content}
 use Rattle.latex2mathml_trees.specs.Width.{width_text}
 use Rattle.latex2mathml_trees.proofs.ValueTexts.{width_passes}
@@ -59,10 +60,19 @@ module _ (Holds Asked : List ℕ → Type 0) (append : (a b : List ℕ) → Hold
   accent_holds (Some Above) = plain _ refl
   accent_holds (Some Below) = plain _ refl
 
-  display_holds : (d : Option Bool) → Holds (display_text d)
-  display_holds None = plain _ refl
-  display_holds (Some true) = plain _ refl
-  display_holds (Some false) = plain _ refl
+  style_holds : (s : Option MathStyle) → Holds (style_text s)
+  style_holds None = plain _ refl
+  style_holds (Some DisplayStyle) = plain _ refl
+  style_holds (Some TextStyle) = plain _ refl
+  style_holds (Some ScriptStyle) = plain _ refl
+
+  column_holds : (c : Column) → Holds (column_text c)
+  column_holds Centered = plain _ refl
+  column_holds LeftAligned = plain _ refl
+  column_holds RightAligned = plain _ refl
+  column_holds FirstOfPair = plain _ refl
+  column_holds SecondOfPair = plain _ refl
+  column_holds Dense = plain _ refl
 
   attributes_hold : (a : Attributes) → Holds (attributes_text a)
   attributes_hold a =
@@ -76,7 +86,7 @@ module _ (Holds Asked : List ℕ → Type 0) (append : (a b : List ℕ) → Hold
       (both (if_holds (plain _ refl) a.limits_stay)
       (both (accent_holds a.accent)
       (both (if_holds (plain _ refl) a.no_line)
-      (display_holds a.display))))))))))
+      (style_holds a.style))))))))))
 
   -- Tags
 
@@ -113,6 +123,12 @@ module _ (Holds Asked : List ℕ → Type 0) (append : (a b : List ℕ) → Hold
   ends : {name : List ℕ} → Holds name → Holds (end_tag name)
   ends h = both (plain (codes "</") refl) (both h (plain (codes ">") refl))
 
+  row_holds : {cells : List ℕ} → Holds cells → Holds (row_print cells)
+  row_holds h = both (plain (codes "<mtr>") refl) (both h (plain (codes "</mtr>") refl))
+
+  cell_holds : {inside : List ℕ} (c : Column) → Holds inside → Holds (cell_print c inside)
+  cell_holds c h = both (both (plain (codes "<mtd") refl) (both (column_holds c) (plain (codes ">") refl))) (both h (plain (codes "</mtd>") refl))
+
   -- Elements
 
   mutual
@@ -125,10 +141,19 @@ module _ (Holds Asked : List ℕ → Type 0) (append : (a b : List ℕ) → Hold
         both (starts a (pair_holds p)) (both (print_holds x h.0) (both (print_holds y h.1) (ends (pair_holds p))))
     print_holds (triple t a x y z) h =
         both (starts a (triple_holds t)) (both (print_holds x h.0) (both (print_holds y h.1) (both (print_holds z h.2) (ends (triple_holds t)))))
+    print_holds (table a rows) h = both (starts a (plain (codes "mtable") refl)) (both (rows_hold rows h) (ends (plain (codes "mtable") refl)))
 
     prints_hold : (xs : Elements) → EachTextOf Asked xs → Holds (prints xs)
     prints_hold none h = plain [] refl
     prints_hold (more x xs) h = both (print_holds x h.0) (prints_hold xs h.1)
+
+    rows_hold : (rows : Rows) → EachTextOfRows Asked rows → Holds (rows_print rows)
+    rows_hold (one_row cells) h = row_holds (cells_hold cells h)
+    rows_hold (more_rows cells rows) h = both (row_holds (cells_hold cells h.0)) (rows_hold rows h.1)
+
+    cells_hold : (cells : Cells) → EachTextOfCells Asked cells → Holds (cells_print cells)
+    cells_hold (one_cell c xs) h = cell_holds c (prints_hold xs h)
+    cells_hold (more_cells c xs cells) h = both (cell_holds c (prints_hold xs h.0)) (cells_hold cells h.1)
 
   pub formula_holds : (is_display : Bool) (xs : Elements) → EachTextOf Asked xs → Holds (formula_print is_display xs)
   formula_holds is_display xs h = both (math_holds is_display) (both (prints_hold xs h) (plain (codes "</math>") refl))

@@ -2,8 +2,9 @@
 use Rattle.std.proofs.Common.{◌≡◌, ℕ, Bool, true, false, IsTrue, List, [], ◌∷◌, ◌++◌, Option, Some, None, refl, arith, codes, map}
 use Rattle.std.specs.List.{flat_map, list_all}
 use Rattle.std.proofs.{lemmas.Grind.flat_map-append, lemmas.List.Folds.list_all-append}
-use Rattle.latex2mathml_elements.specs.Attributes.{Attributes, Side, Above, Below, Form, Prefix, Postfix, Stretch, Stretching, Rigid, Space, NoSpace, Narrow, Size, Big, Bigger, VeryBig, Biggest}
-use Rattle.latex2mathml_elements.specs.Print.{accent_text, attributes_text, display_text, form_text, if_so, size_text, space_text, stretch_text}
+use Rattle.latex2mathml_elements.specs.Attributes.{Attributes, Side, Above, Below, Form, Prefix, Postfix, Stretch, Stretching, Rigid, Space, NoSpace, Narrow, Size, Big, Bigger, VeryBig, Biggest, MathStyle, DisplayStyle, TextStyle, ScriptStyle}
+use Rattle.latex2mathml_elements.specs.Columns.{Column, Centered, LeftAligned, RightAligned, FirstOfPair, SecondOfPair, Dense}
+use Rattle.latex2mathml_elements.specs.Print.{accent_text, attributes_text, column_text, form_text, if_so, size_text, space_text, stretch_text, style_text}
 use Rattle.latex2mathml_trees.specs.Markup.{Attribute, attribute, plain, is_attribute, spell_attribute}
 
 pub record AreSettings (text : List ℕ) : Type 0 where
@@ -71,10 +72,15 @@ accent (Some Below) = record { list = attribute (codes "accentunder") (map plain
 no_line : AreSettings (codes " linethickness=\"0\"")
 no_line = record { list = attribute (codes "linethickness") (map plain (codes "0")) ∷ []; valid = refl; spelled = refl }
 
-display : (d : Option Bool) → AreSettings (display_text d)
-display None = nothing
-display (Some true) = record { list = attribute (codes "displaystyle") (map plain (codes "true")) ∷ attribute (codes "scriptlevel") (map plain (codes "0")) ∷ []; valid = refl; spelled = refl }
-display (Some false) = record { list = attribute (codes "displaystyle") (map plain (codes "false")) ∷ attribute (codes "scriptlevel") (map plain (codes "0")) ∷ []; valid = refl; spelled = refl }
+abbrev styled : List ℕ → List ℕ → List Attribute
+styled is_displayed level =
+    attribute (codes "displaystyle") (map plain is_displayed) ∷ attribute (codes "scriptlevel") (map plain level) ∷ []
+
+style : (s : Option MathStyle) → AreSettings (style_text s)
+style None = nothing
+style (Some DisplayStyle) = record { list = styled (codes "true") (codes "0"); valid = refl; spelled = refl }
+style (Some TextStyle) = record { list = styled (codes "false") (codes "0"); valid = refl; spelled = refl }
+style (Some ScriptStyle) = record { list = styled (codes "false") (codes "1"); valid = refl; spelled = refl }
 
 pub settings : (a : Attributes) → AreSettings (attributes_text a)
 settings a =
@@ -88,4 +94,15 @@ settings a =
     (beside (settings_if limits_stay a.limits_stay)
     (beside (accent a.accent)
     (beside (settings_if no_line a.no_line)
-    (display a.display))))))))))
+    (style a.style))))))))))
+
+abbrev aligned : List ℕ → List ℕ → List Attribute
+aligned side style = attribute (codes "columnalign") (map plain side) ∷ attribute (codes "style") (map plain style) ∷ []
+
+pub column : (c : Column) → AreSettings (column_text c)
+column Centered = nothing
+column LeftAligned = record { list = aligned (codes "left") (codes "text-align: left"); valid = refl; spelled = refl }
+column RightAligned = record { list = aligned (codes "right") (codes "text-align: right; text-align: -webkit-right"); valid = refl; spelled = refl }
+column FirstOfPair = record { list = aligned (codes "right") (codes "text-align: right; text-align: -webkit-right; padding-right: 0"); valid = refl; spelled = refl }
+column SecondOfPair = record { list = aligned (codes "left") (codes "text-align: left; padding-left: 0"); valid = refl; spelled = refl }
+column Dense = record { list = attribute (codes "style") (map plain (codes "padding: 0.1em 0.3em")) ∷ []; valid = refl; spelled = refl }

@@ -28,6 +28,12 @@ pub data Size : Type 0 where
   VeryBig : Size
   Biggest : Size
 
+-- the style of a formula: displayed, in a line of text, or as small as a script
+pub data MathStyle : Type 0 where
+  DisplayStyle : MathStyle
+  TextStyle : MathStyle
+  ScriptStyle : MathStyle
+
 pub record Attributes : Type 0 where
   -- a single letter that is not italic
   pub upright : Bool
@@ -45,9 +51,13 @@ pub record Attributes : Type 0 where
   pub accent : Option Side
   -- a fraction without its line
   pub no_line : Bool
-  -- in display style or not, and not as small as a script
-  pub display : Option Bool
+  -- the style of what stands in it, whatever the style around it is
+  pub style : Option MathStyle
 
 -- an element without attributes
 abbrev pub plain : Attributes
-plain = record { upright = false; form = None; stretch = None; fence = false; separator = false; size = None; space = None; limits_stay = false; accent = None; no_line = false; display = None }
+plain = record { upright = false; form = None; stretch = None; fence = false; separator = false; size = None; space = None; limits_stay = false; accent = None; no_line = false; style = None }
+
+-- .. with a style of its own, where it has one
+abbrev pub styled : Option MathStyle → Attributes
+styled own = record plain { style = own }

@@ -1,6 +1,6 @@
 -- Elements of MathML. Their constructors give each as many children as MathML Core asks for.
 use Rattle.std.specs.Prelude.{ℕ, ℤ, List, [], ◌∷◌}
-use Rattle.latex2mathml_elements.specs.Attributes.{Attributes}
+use Rattle.latex2mathml_elements.specs.{Attributes.Attributes, Columns.Column}
 
 -- the elements that hold a text
 pub data Token : Type 0 where
@@ -38,10 +38,21 @@ mutual
     container : Container → Attributes → Elements → Element
     pair : Pair → Attributes → Element → Element → Element
     triple : Triple → Attributes → Element → Element → Element → Element
+    table : Attributes → Rows → Element
 
   pub data Elements : Type 0 where
     none : Elements
     more : Element → Elements → Elements
+
+  -- one row at least
+  pub data Rows : Type 0 where
+    one_row : Cells → Rows
+    more_rows : Cells → Rows → Rows
+
+  -- one cell at least
+  pub data Cells : Type 0 where
+    one_cell : Column → Elements → Cells
+    more_cells : Column → Elements → Cells → Cells
 
 -- a list of elements as the children of one
 abbrev pub children : List Element → Elements

@@ -1,7 +1,8 @@
 -- How elements are written.
 use Rattle.std.specs.Prelude.{ℕ, Bool, true, false, List, [], ◌++◌, Option, Some, None, codes}
-use Rattle.latex2mathml_elements.specs.Attributes.{Attributes, Side, Above, Below, Form, Prefix, Postfix, Stretch, Stretching, Rigid, Space, NoSpace, Narrow, Size, Big, Bigger, VeryBig, Biggest}
-use Rattle.latex2mathml_elements.specs.Element.{Token, Mi, Mn, Mo, Mtext, Container, Mrow, Msqrt, Mstyle, Pair, Mfrac, Mroot, Msub, Msup, Munder, Mover, Triple, Msubsup, Munderover, Element, Elements, token, space, container, pair, triple, none, more}
+use Rattle.latex2mathml_elements.specs.Attributes.{Attributes, Side, Above, Below, Form, Prefix, Postfix, Stretch, Stretching, Rigid, Space, NoSpace, Narrow, Size, Big, Bigger, VeryBig, Biggest, MathStyle, DisplayStyle, TextStyle, ScriptStyle}
+use Rattle.latex2mathml_elements.specs.Columns.{Column, Centered, LeftAligned, RightAligned, FirstOfPair, SecondOfPair, Dense}
+use Rattle.latex2mathml_elements.specs.Element.{Token, Mi, Mn, Mo, Mtext, Container, Mrow, Msqrt, Mstyle, Pair, Mfrac, Mroot, Msub, Msup, Munder, Mover, Triple, Msubsup, Munderover, Element, Elements, Rows, Cells, token, space, container, pair, triple, table, none, more, one_row, more_rows, one_cell, more_cells}
 use Rattle.latex2mathml_tokens.specs.Escape.{content}
 use Rattle.latex2mathml_trees.specs.Width.{width_text}
 
@@ -64,10 +65,11 @@ accent_text None = []
 accent_text (Some Above) = codes " accent=\"true\""
 accent_text (Some Below) = codes " accentunder=\"true\""
 
-abbrev pub display_text : Option Bool → List ℕ
-display_text None = []
-display_text (Some true) = codes " displaystyle=\"true\" scriptlevel=\"0\""
-display_text (Some false) = codes " displaystyle=\"false\" scriptlevel=\"0\""
+abbrev pub style_text : Option MathStyle → List ℕ
+style_text None = []
+style_text (Some DisplayStyle) = codes " displaystyle=\"true\" scriptlevel=\"0\""
+style_text (Some TextStyle) = codes " displaystyle=\"false\" scriptlevel=\"0\""
+style_text (Some ScriptStyle) = codes " displaystyle=\"false\" scriptlevel=\"1\""
 
 abbrev pub attributes_text : Attributes → List ℕ
 attributes_text a =
@@ -81,7 +83,16 @@ attributes_text a =
     ++ (if_so a.limits_stay (codes " movablelimits=\"false\"")
     ++ (accent_text a.accent
     ++ (if_so a.no_line (codes " linethickness=\"0\"")
-    ++ display_text a.display)))))))))
+    ++ style_text a.style)))))))))
+
+-- the side of a column is said twice: some browsers read the attribute, others the style
+abbrev pub column_text : Column → List ℕ
+column_text Centered = []
+column_text LeftAligned = codes " columnalign=\"left\" style=\"text-align: left\""
+column_text RightAligned = codes " columnalign=\"right\" style=\"text-align: right; text-align: -webkit-right\""
+column_text FirstOfPair = codes " columnalign=\"right\" style=\"text-align: right; text-align: -webkit-right; padding-right: 0\""
+column_text SecondOfPair = codes " columnalign=\"left\" style=\"text-align: left; padding-left: 0\""
+column_text Dense = codes " style=\"padding: 0.1em 0.3em\""
 
 -- Elements
 
@@ -91,6 +102,16 @@ start_tag name a = codes "<" ++ (name ++ (attributes_text a ++ codes ">"))
 abbrev pub end_tag : List ℕ → List ℕ
 end_tag name = codes "</" ++ (name ++ codes ">")
 
+-- a row of these cells, and a cell of these elements
+abbrev pub row_print : List ℕ → List ℕ
+row_print cells = codes "<mtr>" ++ (cells ++ codes "</mtr>")
+
+abbrev pub cell_tag : Column → List ℕ
+cell_tag column = codes "<mtd" ++ (column_text column ++ codes ">")
+
+abbrev pub cell_print : Column → List ℕ → List ℕ
+cell_print column inside = cell_tag column ++ (inside ++ codes "</mtd>")
+
 abbrev mutual
   pub print : Element → List ℕ
   print (token t a text) = start_tag (token_name t) a ++ (content text ++ end_tag (token_name t))
@@ -98,11 +119,20 @@ abbrev mutual
   print (container c a xs) = start_tag (container_name c) a ++ (prints xs ++ end_tag (container_name c))
   print (pair p a x y) = start_tag (pair_name p) a ++ (print x ++ (print y ++ end_tag (pair_name p)))
   print (triple t a x y z) = start_tag (triple_name t) a ++ (print x ++ (print y ++ (print z ++ end_tag (triple_name t))))
+  print (table a rows) = start_tag (codes "mtable") a ++ (rows_print rows ++ end_tag (codes "mtable"))
 
   -- elements side by side
   pub prints : Elements → List ℕ
   prints none = []
   prints (more x xs) = print x ++ prints xs
+
+  pub rows_print : Rows → List ℕ
+  rows_print (one_row cells) = row_print (cells_print cells)
+  rows_print (more_rows cells rows) = row_print (cells_print cells) ++ rows_print rows
+
+  pub cells_print : Cells → List ℕ
+  cells_print (one_cell column xs) = cell_print column (prints xs)
+  cells_print (more_cells column xs cells) = cell_print column (prints xs) ++ cells_print cells
 
 -- a formula of its own line, or of a line of text
 abbrev pub math_tag : Bool → List ℕ

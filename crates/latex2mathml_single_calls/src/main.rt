@@ -1,15 +1,17 @@
 //! Makes one call of the library, with a mark before it and one after it, and prints its answer: `tests/test_memory.py`
-//! refuses requests for memory between the marks. For a formula it can also print the steps that it took.
+//! refuses requests for memory between the marks. For a formula it can also print the steps that it took. It also drops
+//! nodes that are nested as deep as it is told.
 #![tactic(auto)]
 
 mod copies;
+mod deep;
 mod nodes;
 
 use latex2mathml::{
     DisplayStyle, FileFault, Reading, Stream, convert_html, latex_to_mathml,
     latex_to_mathml_counted, read_document, replace,
 };
-use latex2mathml_tex::tex_to_mathml;
+use latex2mathml_tex::{Converter, Macros, TexError, tex_to_mathml};
 use std::alloc::{AllocError, Global};
 use std::fmt::Display;
 use std::process::ExitCode;
@@ -65,10 +67,35 @@ fn steps(rt: &HostRuntime, latex: &str) -> io::Result<()> {
 }
 
 fn tex_formula(rt: &HostRuntime, tex: &str) -> io::Result<()> {
+    let macros = Macros::new(rt.alloc());
     mark(rt.alloc(), BEGINNING)?;
-    let answer = tex_to_mathml(rt.alloc(), "", tex, DisplayStyle::Inline);
+    let answer = tex_to_mathml(rt.alloc(), &macros, tex, DisplayStyle::Inline);
     mark(rt.alloc(), END)?;
     tell(rt, &answer)
+}
+
+/// What a converter answers for a formula in a line of text.
+fn converted<'a>(
+    alloc: Global,
+    converter: &mut Converter<'a>,
+    tex: &'a str,
+) -> Result<String, TexError> {
+    let macros = Macros::new(alloc);
+    let mut text = String::new(alloc);
+    converter.append(&mut text, &macros, tex, DisplayStyle::Inline)?;
+    Ok(text)
+}
+
+/// The answers of one converter to a formula, and then twice to a second one: memory may be refused in the first of these
+/// two calls alone.
+fn tex_formulas<'a>(rt: &HostRuntime, first: &'a str, second: &'a str) -> io::Result<()> {
+    let mut converter = Converter::new(rt.alloc());
+    tell(rt, &converted(rt.alloc(), &mut converter, first))?;
+    mark(rt.alloc(), BEGINNING)?;
+    let answer = converted(rt.alloc(), &mut converter, second);
+    mark(rt.alloc(), END)?;
+    tell(rt, &answer)?;
+    tell(rt, &converted(rt.alloc(), &mut converter, second))
 }
 
 fn document(rt: &HostRuntime, input: &str) -> io::Result<()> {
@@ -107,14 +134,9 @@ fn files(rt: &HostRuntime, path: &str) -> io::Result<()> {
     }
 }
 
-/// Makes the call that the words name, and answers whether they name one.
-fn call(rt: &HostRuntime) -> io::Result<bool> {
-    let words: Vec<String> = env::args(rt)?.skip(1).collect(rt.alloc())?;
-    let [name, text] = words.as_slice() else {
-        return Ok(false);
-    };
-    let text = text.as_str();
-    match name.as_str() {
+/// Makes the call of this name on a text, and answers whether there is one.
+fn call_on(rt: &HostRuntime, name: &str, text: &str) -> io::Result<bool> {
+    match name {
         "latex_to_mathml" => formula(rt, text)?,
         "latex_to_mathml_counted" => counted_formula(rt, text)?,
         "steps" => steps(rt, text)?,
@@ -126,6 +148,38 @@ fn call(rt: &HostRuntime) -> io::Result<bool> {
         _ => return Ok(false),
     }
     Ok(true)
+}
+
+/// Makes the call of this name on two texts, and answers whether there is one.
+fn call_on_two<'a>(
+    rt: &HostRuntime,
+    name: &str,
+    first: &'a str,
+    second: &'a str,
+) -> io::Result<bool> {
+    match name {
+        "tex_formulas" => tex_formulas(rt, first, second)?,
+        "drop" => match second.parse::<usize>() {
+            Ok(levels) => return deep::drop_nested(rt, first, levels),
+            Err(_) => return Ok(false),
+        },
+        _ => return Ok(false),
+    }
+    Ok(true)
+}
+
+/// Makes the call that the words name, and answers whether they name one.
+fn call(rt: &HostRuntime) -> io::Result<bool> {
+    let words: Vec<String> = env::args(rt)?.skip(1).collect(rt.alloc())?;
+    match words.as_slice() {
+        [name] if name.as_str() == "places" => {
+            deep::tell_places(rt)?;
+            Ok(true)
+        }
+        [name, text] => call_on(rt, name.as_str(), text.as_str()),
+        [name, first, second] => { call_on_two(rt, name.as_str(), first.as_str(), second.as_str()) }
+        _ => Ok(false),
+    }
 }
 
 fn main(rt: HostRuntime) -> ExitCode {

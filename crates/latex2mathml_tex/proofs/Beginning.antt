@@ -16,7 +16,7 @@ use Rattle.latex2mathml_tex_grammar.specs.Units as grammar
 use Rattle.latex2mathml_tex_grammar.specs.Units.{Units, Next, End, Stop}
 use Rattle.latex2mathml_tex.specs.Frames.{Start, context_at, element_count, enter}
 use Rattle.latex2mathml_tex.specs.Innermost as code
-use Rattle.latex2mathml_tex.specs.{Innermost.frame_context, Left.put_back, Left.unit_count, Left.units_at, Left.units_left}
+use Rattle.latex2mathml_tex.specs.{Innermost.frame_context, Left.put_back, Left.unit_count, Left.units_at, Left.units_behind}
 use Rattle.latex2mathml_tex.specs.Levels.{CoreMade, Leads, Level, OperandMade, Refuses, RuleLeads, as_operand}
 use Rattle.latex2mathml_tex.specs.Levels as levels
 use Rattle.latex2mathml_tex.specs.{Meanings.alphabet_of, Meanings.style_of, Models.context_of, Models.core_with}
@@ -37,13 +37,13 @@ use Rattle.latex2mathml_tex.proofs.{Nexts.no_more_past_space, Opening.begins_in,
 
 module _ (l : Units) (i : Input) (past : units_at i ≡ past_space l) where
   pub ends_next : (at : ℕ) → i.next ≡ next.End at → past_space l ≡ End at
-  ends_next at is = sym past ∙ ap (λ n. put_back n (units_left i.reader)) is
+  ends_next at is = sym past ∙ ap (λ n. put_back n (units_behind i)) is
 
   pub stops_next : (fault : Fault) (at : ℕ) → i.next ≡ next.Fault fault at → past_space l ≡ Stop (refusal_at (kind_of fault) at)
-  stops_next fault at is = sym past ∙ ap (λ n. put_back n (units_left i.reader)) is
+  stops_next fault at is = sym past ∙ ap (λ n. put_back n (units_behind i)) is
 
-  pub stands_next : (u : Unit) → i.next ≡ next.Unit u → past_space l ≡ Next (unit_of u) (units_left i.reader)
-  stands_next u is = sym past ∙ ap (λ n. put_back n (units_left i.reader)) is
+  pub stands_next : (u : Unit) → i.next ≡ next.Unit u → past_space l ≡ Next (unit_of u) (units_behind i)
+  stands_next u is = sym past ∙ ap (λ n. put_back n (units_behind i)) is
 
   pub taken_next : (u : Unit) (m : Units) → i.next ≡ next.Unit u → units_at i ≡ put_back i.next m → past_space l ≡ Next (unit_of u) m
   taken_next u m is e = sym past ∙ e ∙ ap (λ n. put_back n m) is

@@ -1,33 +1,35 @@
 -- Where an atom of a row begins: what the unit is that was taken, and what is due then.
-use Rattle.std.proofs.Common.{◌≡◌, ℕ, ◌⊎◌, false, Some, inl, inr, refl, sym, subst}
+use Rattle.std.proofs.Common.{◌≡◌, ◌∙◌, ℕ, ◌⊎◌, false, Option, Some, ap, inl, inr, refl, sym, subst}
 use Rattle.latex2mathml_tex_grammar.specs.{Makes.core, Makes.divider, Makes.no_scripts, Meaning.Beside, Next.past_space}
 use Rattle.latex2mathml_tex_grammar.specs.Reading.{Outcome, Read, Refused, ReadsRule, divider_read, divider_refused}
 use Rattle.latex2mathml_tex_grammar.specs.Rows.{Row}
 use Rattle.latex2mathml_tex_grammar.specs.Rules as rules
 use Rattle.latex2mathml_tex_grammar.specs.Rules.{gives, rule, takes_delimiter}
 use Rattle.latex2mathml_tex_grammar.specs.Makes.{Core}
-use Rattle.latex2mathml_tex_grammar.specs.Starts.{DividerStart, RuleStart, ScriptStart, atom_start, empty_base, ends, mark_of, start_of_mark}
+use Rattle.latex2mathml_tex_grammar.specs.Starts.{DividerStart, RuleStart, ScriptStart, atom_start, change_by, empty_base, ends, mark_of, start_of_change, start_of_mark}
+use Rattle.latex2mathml_tex_grammar.specs.Meaning.{Change}
 use Rattle.latex2mathml_tex_grammar.specs.Units.{Unit, Units, Next}
 use Rattle.latex2mathml_tex.specs.{Frames.Start, Frames.context_at, Frames.ending_of, Models.context_of, Taking.piece_of, Taking.unit_of}
-use Rattle.latex2mathml_tex.specs.Levels.{AtomMade, CoreMade, Leads, Level, RuleLeads, ScriptsLead, as_atom}
+use Rattle.latex2mathml_tex.specs.Levels.{AtomMade, CoreMade, Leads, Level, RestLeads, RuleLeads, ScriptsLead, as_atom}
 use Rattle.latex2mathml_tex.specs.Levels as levels
-use Rattle.latex2mathml_tex.specs.Steps.{AwaitsAtom, BeginsDivider, BeginsUnit, Took, TookMark, elements_of, left_of, level, mark_model}
+use Rattle.latex2mathml_tex.specs.Steps.{AwaitsAtom, BeginsDivider, BeginsUnit, Took, TookMark, TookUnmarked, elements_of, left_of, level, mark_model}
 use Rattle.latex2mathml_tex.specs.declared.{atoms.Row.Row as CodeRow, parse.Parser.Parser, parse.scripts.Mark.Mark, unit.Unit.Unit as CodeUnit}
 use Rattle.latex2mathml_tex.specs.declared.parse.frames.Ending.{Ending}
 use Rattle.latex2mathml_tex.specs.declared.parse.frames.Frame.TheVariants as frame
 use Rattle.latex2mathml_tex.specs.declared.parse.scripts.Mark.TheVariants as mark
 use Rattle.latex2mathml_builder.specs.declared.attributes.Side.{Side}
 use Rattle.latex2mathml_builder.specs.declared.attributes.Side.TheVariants as side
-use Rattle.latex2mathml_tex.proofs.Leading.{atom_due, base_due, scripts_due}
-use Rattle.latex2mathml_tex.proofs.{Nexts.past_twice, Opening.into_frame, Opening.out_of_frame}
+use Rattle.latex2mathml_tex.proofs.Leading.{atom_due, base_due, rest_due, scripts_due}
+use Rattle.latex2mathml_tex.proofs.{Opening.into_frame, Opening.out_of_frame}
+use Rattle.latex2mathml_tex_grammar.proofs.Spaces.{past_twice}
 
 -- a prime or a script begins an atom, on a row without atoms
-pub begins_scripts : (m : Mark) → (m ≡ mark.Prime) ⊎ ((on : Side) × (m ≡ mark.Script on)) → start_of_mark (Some (mark_model m)) ≡ ScriptStart
-begins_scripts mark.Prime h = refl
-begins_scripts (mark.Script side.Below) h = refl
-begins_scripts (mark.Script side.Above) h = refl
-begins_scripts (mark.Limits place) (inl e) = cc e
-begins_scripts (mark.Limits place) (inr (on, e)) = cc e
+pub begins_scripts : (change : Option Change) (m : Mark) → (m ≡ mark.Prime) ⊎ ((on : Side) × (m ≡ mark.Script on)) → start_of_mark change (Some (mark_model m)) ≡ ScriptStart
+begins_scripts change mark.Prime h = refl
+begins_scripts change (mark.Script side.Below) h = refl
+begins_scripts change (mark.Script side.Above) h = refl
+begins_scripts change (mark.Limits place) (inl e) = cc e
+begins_scripts change (mark.Limits place) (inr (on, e)) = cc e
 
 module _ {e : rules.Ending} {c : rules.Context} {xs : Row} {K : Outcome Row → Type 0} {l m : Units} {u : Unit} where
   divider_made : past_space l ≡ Next u m → ends e u.piece ≡ false → atom_start e u.piece ≡ DividerStart → Leads (levels.row e c xs K) l → (o : Outcome Core) → ReadsRule (takes_delimiter (λ text. gives (core (divider text)))) m o → AtomMade (levels.row e c xs K) (as_atom o)
@@ -75,4 +77,14 @@ module _ (s : Start) (p : Parser) (u : CodeUnit) (e : Ending) (due : (place : �
     style = t.style;
     leads = in_row (λ l. RuleLeads (rule u.place (context_at l) (piece_of u.piece)) (CoreMade l) (left_of p))
         (λ place c xs K k. base_due t.next (some place) (start place) k);
+  }
+
+  -- what is no mark begins an atom, or changes what stands after it
+  pub unmarked_begun : ((place : ℕ) → atom_start (ending_of e place) (piece_of u.piece) ≡ start_of_change (change_by (piece_of u.piece))) → TookUnmarked u s p
+  unmarked_begun start = record {
+    begins = λ none. rule_begun (λ place. start place ∙ ap start_of_change none);
+    changes = λ change is. record {
+      style = t.style;
+      leads = in_row (λ l. RestLeads change u.place l (left_of p)) (λ place c xs K k. rest_due t.next (some place) (start place ∙ ap start_of_change is) k);
+    };
   }

@@ -1,7 +1,7 @@
 -- The digits that stand next, one after the other.
 use Rattle.std.proofs.Common.{◌≡◌, ℕ, ◌≤◌, Bool, true, false, List, [], ◌∷◌, ◌++◌, Option, Some, None, refl, sym, ap, ◌∙◌, append_assoc, append-nil, inl, inr, arith}
 use Rattle.std.proofs.lemmas.Bool.{cases_Bool}
-use Rattle.latex2mathml_elements.specs.Element.{Element, token, space, container, pair, triple}
+use Rattle.latex2mathml_elements.specs.Element.{Element, token, space, container, pair, triple, table}
 use Rattle.latex2mathml_builder.specs.Stacks.{lengthened}
 use Rattle.latex2mathml_tex_grammar.specs.Makes.{digits_in, number}
 use Rattle.latex2mathml_tex_grammar.specs.Next.{digits_here, digits_next, first_is, first_passes, is_space_piece, next_are, past_space}
@@ -57,6 +57,7 @@ lengthened_twice first second (space width ∷ xs) = refl
 lengthened_twice first second (container c a ys ∷ xs) = refl
 lengthened_twice first second (pair p a x y ∷ xs) = refl
 lengthened_twice first second (triple t a x y z ∷ xs) = refl
+lengthened_twice first second (table a rows ∷ xs) = refl
 
 pub lengthened_by_nothing : (xs : List Element) → lengthened [] xs ≡ xs
 lengthened_by_nothing [] = refl
@@ -65,6 +66,7 @@ lengthened_by_nothing (space width ∷ xs) = refl
 lengthened_by_nothing (container c a ys ∷ xs) = refl
 lengthened_by_nothing (pair p a x y ∷ xs) = refl
 lengthened_by_nothing (triple t a x y z ∷ xs) = refl
+lengthened_by_nothing (table a rows ∷ xs) = refl
 
 -- another digit, and those that stand next behind it
 pub one_digit_longer : (a : Option Alphabet) (l m : Units) (c : ℕ) (xs : List Element) → next_are (a_digit ∷ []) l ≡ Some (c ∷ [], m) → lengthened (digits_in a (digits_next m).0) (lengthened (digits_in a (c ∷ [])) xs) ≡ lengthened (digits_in a (digits_next l).0) xs

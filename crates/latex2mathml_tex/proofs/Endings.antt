@@ -9,7 +9,7 @@ use Rattle.latex2mathml_tex_grammar.specs.Makes.{between_delimiters, core, fence
 use Rattle.latex2mathml_tex_grammar.specs.Refusal.{MissingDelimiter}
 use Rattle.latex2mathml_tex_grammar.specs.Rows.{row_element}
 use Rattle.latex2mathml_tex_grammar.specs.Rules.{gives}
-use Rattle.latex2mathml_tex.specs.{Delimiters.delimiter_text, Errors.refusal_of, Left.units_at, Meanings.style_of, Models.core_with, Models.row_with, Models.top, Shapes.mapped_first}
+use Rattle.latex2mathml_tex.specs.{Delimiters.delimiter_text, Errors.refusal_of, Left.units_at, Meanings.style_of, Models.core_with, Models.row_count, Models.row_with, Models.top, Shapes.mapped_first}
 use Rattle.latex2mathml_tex.specs.Frames.{Start, element_count}
 use Rattle.latex2mathml_tex.specs.Innermost.{IsInnermost, empty_row, none_begun, on_top}
 use Rattle.latex2mathml_tex.specs.Steps.{CanMake, ClosesRow, Follows, HasElements, Holds, InnermostIs, core_made, elements_of, left_of, level, to_do}
@@ -22,11 +22,11 @@ use Rattle.latex2mathml_tex.proofs.Leading.{delimited, given, undelimited}
 use Rattle.latex2mathml_tex.proofs.{Marks.all_refuse, Marks.core_refuses, Nexts.no_more_past_space, Nexts.no_more_taken}
 
 -- the elements of the innermost row are among those of all frames
-row_counts : (style : Style) (fs others : List Frame) (e : Ending) (place : ℕ) (c : Context) (row : CodeRow) → IsInnermost style fs (frame.Row e place c row) others → row.count ≤ sum_by element_count fs
+row_counts : (style : Style) (fs others : List Frame) (e : Ending) (place : ℕ) (c : Context) (row : CodeRow) → IsInnermost style fs (frame.Row e place c row) others → row_count row ≤ sum_by element_count fs
 row_counts style fs others e place c row (none_begun h k g) = let same : row ≡ empty_row = cc g in rw same (omega arith)
 row_counts style fs others e place c row (on_top h) = let sum = ap (sum_by element_count) h ∙ sum_by_push element_count others (frame.Row e place c row) in omega (arith, sum)
 
-pub row_is_there : (p : Parser) (e : Ending) (place : ℕ) (row : CodeRow) → (c : Context) × InnermostIs (frame.Row e place c row) p → HasElements 0 p → row.count ≤ length (elements_of p)
+pub row_is_there : (p : Parser) (e : Ending) (place : ℕ) (row : CodeRow) → (c : Context) × InnermostIs (frame.Row e place c row) p → HasElements 0 p → row_count row ≤ length (elements_of p)
 row_is_there p e place row (c, (others, i)) h = let some = row_counts p.style p.frames.stack.items others e place c row i in omega (arith, some, h)
 
 -- The first elements changed

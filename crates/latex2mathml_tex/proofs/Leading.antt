@@ -1,18 +1,23 @@
 -- Where what is due leads, step by step, whatever it is for.
-use Rattle.std.proofs.Common.{◌≡◌, ℕ, IsTrue, IsFalse, List, [], ◌∷◌, Option, Some, None}
+use Rattle.std.proofs.Common.{◌≡◌, ℕ, IsTrue, IsFalse, List, [], ◌∷◌, Option, Some, None, refl}
 use Rattle.latex2mathml_elements.specs.Element.{Element}
 use Rattle.latex2mathml_tex_grammar.specs.{Atoms.Atom, Delimiters.delimiter_of}
 use Rattle.latex2mathml_tex_grammar.specs.Makes.{Core, number, divider, Scripts, no_scripts, scripted}
-use Rattle.latex2mathml_tex_grammar.specs.{Meaning.Beside, Next.past_space, Next.next_are, Next.digits_next, Next.refusal_here}
-use Rattle.latex2mathml_tex_grammar.specs.Reading.{Outcome, Read, Refused, ReadsRule, rule_gives, rule_refuses, operand_read, operand_refused, core_read, core_refused, core_missing, core_stopped, atoms_read, atoms_refused, words_read, words_refused, units_taken, units_missing, digits_taken, delimiter_taken, delimiter_missing, group_operand, group_refused, digit_operand, other_operand, other_refused, no_operand, operand_at_end, operand_stopped, scripts_end, mark_taken, script_read, script_refused, mark_refused, ReadsAtom, divider_read, divider_refused, on_empty_row, base_read, base_refused, text_ends, never_ended, atoms_stopped, atoms_end, atom_read, atom_refused, word_stands, group_of_words, formula_read, formula_refused, words_in_alphabet, no_word, word_missing, word_at_end, word_stopped, words_end, words_never_ended, words_stopped, word_read, word_refused}
+use Rattle.latex2mathml_tex_grammar.specs.{Meaning.Beside, Meaning.Change, Next.past_space, Next.next_are, Next.digits_next, Next.refusal_here}
+use Rattle.latex2mathml_tex_grammar.specs.Reading.{Outcome, Read, Refused, ReadsRule, rule_gives, rule_refuses, operand_read, operand_refused, core_read, core_refused, core_missing, core_stopped, atoms_read, atoms_refused, words_read, words_refused, units_taken, units_missing, digits_taken, delimiter_taken, delimiter_missing, group_operand, group_refused, digit_operand, other_operand, other_refused, no_operand, operand_at_end, operand_stopped, scripts_end, mark_taken, script_read, script_refused, mark_refused, ReadsAtom, divider_read, divider_refused, on_empty_row, base_read, base_refused, text_ends, never_ended, atoms_stopped, atoms_end, atom_read, atom_refused, rest_read, change_refused, word_stands, group_of_words, formula_read, formula_refused, words_in_alphabet, no_word, word_missing, word_at_end, word_stopped, words_end, words_never_ended, words_stopped, word_read, word_refused, found_taken, found_refused, passed_over, rows_read, rows_refused, ReadsRows}
 use Rattle.latex2mathml_tex_grammar.specs.Refusal.{Kind, MissingArgument, UnclosedBrace, MissingDelimiter, Refusal, refusal_at}
+use Rattle.latex2mathml_tex_grammar.specs.Rests.{Rest, GoesOnIn, NoRest, finished, rest_of}
 use Rattle.latex2mathml_tex_grammar.specs.Rows.{Operand, Row, empty_row, single}
-use Rattle.latex2mathml_tex_grammar.specs.Rules.{Context, in_context, styled, Ending, InBraces, InDollars, Rule, gives, refuses, reads_operand, reads_core, reads_atoms, reads_words, takes_if, takes_digits, takes_delimiter, rule}
-use Rattle.latex2mathml_tex_grammar.specs.Starts.{DividerStart, ScriptStart, RuleStart, NoStart, GroupStart, DigitStart, OtherStart, atom_start, operand_start, mark_of, GoesOn, TakesOperand, Forbidden, step_of_mark, step_next, empty_base, ends, unended, is_close}
+use Rattle.latex2mathml_tex_grammar.specs.Rules.{Context, in_context, styled, Ending, InBraces, InDollars, Rule, gives, refuses, reads_operand, reads_core, reads_atoms, reads_words, takes_if, takes_digits, takes_delimiter, rule, takes_found, passes_over, reads_rows, TableEnd}
+use Rattle.latex2mathml_tex_grammar.specs.Starts.{ChangeStart, DividerStart, ScriptStart, RuleStart, NoStart, GroupStart, DigitStart, OtherStart, atom_start, operand_start, mark_of, GoesOn, TakesOperand, Forbidden, step_of_mark, step_next, empty_base, ends, unended, is_close, left_behind}
+use Rattle.latex2mathml_elements.specs.Columns.{Columns}
+use Rattle.latex2mathml_tex_grammar.specs.Scanning.{Spot, BeforeRow, Given, Missing, past, scan}
+use Rattle.latex2mathml_tex_grammar.specs.Tables.{Lines}
+use Rattle.latex2mathml_tex.specs.Tables.{RowsLead}
 use Rattle.latex2mathml_tex_grammar.specs.Symbols.{InText, InScript, Alphabet}
 use Rattle.latex2mathml_tex_grammar.specs.Units.{Piece, Unit, Units, Next, End, Stop}
 use Rattle.latex2mathml_tex_grammar.specs.Words.{Word, Words, no_words, with_word, IsWord, BeginsGroup, EndsGroup, BeginsFormula, TakesWords, NoWord, word_rule}
-use Rattle.latex2mathml_tex.specs.Levels.{AtomMade, CoreMade, Leads, Level, PartMade, RuleLeads, ScriptsLead, Then, WordLeads, as_operand, as_words, row, operand, part, words}
+use Rattle.latex2mathml_tex.specs.Levels.{AtomMade, CoreMade, FollowsChange, Leads, Level, PartMade, RestLeads, RuleLeads, ScriptsLead, Then, WordLeads, as_operand, as_words, row, operand, part, words}
 use Rattle.latex2mathml_tex.specs.Levels.{core as core_level}
 
 -- A rule that leads somewhere
@@ -61,10 +66,23 @@ module _ {K : Outcome Core → Type 0} {l : Units} where
   pub undelimited : {then : List ℕ → Rule} → next_are (delimiter_of ∷ []) l ≡ None → RuleLeads (takes_delimiter then) K l → K (Refused (refusal_here MissingDelimiter (past_space l)))
   undelimited e k = k.to _ (delimiter_missing e)
 
+  pub found : {spot : Spot} {place : ℕ} (then : List ℕ → Rule) {text : List ℕ} {m : Units} → scan place l spot ≡ Given text m → RuleLeads (takes_found spot place then) K l → RuleLeads (then text) K m
+  found then e k = record { to = λ o d. k.to o (found_taken e d) }
+
+  pub not_found : {spot : Spot} {place : ℕ} {then : List ℕ → Rule} {r : Refusal} → scan place l spot ≡ Missing r → RuleLeads (takes_found spot place then) K l → K (Refused r)
+  not_found e k = k.to _ (found_refused e)
+
+  pub passed : {spot : Spot} {then : Rule} → RuleLeads (passes_over spot then) K l → RuleLeads then K (past spot l)
+  passed k = record { to = λ o d. k.to o (passed_over d) }
+
+  pub rows_due : {end : TableEnd} {place : ℕ} {columns : Columns} {c : Context} (then : Lines → ℕ → Rule) → RuleLeads (reads_rows end place columns c then) K l → (o : Outcome Lines) → ReadsRows end place columns c [] [] (past BeforeRow l) o → RowsLead then K o
+  rows_due then k (Read lines m) d = λ u n p. record { to = λ o ds. k.to o (rows_read d p ds) }
+  rows_due then k (Refused r) d = k.to _ (rows_refused d)
+
 -- Atoms behind a row
 
 module _ {ending : Ending} {c : Context} {xs : Row} {K : Outcome Row → Type 0} {l : Units} where
-  pub row_ends_text : {at : ℕ} → past_space l ≡ End at → unended ending ≡ None → Leads (row ending c xs K) l → K (Read xs (End at))
+  pub row_ends_text : {at : ℕ} → past_space l ≡ End at → unended ending ≡ None → Leads (row ending c xs K) l → K (Read (finished c.style xs) (End at))
   row_ends_text p e k = k _ (text_ends p e)
 
   pub row_unended : {at : ℕ} {r : Refusal} → past_space l ≡ End at → unended ending ≡ Some r → Leads (row ending c xs K) l → K (Refused r)
@@ -73,7 +91,7 @@ module _ {ending : Ending} {c : Context} {xs : Row} {K : Outcome Row → Type 0}
   pub row_stopped : {r : Refusal} → past_space l ≡ Stop r → Leads (row ending c xs K) l → K (Refused r)
   row_stopped p k = k _ (atoms_stopped p)
 
-  pub row_ended : {u : Unit} {m : Units} → past_space l ≡ Next u m → IsTrue (ends ending u.piece) → Leads (row ending c xs K) l → K (Read xs m)
+  pub row_ended : {u : Unit} {m : Units} → past_space l ≡ Next u m → IsTrue (ends ending u.piece) → Leads (row ending c xs K) l → K (Read (finished c.style xs) (left_behind ending u m))
   row_ended p e k = k _ (atoms_end p e)
 
   -- an atom begins
@@ -96,6 +114,14 @@ module _ {ending : Ending} {c : Context} {xs : Row} {K : Outcome Row → Type 0}
 
   pub base_due : {u : Unit} {m : Units} → past_space l ≡ Next u m → IsFalse (ends ending u.piece) → atom_start ending u.piece ≡ RuleStart → Leads (row ending c xs K) l → RuleLeads (rule u.place c u.piece) (CoreMade (row ending c xs K)) m
   base_due p e s k = record { to = λ o d. base_made p e s k o d }
+
+  -- what stands after a change is due
+  follows : {u : Unit} {m : Units} {change : Change} → past_space l ≡ Next u m → IsFalse (ends ending u.piece) → atom_start ending u.piece ≡ ChangeStart change → Leads (row ending c xs K) l → (rest : Rest) → rest_of change c xs ≡ rest → FollowsChange ending K u.place rest m
+  follows p e s k (GoesOnIn d ys) r = λ o reads. k o (rest_read p e s r reads)
+  follows p e s k (NoRest kind) r = k _ (change_refused p e s r)
+
+  pub rest_due : {u : Unit} {m : Units} {change : Change} → past_space l ≡ Next u m → IsFalse (ends ending u.piece) → atom_start ending u.piece ≡ ChangeStart change → Leads (row ending c xs K) l → RestLeads change u.place (row ending c xs K) m
+  rest_due {change = change} p e s k = follows p e s k (rest_of change c xs) refl
 
 -- What stands after an atom
 

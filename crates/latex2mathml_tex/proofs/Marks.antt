@@ -21,7 +21,7 @@ use Rattle.latex2mathml_tex.proofs.Opening.{context_is}
 use Rattle.latex2mathml_tex.specs.Levels.{AtomMade, CoreMade, Leads, Level, OperandMade, PartMade, Refuses, ScriptsLead, row, operand, part, words}
 use Rattle.latex2mathml_tex.specs.Levels.{core as core_level}
 use Rattle.latex2mathml_tex.specs.Meanings.{limit_place_of, style_of}
-use Rattle.latex2mathml_tex.specs.Models.{context_of, element_above, element_below, script_count, scripts_with, top}
+use Rattle.latex2mathml_tex.specs.Models.{context_of, element_above, element_below, row_count, script_count, scripts_with, top}
 use Rattle.latex2mathml_tex.specs.Steps.{Holds, InnermostIs, TookMark, TookScript, elements_of, left_of, level, level_within, mark_model}
 use Rattle.latex2mathml_tex.specs.declared.{atoms.Context.Context, atoms.Core.Core as CodeCore, atoms.Scripts.Scripts as CodeScripts, error.TexErrorKind.TexErrorKind, meaning.LimitPlace.LimitPlace as CodeLimitPlace, parse.Parser.Parser, parse.scripts.Mark.Mark}
 use Rattle.latex2mathml_tex.specs.declared.error.TexErrorKind.TheVariants as error
@@ -63,9 +63,10 @@ module _ (r : Refusal) where
     row_refuses ending.Degree place xs k = on (core_refuses l k)
     row_refuses (ending.Delimiters opening) place xs k = on (core_refuses l k)
     row_refuses (ending.Formula ws) place xs k = on (part_refuses l k)
+    row_refuses (ending.Cell t) place xs k = on (core_refuses l k)
 
     frame_refuses : (f : Frame) (xs : List Element) → Refuses (enter s f xs l) r → Whole s (Refused r)
-    frame_refuses (frame.Row e place c above) xs k = row_refuses e place (drop above.count xs) k
+    frame_refuses (frame.Row e place c above) xs k = row_refuses e place (drop (row_count above) xs) k
     frame_refuses (frame.Last made place c) xs k = on (core_refuses l k)
     frame_refuses (frame.First one place c) xs k = on (core_refuses l k)
     frame_refuses (frame.Negation place c) xs k = on (core_refuses l k)

@@ -5,14 +5,6 @@ use Rattle.latex2mathml_tex_grammar.specs.Next.{first_is, first_passes, is_space
 use Rattle.latex2mathml_tex_grammar.specs.Units.{Piece, Units, Next, End, Stop}
 use Rattle.latex2mathml_tex.specs.Left.{unit_count}
 
-pub past_twice : (l : Units) → past_space (past_space l) ≡ past_space l
-past_twice (Next u us) = elim (cases_Bool (is_space_piece u.piece)) [
-  | inl h ↦ rw h (past_twice us)
-  | inr h ↦ rw h (rw h refl)
-]
-past_twice (End place) = refl
-past_twice (Stop r) = refl
-
 -- a unit that passes a test, and one after it
 module _ (first second : Piece → Option (List ℕ)) where
   passed : (found : Option (List ℕ)) (us m n : Units) (a b : List ℕ) → first_passes found (Some ([], us)) ≡ Some (a, m) → first_is second (next_are []) (past_space m) ≡ Some (b, n) → first_passes found (first_is second (next_are []) (past_space us)) ≡ Some (a ++ b, n)

@@ -1,22 +1,25 @@
 -- Where no atom begins in a row: its ending stands there, the text ends, or what stands there is no unit.
-use Rattle.std.proofs.Common.{◌≡◌, ◌≢◌, ◌∙◌, ℕ, suc, ◌+◌, ◌≤◌, true, None, Some, List, length, reverse, sum_by, Result, sym, ap, arith, subst}
+use Rattle.std.proofs.Common.{◌≡◌, ◌≢◌, refl, ◌∙◌, ℕ, suc, ◌+◌, ◌≤◌, true, None, Some, List, length, reverse, sum_by, Result, sym, ap, arith, subst}
 use Rattle.std.proofs.lemmas.{Bool.and_parts, List.Sums.sum_by_push}
 use Rattle.std.specs.declared.alloc.AllocError.{AllocError}
 use Rattle.latex2mathml_elements.specs.Element.{Element}
 use Rattle.latex2mathml_tex_grammar.specs.{Next.past_space, Reading.Outcome, Reading.Refused, Refusal.Refusal, Rows.Row}
-use Rattle.latex2mathml_tex_grammar.specs.Starts.{ends, unended}
+use Rattle.latex2mathml_tex_grammar.specs.Starts.{ends, left_behind, unended}
 use Rattle.latex2mathml_tex_grammar.specs.Units.{Piece, Unit, Units, Next, End, Stop}
-use Rattle.latex2mathml_tex.specs.{Errors.refusal_of, Left.put_back, Left.unit_count, Left.units_at, Meanings.style_of, Taking.unit_of}
+use Rattle.latex2mathml_tex.specs.{Errors.refusal_of, Left.put_back, Left.unit_count, Left.units_at, Meanings.style_of, Taking.piece_of, Taking.unit_of}
 use Rattle.latex2mathml_tex.specs.Frames.{RowMade, Start, Whole, element_count, ending_count, ending_of, within}
 use Rattle.latex2mathml_tex.specs.Innermost.{IsInnermost, none_begun, on_top}
+use Rattle.latex2mathml_tex.specs.Tables.{table_end}
 use Rattle.latex2mathml_tex.specs.Levels.{Leads, Level, Refuses}
-use Rattle.latex2mathml_tex.specs.Steps.{Awaits, CanMake, ClosesRow, EndsText, HasElements, Holds, IsStep, core_made, elements_of, frame_weight, left_of, row_makes}
+use Rattle.latex2mathml_tex.specs.Models.{row_count}
+use Rattle.latex2mathml_tex.specs.Steps.{Awaits, CanMake, EndsRow, EndsText, HasElements, Holds, IsLeft, IsStep, core_made, elements_of, frame_weight, left_of, row_makes}
 use Rattle.latex2mathml_tex.specs.declared.{atoms.Context.Context, atoms.Row.Row as CodeRow, input.Input.Input, meaning.Style.Style, parse.Parser.Parser, parse.State.State, unit.Next.Next as CodeNext, unit.Unit.Unit as CodeUnit}
 use Rattle.latex2mathml_tex.specs.declared.unit.Next.TheVariants as next
 use Rattle.latex2mathml_tex.specs.declared.parse.State.TheVariants as state
 use Rattle.latex2mathml_tex.specs.declared.parse.frames.{Ending.Ending, Frame.Frame, Frames.Frames}
 use Rattle.latex2mathml_tex.specs.declared.parse.frames.Ending.TheVariants as ending
 use Rattle.latex2mathml_tex.specs.declared.parse.frames.Frame.TheVariants as frame
+use Rattle.latex2mathml_tex_grammar.proofs.{Plain.has_end, Spaces.next_stays}
 use Rattle.latex2mathml_tex.proofs.Leading.{row_ended, row_ends_text, row_stopped, row_unended}
 use Rattle.latex2mathml_tex.proofs.{Marks.all_refuse, Nexts.no_more_past_space, Opening.into_frame, Opening.out_of_frame, Rows.others_await, Rows.step_within, Wording.one_innermost}
 
@@ -28,27 +31,38 @@ whole_ends s ending.Operand place xs l o is k = cc is
 whole_ends s ending.Degree place xs l o is k = cc is
 whole_ends s (ending.Delimiters opening) place xs l o is k = cc is
 whole_ends s (ending.Formula ws) place xs l o is k = cc is
+whole_ends s (ending.Cell t) place xs l o is k = absurd (has_end (table_end t) place is)
 
 -- no unit ends the whole text
 pub no_text_ends : (e : Ending) (place : ℕ) (piece : Piece) → true ≡ ends (ending_of e place) piece → e ≢ ending.Text
 no_text_ends e place piece is same = let no : true ≡ ends (ending_of ending.Text place) piece = rw same at is in cc
 
 -- the elements of a row and of the frames around it are among those of all frames
-elements_left : (style : Style) (fs others : List Frame) (e : Ending) (place : ℕ) (c : Context) (row : CodeRow) (n : ℕ) → IsInnermost style fs (frame.Row e place c row) others → sum_by element_count fs + 0 ≤ n → sum_by element_count others + (row.count + ending_count e) ≤ n
+pub elements_left : (style : Style) (fs others : List Frame) (e : Ending) (place : ℕ) (c : Context) (row : CodeRow) (n : ℕ) → IsInnermost style fs (frame.Row e place c row) others → sum_by element_count fs + 0 ≤ n → sum_by element_count others + (row_count row + ending_count e) ≤ n
 elements_left style fs others e place c row n (none_begun h k g) enough =
-    let none : row.count + ending_count e ≡ 0 = ap element_count g in
+    let none : row_count row + ending_count e ≡ 0 = ap element_count g in
     let brought : sum_by element_count others ≡ 0 = ap (sum_by element_count) k in
     omega (arith, none, brought)
 elements_left style fs others e place c row n (on_top h) enough =
-    let brought : sum_by element_count fs ≡ sum_by element_count others + (row.count + ending_count e) = ap (sum_by element_count) h ∙ sum_by_push element_count others (frame.Row e place c row) in
+    let brought : sum_by element_count fs ≡ sum_by element_count others + (row_count row + ending_count e) = ap (sum_by element_count) h ∙ sum_by_push element_count others (frame.Row e place c row) in
     omega (arith, brought, enough)
 
 -- the frames around the innermost one bring no more than all frames
-frames_left : (style : Style) (fs others : List Frame) (f : Frame) → IsInnermost style fs f others → sum_by frame_weight others ≤ sum_by frame_weight fs
+pub frames_left : (style : Style) (fs others : List Frame) (f : Frame) → IsInnermost style fs f others → sum_by frame_weight others ≤ sum_by frame_weight fs
 frames_left style fs others f (none_begun h k g) = let brought : sum_by frame_weight others ≡ 0 = ap (sum_by frame_weight) k in omega (arith, brought)
 frames_left style fs others f (on_top h) =
     let brought : sum_by frame_weight fs ≡ sum_by frame_weight others + frame_weight f = ap (sum_by frame_weight) h ∙ sum_by_push frame_weight others f in
     omega (arith, brought)
+
+-- what a row leaves behind its end
+is_left : (e : Ending) (place : ℕ) (u : CodeUnit) (l m : Units) → past_space l ≡ Next (unit_of u) m → IsLeft e u (left_behind (ending_of e place) (unit_of u) m) m
+is_left (ending.Cell t) place u l m next = next_stays l (unit_of u) m next
+is_left ending.Text place u l m next = refl
+is_left ending.Group place u l m next = refl
+is_left ending.Operand place u l m next = refl
+is_left ending.Degree place u l m next = refl
+is_left (ending.Delimiters opening) place u l m next = refl
+is_left (ending.Formula ws) place u l m next = refl
 
 module _ (p : Parser) (e : Ending) (place : ℕ) (row : CodeRow) (c : Context) (others : List Frame) (inner : IsInnermost p.style p.frames.stack.items (frame.Row e place c row) others) where
   module _ (s : Start) (h : Holds s p state.Next) where
@@ -66,25 +80,30 @@ module _ (p : Parser) (e : Ending) (place : ℕ) (row : CodeRow) (c : Context) (
     pub no_unit_there : (q : Parser) (r : Refusal) → past_space (left_of p) ≡ Stop r → q.style ≡ p.style → refusal_of q.refusal ≡ Some r → Holds s q state.Refused
     no_unit_there q r stop f g = record { style = h.style ∙ ap style_of (sym f); claims = rw g (refused_within r (row_stopped stop atoms_due)) }
 
-    pub text_ended : (i : Input) (at : ℕ) → past_space (left_of p) ≡ End at → EndsText e place row s (record p { input = i })
+    pub text_ended : (i : Input) (at : ℕ) → past_space (left_of p) ≡ End at → EndsText e place c.style row s (record p { input = i })
     text_ended i at end = record {
-      style = h.style;
+      same_style = h.style;
       at = at;
       ends = λ whole. whole_ends s e place _ _ _ whole (row_ends_text end whole atoms_due);
       refuses = λ r one. refused_within r (row_unended end one atoms_due);
     }
 
     -- the frame that was taken off is that of the row
-    pub row_closed : (i : Input) (fr : Frames) (f : Frame) (u : Unit) → IsInnermost p.style p.frames.stack.items f fr.stack.items → past_space (left_of p) ≡ Next u (units_at i) → true ≡ ends (ending_of e place) u.piece → ClosesRow e place row s (record p { input = i; frames = fr })
+    pub row_closed : (i : Input) (fr : Frames) (f : Frame) (u : CodeUnit) → IsInnermost p.style p.frames.stack.items f fr.stack.items → past_space (left_of p) ≡ Next (unit_of u) (units_at i) → true ≡ ends (ending_of e place) (piece_of u.piece) → EndsRow e place c.style row u s (record p { input = i; frames = fr })
     row_closed i fr f u taken next is =
         let fs = p.frames.stack.items in
         let same : f ≡ frame.Row e place c row = one_innermost p.style fs fr.stack.items others f (frame.Row e place c row) taken inner in
         let at_row = subst (λ f. IsInnermost p.style fs f fr.stack.items) same taken in
         let begun = into_frame (λ l. Leads l (left_of p)) s p.style h.style fs fr.stack.items (frame.Row e place c row) (elements_of p) at_row h.claims in
-        record { style = h.style; leads = row_ended next (sym is) begun }
+        record {
+          same_style = h.style;
+          rest = left_behind (ending_of e place) (unit_of u) (units_at i);
+          left = is_left e place u (left_of p) (units_at i) next;
+          leads = row_ended next (sym is) begun;
+        }
 
   -- without its frame, the row can be given to what it was begun for
-  pub row_can_close : (i : Input) (fr : Frames) (f : Frame) → IsInnermost p.style p.frames.stack.items f fr.stack.items → HasElements 0 p → Awaits core_made p → CanMake (row_makes e) (row.count + ending_count e) (record p { input = i; frames = fr })
+  pub row_can_close : (i : Input) (fr : Frames) (f : Frame) → IsInnermost p.style p.frames.stack.items f fr.stack.items → HasElements 0 p → Awaits core_made p → CanMake (row_makes e) (row_count row + ending_count e) (record p { input = i; frames = fr })
   row_can_close i fr f taken enough awaits =
       let fs = p.frames.stack.items in
       let same : f ≡ frame.Row e place c row = one_innermost p.style fs fr.stack.items others f (frame.Row e place c row) taken inner in

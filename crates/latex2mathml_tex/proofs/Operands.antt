@@ -1,5 +1,5 @@
 -- Where an operand, and an atom without scripts, lead within the innermost frame.
-use Rattle.std.proofs.Common.{◌≡◌, ◌⊎◌, inl, inr, ℕ, ◌+◌, ◌-◌, ◌≤◌, false, IsTrue, List, [], ◌∷◌, drop, take, length, reverse, refl, sym, ap, ◌∙◌, subst, arith}
+use Rattle.std.proofs.Common.{◌≡◌, ◌⊎◌, inl, inr, ℕ, ◌+◌, ◌-◌, ◌≤◌, false, IsTrue, List, [], ◌∷◌, Option, drop, take, length, reverse, refl, sym, ap, ◌∙◌, subst, arith}
 use Rattle.std.proofs.lemmas.List.{drop-drop, length-drop, length-take, reverse-append}
 use Rattle.latex2mathml_elements.specs.Element.{Element}
 use Rattle.latex2mathml_builder.specs.Built.{Built, elements_in}
@@ -15,6 +15,8 @@ use Rattle.latex2mathml_tex.specs.Models.{core_with, kind_of, operand_with, row_
 use Rattle.latex2mathml_tex.specs.Steps.{Follows, Holds, InnermostIs, Ready, TookScript, accepts, elements_of, first_accepts, left_of, operand_made, to_do}
 use Rattle.latex2mathml_tex.specs.declared.{atoms.Context.Context, atoms.Core.Core as CodeCore, atoms.Operand.Operand as CodeOperand, atoms.Row.Row as CodeRow, atoms.Scripts.Scripts, meaning.Style.Style as CodeStyle, parse.Parser.Parser}
 use Rattle.latex2mathml_tex.specs.declared.parse.State.TheVariants as state
+use Rattle.latex2mathml_tex.specs.Innermost.{frame_context}
+use Rattle.latex2mathml_tex.specs.declared.meaning.Alphabet.{Alphabet}
 use Rattle.latex2mathml_tex.specs.declared.parse.frames.{Ending.Ending, First.First, Frame.Frame, Frames.Frames, Last.Last}
 use Rattle.latex2mathml_tex.specs.declared.parse.frames.Frame.TheVariants as frame
 use Rattle.latex2mathml_tex.proofs.Opening.{into_frame, out_of_frame}
@@ -61,6 +63,15 @@ pub waits : (c : Context) (f : Frame) → ((made : Last) × (place : ℕ) × (f 
 waits c f (inl (made, place, e)) = rw e refl
 waits c f (inr (inl (one, place, e))) = rw e refl
 waits c f (inr (inr (base, scripts, on, place, e))) = rw e refl
+
+pub others_wait : (f : Frame) → ((e : Ending) (place : ℕ) (c : Context) (row : CodeRow) → f ≡ frame.Row e place c row → ⊥) → ((place : ℕ) (c : Context) → f ≡ frame.Negation place c → ⊥) → (f ≡ frame.Text → ⊥) → ((place : ℕ) (a : Option Alphabet) → f ≡ frame.Words place a → ⊥) → WaitsIn (frame_context f) f
+others_wait (frame.Last made place c) no_row no_negation no_text no_words = refl
+others_wait (frame.First one place c) no_row no_negation no_text no_words = refl
+others_wait (frame.Script base scripts on place c) no_row no_negation no_text no_words = refl
+others_wait (frame.Row e place c row) no_row no_negation no_text no_words = absurd (no_row e place c row refl)
+others_wait (frame.Negation place c) no_row no_negation no_text no_words = absurd (no_negation place c refl)
+others_wait frame.Text no_row no_negation no_text no_words = absurd (no_text refl)
+others_wait (frame.Words place a) no_row no_negation no_text no_words = absurd (no_words place a refl)
 
 single_made : (s : Start) (others : List Frame) (f : Frame) (xs : List Element) (c : Context) (x : Core) (m : Units) → WaitsIn c f → CoreMade (within s others f xs) (Read x m) → OperandMade (within s others f xs) (Read (single (style_of c.style) x.atom) m)
 single_made s others (frame.Last made place d) xs c x m e k = rw (sym e) k

@@ -1,5 +1,5 @@
 -- What holds of the parser where an atom is put behind a row.
-use Rattle.std.proofs.Common.{◌≡◌, ℕ, ◌+◌, ◌-◌, ◌≤◌, ◌&&◌, Bool, true, false, sum_by, Some, None, Result, Ok, Err, IsTrue, List, [], ◌∷◌, drop, length, refl, sym, ap, ◌∙◌, subst, arith, reverse}
+use Rattle.std.proofs.Common.{◌≡◌, ℕ, ◌+◌, ◌-◌, ◌≤◌, ◌&&◌, ◌++◌, Bool, true, false, sum_by, Some, None, Result, Ok, Err, IsTrue, List, [], ◌∷◌, drop, length, refl, sym, ap, ◌∙◌, subst, arith, reverse}
 use Rattle.std.proofs.lemmas.{List.drop-drop, List.length-drop, List.reverse-append, List.Sums.sum_by_push}
 use Rattle.latex2mathml_elements.specs.Element.{Element}
 use Rattle.latex2mathml_builder.specs.Built.{Built, elements_in}
@@ -13,8 +13,8 @@ use Rattle.latex2mathml_tex.specs.Frames.{RowMade, Start, base_of, element_count
 use Rattle.latex2mathml_tex.specs.Innermost.{IsInnermost, none_begun, on_top}
 use Rattle.latex2mathml_tex.specs.Levels.{AtomMade, Leads, Refuses}
 use Rattle.latex2mathml_tex.specs.Meanings.{style_of}
-use Rattle.latex2mathml_tex.specs.Models.{context_of, core_with, row_with, script_count, scripts_with, top}
-use Rattle.latex2mathml_tex.specs.Steps.{BeginsDivider, CanMake, Follows, HasElements, Holds, IsStep, MadeAtom, TookMark, are_nested, atom_made, elements_of, first_accepts, left_of, level, row_makes, to_do}
+use Rattle.latex2mathml_tex.specs.Models.{context_of, core_with, row_count, row_rest, row_with, script_count, scripts_with, top}
+use Rattle.latex2mathml_tex.specs.Steps.{BeginsDivider, CanMake, Follows, HasElements, Holds, IsStep, MadeAtom, TookMark, are_nested, atom_made, core_made, elements_of, first_accepts, frame_weight, left_of, level, row_makes, to_do}
 use Rattle.std.specs.declared.alloc.AllocError.{AllocError}
 use Rattle.latex2mathml_tex.specs.declared.{atoms.Context.Context, atoms.Core.Core as CodeCore, atoms.Row.Row as CodeRow, atoms.Scripts.Scripts as CodeScripts, error.TexError.TexError, input.Input.Input, meaning.Style.Style, parse.Parser.Parser, parse.State.State, parse.scripts.Mark.Mark}
 use Rattle.latex2mathml_tex.specs.declared.atoms.Kind.TheVariants as kind
@@ -22,6 +22,7 @@ use Rattle.latex2mathml_tex.specs.declared.meaning.Class.TheVariants as class
 use Rattle.latex2mathml_tex.specs.declared.meaning.LimitPlace.TheVariants as code_place
 use Rattle.latex2mathml_tex.specs.declared.parse.State.TheVariants as state
 use Rattle.latex2mathml_tex.specs.declared.parse.frames.{Ending.Ending, Frame.Frame}
+use Rattle.latex2mathml_tex.specs.declared.parse.frames.Ending.TheVariants as ending
 use Rattle.latex2mathml_tex.specs.declared.parse.frames.Frame.TheVariants as frame
 use Rattle.latex2mathml_tex.proofs.Leading.{delimited, given, undelimited}
 use Rattle.latex2mathml_tex.proofs.Marks.{all_refuse, atom_refuses}
@@ -37,26 +38,32 @@ use Rattle.latex2mathml_tex.proofs.Opening.{context_is, into_frame}
 
 -- A row with an atom behind it
 
+-- .. is as long as it was, but for its atoms
+count_longer : (row longer : CodeRow) (xs ys : List Element) → drop longer.count ys ≡ drop (row.count + 1) xs → row_rest longer ≡ row_rest row → drop (row_count longer) ys ≡ drop (row_count row) (drop 1 xs)
+count_longer row longer xs ys below rest =
+    let swap : row.count + 1 ≡ 1 + row.count = omega arith in
+    let own : drop longer.count ys ≡ drop row.count (drop 1 xs) = below ∙ ap (λ n. drop n xs) swap ∙ sym (drop-drop row.count 1 xs) in
+    sym (drop-drop (row_rest longer) longer.count ys) ∙ ap (λ n. drop n (drop longer.count ys)) rest ∙ ap (drop (row_rest row)) own ∙ drop-drop (row_rest row) row.count (drop 1 xs)
+
 module _ (s : Start) (fs : List Frame) (e : Ending) (place : ℕ) (context : Context) (row longer : CodeRow) (a : Atom) (xs ys : List Element) (m : Units) where
   abbrev AllLead : Row → List Element → List Element → Type 0
   AllLead r own others = (o : Outcome Row) → ReadsAtoms (ending_of e place) (context_of context) r m o → RowMade s e place own (inside s fs others) o
 
-  pub row_longer : row_with longer ys ≡ with_atom (style_of context.style) (row_with row (drop 1 xs)) a → drop longer.count ys ≡ drop (row.count + 1) xs → AtomMade (within s fs (frame.Row e place context row) (drop 1 xs)) (Read a m) → Leads (within s fs (frame.Row e place context longer) ys) m
-  row_longer made below k =
-      let swap : row.count + 1 ≡ 1 + row.count = omega arith in
-      let own : drop longer.count ys ≡ drop row.count (drop 1 xs) = below ∙ ap (λ n. drop n xs) swap ∙ sym (drop-drop row.count 1 xs) in
-      let others : drop (longer.count + ending_count e) ys ≡ drop (row.count + ending_count e) (drop 1 xs) =
-      sym (drop-drop (ending_count e) longer.count ys) ∙ ap (drop (ending_count e)) own ∙ drop-drop (ending_count e) row.count (drop 1 xs) in
-      subst (λ r. AllLead r (drop longer.count ys) (drop (longer.count + ending_count e) ys)) (sym made)
-      (subst (λ zs. AllLead (with_atom (style_of context.style) (row_with row (drop 1 xs)) a) zs (drop (longer.count + ending_count e) ys)) (sym own)
-      (subst (λ zs. AllLead (with_atom (style_of context.style) (row_with row (drop 1 xs)) a) (drop row.count (drop 1 xs)) zs) (sym others) k))
+  pub row_longer : row_with longer ys ≡ with_atom (style_of context.style) (row_with row (drop 1 xs)) a → drop longer.count ys ≡ drop (row.count + 1) xs → row_rest longer ≡ row_rest row → AtomMade (within s fs (frame.Row e place context row) (drop 1 xs)) (Read a m) → Leads (within s fs (frame.Row e place context longer) ys) m
+  row_longer made below rest k =
+      let own : drop (row_count longer) ys ≡ drop (row_count row) (drop 1 xs) = count_longer row longer xs ys below rest in
+      let others : drop (row_count longer + ending_count e) ys ≡ drop (row_count row + ending_count e) (drop 1 xs) =
+      sym (drop-drop (ending_count e) (row_count longer) ys) ∙ ap (drop (ending_count e)) own ∙ drop-drop (ending_count e) (row_count row) (drop 1 xs) in
+      subst (λ r. AllLead r (drop (row_count longer) ys) (drop (row_count longer + ending_count e) ys)) (sym made)
+      (subst (λ zs. AllLead (with_atom (style_of context.style) (row_with row (drop 1 xs)) a) zs (drop (row_count longer + ending_count e) ys)) (sym own)
+      (subst (λ zs. AllLead (with_atom (style_of context.style) (row_with row (drop 1 xs)) a) (drop (row_count row) (drop 1 xs)) zs) (sym others) k))
 
-pub atom_put : (s : Start) (p : Parser) (f : Frame) (others : List Frame) (e : Ending) (place : ℕ) (context : Context) (row longer : CodeRow) (c : CodeCore) (ys : List Element) → IsInnermost p.style p.frames.stack.items f others → f ≡ frame.Row e place context row → row_with longer ys ≡ with_atom (style_of context.style) (row_with row (drop 1 (elements_of p))) (core_with c (top (elements_of p))).atom → drop longer.count ys ≡ drop (row.count + 1) (elements_of p) → MadeAtom c s p → Leads (within s others (frame.Row e place context longer) ys) (left_of p)
-atom_put s p f others e place context row longer c ys i is made below g =
+pub atom_put : (s : Start) (p : Parser) (f : Frame) (others : List Frame) (e : Ending) (place : ℕ) (context : Context) (row longer : CodeRow) (c : CodeCore) (ys : List Element) → IsInnermost p.style p.frames.stack.items f others → f ≡ frame.Row e place context row → row_with longer ys ≡ with_atom (style_of context.style) (row_with row (drop 1 (elements_of p))) (core_with c (top (elements_of p))).atom → drop longer.count ys ≡ drop (row.count + 1) (elements_of p) → row_rest longer ≡ row_rest row → MadeAtom c s p → Leads (within s others (frame.Row e place context longer) ys) (left_of p)
+atom_put s p f others e place context row longer c ys i is made below rest g =
     let a = (core_with c (top (elements_of p))).atom in
     let xs = drop 1 (elements_of p) in
     let within_f = into_frame (λ l. AtomMade l (Read a (left_of p))) s p.style g.style p.frames.stack.items others f xs i g.leads in
-    row_longer s others e place context row longer a (elements_of p) ys (left_of p) made below (subst (λ f. AtomMade (within s others f xs) (Read a (left_of p))) is within_f)
+    row_longer s others e place context row longer a (elements_of p) ys (left_of p) made below rest (subst (λ f. AtomMade (within s others f xs) (Read a (left_of p))) is within_f)
 
 -- the frame of a row that was taken off can be put back with another row
 pub others_await : (style : Style) (fs others : List Frame) (e : Ending) (place : ℕ) (context : Context) (row : CodeRow) → IsInnermost style fs (frame.Row e place context row) others → IsTrue (are_nested (reverse fs)) → IsTrue (first_accepts (row_makes e) (reverse others) && are_nested (reverse others))
@@ -69,23 +76,52 @@ both true false h = absurd (cc)
 both false b h = absurd (cc)
 
 -- .. there are elements for it
-pub others_counted : (style : Style) (fs others : List Frame) (e : Ending) (place : ℕ) (context : Context) (row : CodeRow) (n : ℕ) (xs ys : List Element) → IsInnermost style fs (frame.Row e place context row) others → sum_by element_count fs + 1 ≤ length xs → drop n ys ≡ drop (row.count + 1) xs → n ≤ length ys → sum_by element_count others + (n + ending_count e) ≤ length ys
-others_counted style fs others e place context row n xs ys (none_begun h k g) enough below there =
-    let none : row.count + ending_count e ≡ 0 = ap element_count g in
+pub others_counted : (style : Style) (fs others : List Frame) (e : Ending) (place : ℕ) (context : Context) (row longer : CodeRow) (xs ys : List Element) → IsInnermost style fs (frame.Row e place context row) others → sum_by element_count fs + 1 ≤ length xs → drop longer.count ys ≡ drop (row.count + 1) xs → row_rest longer ≡ row_rest row → longer.count ≤ length ys → sum_by element_count others + (row_count longer + ending_count e) ≤ length ys
+others_counted style fs others e place context row longer xs ys (none_begun h k g) enough below rest there =
+    let none : row_count row + ending_count e ≡ 0 = ap element_count g in
     let brought : sum_by element_count others ≡ 0 = ap (sum_by element_count) k in
-    omega (arith, none, brought, there)
-others_counted style fs others e place context row n xs ys (on_top h) enough below there =
-    let left : length ys - n ≡ length xs - (row.count + 1) = sym (length-drop n ys) ∙ ap length below ∙ length-drop (row.count + 1) xs in
-    let brought : sum_by element_count fs ≡ sum_by element_count others + (row.count + ending_count e) = ap (sum_by element_count) h ∙ sum_by_push element_count others (frame.Row e place context row) in
-    omega (arith, left, brought, enough, there)
+    omega (arith, none, brought, rest, there)
+others_counted style fs others e place context row longer xs ys (on_top h) enough below rest there =
+    let left : length ys - longer.count ≡ length xs - (row.count + 1) = sym (length-drop longer.count ys) ∙ ap length below ∙ length-drop (row.count + 1) xs in
+    let brought : sum_by element_count fs ≡ sum_by element_count others + (row_count row + ending_count e) = ap (sum_by element_count) h ∙ sum_by_push element_count others (frame.Row e place context row) in
+    omega (arith, left, brought, enough, rest, there)
 
-pub row_can_open : (p q : Parser) (f : Frame) (e : Ending) (place : ℕ) (context : Context) (row : CodeRow) (n : ℕ) → IsInnermost p.style p.frames.stack.items f q.frames.stack.items → f ≡ frame.Row e place context row → CanMake atom_made 1 p → drop n (elements_of q) ≡ drop (row.count + 1) (elements_of p) → n ≤ length (elements_of q) → CanMake (row_makes e) (n + ending_count e) q
-row_can_open p q f e place context row n i is can below there =
+pub row_can_open : (p q : Parser) (f : Frame) (e : Ending) (place : ℕ) (context : Context) (row longer : CodeRow) → IsInnermost p.style p.frames.stack.items f q.frames.stack.items → f ≡ frame.Row e place context row → CanMake atom_made 1 p → drop longer.count (elements_of q) ≡ drop (row.count + 1) (elements_of p) → row_rest longer ≡ row_rest row → longer.count ≤ length (elements_of q) → CanMake (row_makes e) (row_count longer + ending_count e) q
+row_can_open p q f e place context row longer i is can below rest there =
     let inner : IsInnermost p.style p.frames.stack.items (frame.Row e place context row) q.frames.stack.items = subst (λ f. IsInnermost p.style p.frames.stack.items f q.frames.stack.items) is i in
     let awaits = both _ _ (others_await p.style p.frames.stack.items q.frames.stack.items e place context row inner can.awaits.nested) in
     record {
-      elements = others_counted p.style p.frames.stack.items q.frames.stack.items e place context row n (elements_of p) (elements_of q) inner can.elements below there;
+      elements = others_counted p.style p.frames.stack.items q.frames.stack.items e place context row longer (elements_of p) (elements_of q) inner can.elements below rest there;
       awaits = record { accepted = awaits.0; nested = awaits.1 };
+    }
+
+frame_same : (e : Ending) (place : ℕ) (context : Context) (row longer : CodeRow) → frame_weight (frame.Row e place context longer) ≡ frame_weight (frame.Row e place context row)
+frame_same ending.Text place context row longer = refl
+frame_same e place context row longer = refl
+
+weighed : (style : Style) (fs others : List Frame) (f : Frame) → IsInnermost style fs f others → sum_by frame_weight fs ≡ sum_by frame_weight others + frame_weight f
+weighed style fs others f (none_begun h k g) = rw (h, k, g) refl
+weighed style fs others f (on_top h) = ap (sum_by frame_weight) h ∙ sum_by_push frame_weight others f
+
+-- .. in place of the other one
+pub row_put_back : (p q : Parser) (f : Frame) (others : List Frame) (e : Ending) (place : ℕ) (context : Context) (row longer : CodeRow) → IsInnermost p.style p.frames.stack.items f others → f ≡ frame.Row e place context row → CanMake atom_made 1 p → drop longer.count (elements_of q) ≡ drop (row.count + 1) (elements_of p) → row_rest longer ≡ row_rest row → longer.count ≤ length (elements_of q) → q.frames.stack.items ≡ others ++ frame.Row e place context longer ∷ [] → left_of q ≡ left_of p → Follows (to_do p + 2) q state.Next
+row_put_back p q f others e place context row longer i is can below rest there items left =
+    let back = frame.Row e place context longer in
+    let inner : IsInnermost p.style p.frames.stack.items (frame.Row e place context row) others = subst (λ f. IsInnermost p.style p.frames.stack.items f others) is i in
+    let nested = others_await p.style p.frames.stack.items others e place context row inner can.awaits.nested in
+    let counted = others_counted p.style p.frames.stack.items others e place context row longer (elements_of p) (elements_of q) inner can.elements below rest there in
+    let brought : sum_by element_count q.frames.stack.items ≡ sum_by element_count others + (row_count longer + ending_count e) = ap (sum_by element_count) items ∙ sum_by_push element_count others back in
+    let after : sum_by frame_weight q.frames.stack.items ≡ sum_by frame_weight others + frame_weight back = ap (sum_by frame_weight) items ∙ sum_by_push frame_weight others back in
+    let before = weighed p.style p.frames.stack.items others (frame.Row e place context row) inner in
+    let same = frame_same e place context row longer in
+    let units : unit_count (left_of q) ≡ unit_count (left_of p) = ap unit_count left in
+    let turned : reverse q.frames.stack.items ≡ back ∷ reverse others = ap reverse items ∙ reverse-append others (back ∷ []) in
+    record {
+      ready = record {
+        elements = omega (arith, brought, counted);
+        may_come = record { accepted = subst (λ l. IsTrue (first_accepts core_made l)) (sym turned) search; nested = subst (λ l. IsTrue (are_nested l)) (sym turned) nested };
+      };
+      falls = omega (arith, after, before, same, units);
     }
 
 -- What is refused

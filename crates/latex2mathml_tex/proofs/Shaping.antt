@@ -1,5 +1,6 @@
 -- The uppermost elements changed, and a row with an atom after it.
-use Rattle.std.proofs.Common.{◌≡◌, ℕ, ◌<◌, ◌≤◌, Bool, false, true, zero, suc, List, [], ◌∷◌, ◌++◌, Some, None, length, take, drop, arith, refl, sym, ap, ◌∙◌}
+use Rattle.std.proofs.Common.{◌≡◌, ℕ, ◌+◌, ◌<◌, ◌≤◌, Bool, false, true, zero, suc, List, [], ◌∷◌, ◌++◌, Option, Some, None, length, take, drop, arith, refl, sym, ap, ◌∙◌}
+use Rattle.std.proofs.lemmas.List.{drop-drop}
 use Rattle.latex2mathml_elements.specs.Attributes.{Attributes}
 use Rattle.latex2mathml_elements.specs.Element.{Element, Mo, Token, token}
 use Rattle.latex2mathml_builder.specs.Names.{token_of}
@@ -169,5 +170,13 @@ class_behind (suc n) [] kind some enough = absurd (omega arith)
 class_behind (suc n) (x ∷ []) kind some enough = absurd (omega arith)
 class_behind (suc n) (x ∷ y ∷ xs) kind some enough = refl
 
-pub same_row : (xs ys : List Element) (b c : Before) (v w h i : Bool) (k l : Class) → xs ≡ ys → b ≡ c → v ≡ w → h ≡ i → k ≡ l → ◌≡◌ {A = Rows.Row} (record { elements = xs; before = b; ends_in_word = v; high = h; class = k }) (record { elements = ys; before = c; ends_in_word = w; high = i; class = l })
-same_row xs ys b c v w h i k l p q r s t = cc
+pub same_row : (xs ys : List Element) (b c : Before) (v w h i : Bool) (k l : Class) (e f : Option Rows.Restyled) (r u : Option Rows.Upper) → xs ≡ ys → b ≡ c → v ≡ w → h ≡ i → k ≡ l → e ≡ f → r ≡ u → ◌≡◌ {A = Rows.Row} (record { elements = xs; before = b; ends_in_word = v; high = h; class = k; restyled = e; under = r }) (record { elements = ys; before = c; ends_in_word = w; high = i; class = l; restyled = f; under = u })
+same_row xs ys b c v w h i k l e f r u p q s t m n o = cc
+
+-- what stands below the atoms of a row stays where it is
+module _ (n k : ℕ) (xs ys : List Element) (below : drop k ys ≡ drop (n + 1) xs) where
+  pub same_below : drop k ys ≡ drop n (drop 1 xs)
+  same_below = let swap : n + 1 ≡ 1 + n = omega arith in below ∙ ap (λ m. drop m xs) swap ∙ sym (drop-drop n 1 xs)
+
+  pub same_far_below : (m : ℕ) → drop (k + m) ys ≡ drop (n + m) (drop 1 xs)
+  same_far_below m = sym (drop-drop m k ys) ∙ ap (drop m) same_below ∙ drop-drop m n (drop 1 xs)

@@ -1,8 +1,8 @@
 -- What characters and commands are in words, and what holds of the parser behind them.
-use Rattle.std.proofs.Common.{◌≡◌, ◌==◌, ◌+◌, ◌||◌, ◌++◌, ◌∷◌, [], Bool, ℕ, ℤ, true, false, drop, Err, List, Ok, Option, Result, Some, None, codes, option_map, refl, subst, sym, ap, arith}
+use Rattle.std.proofs.Common.{◌≡◌, ◌==◌, ◌+◌, ◌||◌, ◌++◌, ◌∷◌, [], Bool, ℕ, ℤ, true, false, drop, Err, List, Ok, Option, Result, Some, None, option_map, refl, subst, sym, ap, arith}
 use Rattle.std.proofs.lemmas.Bool.Decides.{nat_tests}
 use Rattle.std.specs.Prelude.{IfOk, OnOk}
-use Rattle.std.specs.Str.{byte, bytes_eq}
+use Rattle.std.specs.Str.{byte}
 use Rattle.std.specs.declared.alloc.AllocError.{AllocError}
 use Rattle.latex2mathml_tex_grammar.specs.{Commands.meaning_of, Makes.text, Meaning.Meaning, Reading.Read, Symbols.Alphabet}
 use Rattle.latex2mathml_tex_grammar.specs.Refusal.{CharacterInWords, CommandInWords, UnknownCommand, refusal_at}
@@ -38,13 +38,8 @@ module _ (a : Option Alphabet) (name : List ℕ) where
     pub command_meant : (m : Option Meaning) → meaning_of name ≡ m → word_rule a (Command name) ≡ meaning_rule name m
     command_meant m e = rw (other, e) refl
 
-    -- without a meaning, there are the command that breaks lines and those that are unknown
-
-    pub line_break : meaning_of name ≡ None → bytes_eq name (codes "\\") ≡ true → word_rule a (Command name) ≡ NoWord (CommandInWords name)
-    line_break e is = rw (other, e, is) refl
-
-    pub unknown : meaning_of name ≡ None → bytes_eq name (codes "\\") ≡ false → word_rule a (Command name) ≡ NoWord (UnknownCommand name)
-    unknown e is = rw (other, e, is) refl
+    pub unknown : meaning_of name ≡ None → word_rule a (Command name) ≡ NoWord (UnknownCommand name)
+    unknown e = rw (other, e) refl
 
     -- most meanings are none in words
 

@@ -24,18 +24,32 @@ kind_text kind.MiddleWithoutLeft = codes "\\middle outside of \\left and \\right
 kind_text kind.LimitsWithoutOperator = codes "limits without an operator"
 kind_text kind.SecondSubscript = codes "a second subscript"
 kind_text kind.SecondSuperscript = codes "a second superscript"
+kind_text kind.ChangeAsArgument = codes "a command for the rest of a group is no argument"
+kind_text kind.SecondInfix = codes "a second \\over or the like in one group"
 kind_text kind.MissingDelimiter = codes "a delimiter is missing"
 kind_text kind.NothingToNegate = codes "nothing to negate"
 kind_text kind.OutsideTable = codes "a sign of tables outside of a table"
+kind_text kind.MissingName = codes "the name of an environment is missing"
+kind_text (kind.UnknownEnvironment name) = codes "unknown environment " ++ string_bytes name
+kind_text kind.BeginWithoutEnd = codes "\\begin without \\end"
+kind_text kind.EndWithoutBegin = codes "\\end without \\begin"
+kind_text kind.OtherName = codes "\\end has another name than \\begin"
+kind_text kind.UnknownColumn = codes "unknown column"
+kind_text kind.TooManyColumns = codes "more than 16 columns"
 kind_text (kind.MisplacedCharacter c) = encode_utf8 c ++ codes " has no meaning here"
 kind_text (kind.CommandInWords name) = codes "\\" ++ (string_bytes name ++ codes " in words")
 kind_text (kind.CharacterInWords c) = encode_utf8 c ++ codes " in words"
-kind_text kind.DefinitionsGiven = codes "definitions are not read yet"
+kind_text kind.TooManyExpansions = codes "too many macros are expanded"
+kind_text kind.MissingMacroName = codes "no name to define"
+kind_text kind.WrongParameters = codes "wrong parameters of a definition"
+kind_text kind.OptionalArgument = codes "optional arguments are not read"
+kind_text kind.DelimitedArgument = codes "an argument up to a sign is not read"
+kind_text kind.UnknownParameter = codes "a body has no such argument"
+kind_text kind.NoDefinition = codes "not a definition"
 kind_text kind.OutOfMemory = codes "out of memory"
 
--- an error of this kind is about a place of the formula
+-- an error of this kind is about a place of the text
 abbrev pub has_place : TexErrorKind → Bool
-has_place kind.DefinitionsGiven = false
 has_place kind.OutOfMemory = false
 has_place _ = true
 

@@ -9,12 +9,13 @@ use Rattle.latex2mathml_tex_grammar.specs.Reading.{Outcome, Read, Refused, Reads
 use Rattle.latex2mathml_tex_grammar.specs.{Formulas.formula_context, Symbols.Style, Symbols.InText, Symbols.Relation, Units.Units}
 use Rattle.latex2mathml_tex_grammar.specs.Rows.{Operand, Row, as_base, empty_row, operand_of, row_element}
 use Rattle.latex2mathml_tex_grammar.specs.Rules as rules
-use Rattle.latex2mathml_tex_grammar.specs.Rules.{Context, Rule, gives, of_one, slashed, struck_atom, takes_delimiter, WholeText, InBraces, InBrackets, InDollars, InDelimiters}
+use Rattle.latex2mathml_tex_grammar.specs.Rules.{Context, Rule, gives, of_one, slashed, struck_atom, takes_delimiter, WholeText, InBraces, InBrackets, InDollars, InDelimiters, InCell}
 use Rattle.latex2mathml_tex_grammar.specs.Words.{words_atom}
 use Rattle.latex2mathml_tex.specs.{Levels.AtomMade, Levels.as_operand, Levels.as_words, Levels.CoreMade, Levels.Level, Levels.OperandMade, Levels.PartMade, Levels.RuleLeads, Levels.ScriptsLead, Levels.Then}
 use Rattle.latex2mathml_tex.specs.Levels as level
 use Rattle.latex2mathml_tex.specs.Meanings.{alphabet_of, class_of, fraction_rule_of, limit_place_of, style_of}
-use Rattle.latex2mathml_tex.specs.Models.{context_of, core_with, row_with, script_count, scripts_with, top, words_with}
+use Rattle.latex2mathml_tex.specs.Models.{context_of, core_with, row_count, row_with, script_count, scripts_with, top, words_with}
+use Rattle.latex2mathml_tex.specs.Tables.{TableMade, table_end}
 use Rattle.latex2mathml_tex.specs.{Delimiters.delimiter_text, declared.atoms.Core.Core as CodeCore, declared.atoms.Scripts.Scripts}
 use Rattle.latex2mathml_tex.specs.declared.parse.frames.{Ending.Ending, First.First, Frame.Frame, Last.Last}
 use Rattle.latex2mathml_tex.specs.declared.parse.frames.Ending.TheVariants as ending
@@ -46,6 +47,7 @@ ending_of ending.Operand place = InBraces place
 ending_of ending.Degree place = InBrackets place
 ending_of (ending.Delimiters opening) place = InDelimiters place
 ending_of (ending.Formula ws) place = InDollars place
+ending_of (ending.Cell t) place = InCell (table_end t) place
 
 -- the context of what is due at a level
 abbrev pub context_at : Level → Context
@@ -67,6 +69,7 @@ RowMade s ending.Operand place xs l = λ o. OperandMade l (as_operand o)
 RowMade s ending.Degree place xs l = Then (λ row. of_one place (context_at l) (λ x. root (row_element row.elements) x.element)) (CoreMade l)
 RowMade s (ending.Delimiters opening) place xs l = Then (after_delimiters (delimiter_text opening)) (CoreMade l)
 RowMade s (ending.Formula ws) place xs l = λ o. PartMade l (as_words (words_with ws xs) o)
+RowMade s (ending.Cell t) place xs l = TableMade t place xs (context_at l) (CoreMade l)
 
 -- Operands
 
@@ -131,7 +134,7 @@ ScriptMade l c scripts s xs (Refused r) = AtomMade l (Refused r)
 
 -- the level within a frame
 abbrev pub enter : Start → Frame → List Element → Level → Level
-enter s (frame.Row e place c row) xs l = level.row (ending_of e place) (context_of c) (row_with row xs) (RowMade s e place (drop row.count xs) l)
+enter s (frame.Row e place c row) xs l = level.row (ending_of e place) (context_of c) (row_with row xs) (RowMade s e place (drop (row_count row) xs) l)
 enter s (frame.Last made place c) xs l = level.operand place (context_of c) (Then (λ y. gives (made_of made xs y)) (CoreMade l))
 enter s (frame.First one place c) xs l = level.operand place (context_of c) (Then (after_first one place (context_of c) (context_at l)) (CoreMade l))
 enter s (frame.Negation place c) xs l = level.core place (context_of c) (Then (λ x. struck_atom place x (struck x.atom.element)) (CoreMade l))
@@ -142,6 +145,7 @@ enter s (frame.Words place a) xs l = level.words place (option_map alphabet_of a
 -- how many of the elements beside it belong to a frame
 abbrev pub ending_count : Ending → ℕ
 ending_count (ending.Formula ws) = ws.count
+ending_count (ending.Cell t) = t.cells + t.rows
 ending_count e = 0
 
 abbrev pub last_count : Last → ℕ
@@ -152,7 +156,7 @@ last_count (last.StackedRelation style) = 1
 last_count l = 0
 
 abbrev pub element_count : Frame → ℕ
-element_count (frame.Row e place c row) = row.count + ending_count e
+element_count (frame.Row e place c row) = row_count row + ending_count e
 element_count (frame.Last made place c) = last_count made
 element_count (frame.Script base scripts on place c) = primes_put on scripts.primes + (script_count scripts + 1)
 element_count f = 0

@@ -11,7 +11,7 @@ use Rattle.latex2mathml_tex.specs.declared.parse.frames.Frame.TheVariants as fra
 
 -- a row without atoms
 abbrev pub empty_row : Row
-empty_row = record { count = 0; before = before.Nothing; ends_in_word = false; high = false; class = class.Ordinary }
+empty_row = record { count = 0; before = before.Nothing; ends_in_word = false; high = false; class = class.Ordinary; restyled = None; settled = 0; under = None }
 
 -- the row of a whole formula of this style, before its first atom
 abbrev pub begun_row : Style → Frame

@@ -1,10 +1,11 @@
 -- The units that are left.
-use Rattle.std.specs.Prelude.{ℕ, suc}
+use Rattle.std.specs.Prelude.{ℕ, suc, drop, map}
 use Rattle.std.specs.Str.{chars}
-use Rattle.latex2mathml_tex_grammar.specs.{Cutting.units_of, Refusal.refusal_at, Units.Units}
+use Rattle.latex2mathml_tex_grammar.specs.{Cutting.units_of, Macros.before, Refusal.refusal_at, Units.Units}
 use Rattle.latex2mathml_tex_grammar.specs.Units as units
 use Rattle.latex2mathml_tex.specs.Taking.{kind_of, unit_of}
-use Rattle.latex2mathml_tex.specs.{declared.input.Input.Input, declared.reader.Reader.Reader, declared.unit.Next.Next}
+use Rattle.latex2mathml_tex.specs.{declared.input.Input.Input, declared.macros.whole.End.End, declared.reader.Reader.Reader, declared.unit.Next.Next}
+use Rattle.latex2mathml_tex.specs.declared.macros.whole.End.TheVariants as end
 use Rattle.latex2mathml_tex.specs.declared.unit.Next.TheVariants as next
 
 -- .. by a reader
@@ -17,9 +18,18 @@ put_back (next.Unit u) l = units.Next (unit_of u) l
 put_back (next.End place) l = units.End place
 put_back (next.Fault fault place) l = units.Stop (refusal_at (kind_of fault) place)
 
--- .. with the one that is in sight
+-- how units end
+abbrev pub end_of : End → Units
+end_of (end.Text place) = units.End place
+end_of (end.Fault fault place) = units.Stop (refusal_at (kind_of fault) place)
+
+-- those behind the one that is in sight
+abbrev pub units_behind : Input → Units
+units_behind i = before (map unit_of (drop i.passed i.units.now)) (end_of i.end)
+
+-- .. and with it
 abbrev pub units_at : Input → Units
-units_at i = put_back i.next (units_left i.reader)
+units_at i = put_back i.next (units_behind i)
 
 -- how many there are
 abbrev pub unit_count : Units → ℕ

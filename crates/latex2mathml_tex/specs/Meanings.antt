@@ -15,6 +15,8 @@ use Rattle.latex2mathml_tex.specs.declared.meaning.FractionRule.{FractionRule}
 use Rattle.latex2mathml_tex.specs.declared.meaning.FractionRule.TheVariants as code_fractionrule
 use Rattle.latex2mathml_tex.specs.declared.meaning.LimitPlace.{LimitPlace}
 use Rattle.latex2mathml_tex.specs.declared.meaning.LimitPlace.TheVariants as code_limitplace
+use Rattle.latex2mathml_tex.specs.declared.meaning.Change.{Change}
+use Rattle.latex2mathml_tex.specs.declared.meaning.Change.TheVariants as code_change
 use Rattle.latex2mathml_tex.specs.declared.meaning.Meaning.{Meaning}
 use Rattle.latex2mathml_tex.specs.declared.meaning.Meaning.TheVariants as code_meaning
 use Rattle.latex2mathml_tex.specs.declared.meaning.Entry.{Entry}
@@ -55,12 +57,20 @@ symbol_of (code_symbol.Integral x) = symbol.Integral x
 abbrev pub fraction_rule_of : FractionRule → meant.FractionRule
 fraction_rule_of code_fractionrule.Bar = meant.Bar
 fraction_rule_of code_fractionrule.NoBar = meant.NoBar
+fraction_rule_of code_fractionrule.Braced = meant.Braced
+fraction_rule_of code_fractionrule.Bracketed = meant.Bracketed
+fraction_rule_of code_fractionrule.Bare = meant.Bare
 
 abbrev pub limit_place_of : LimitPlace → meant.LimitPlace
 limit_place_of code_limitplace.Beside = meant.Beside
 limit_place_of code_limitplace.ByStyle = meant.ByStyle
 limit_place_of code_limitplace.Movable = meant.Movable
 limit_place_of code_limitplace.Stacked = meant.Stacked
+
+abbrev pub change_of : Change → meant.Change
+change_of (code_change.ToAlphabet x) = meant.ToAlphabet (alphabet_of x)
+change_of (code_change.ToStyle x) = meant.ToStyle (style_of x)
+change_of (code_change.Divides x) = meant.Divides (fraction_rule_of x)
 
 abbrev pub meaning_of : Meaning → meant.Meaning
 meaning_of (code_meaning.Shows x) = meant.Shows (symbol_of x)
@@ -84,6 +94,11 @@ meaning_of code_meaning.Right = meant.Right
 meaning_of code_meaning.Limits = meant.Limits
 meaning_of code_meaning.NoLimits = meant.NoLimits
 meaning_of (code_meaning.Classed x) = meant.Classed (class_of x)
+meaning_of (code_meaning.Changes x) = meant.Changes (change_of x)
+meaning_of code_meaning.BeginTable = meant.BeginTable
+meaning_of code_meaning.EndTable = meant.EndTable
+meaning_of code_meaning.LineBreak = meant.LineBreak
+meaning_of code_meaning.Substack = meant.Substack
 
 abbrev pub entry_of : Entry → List ℕ × meant.Meaning
 entry_of entry = (entry.name.now, meaning_of entry.meaning)

@@ -8,7 +8,8 @@ use Rattle.latex2mathml_tex_grammar.specs.Makes as makes
 use Rattle.latex2mathml_tex_grammar.specs.Rows as rows
 use Rattle.latex2mathml_tex_grammar.specs.Rules as rules
 use Rattle.latex2mathml_tex_grammar.specs.Words as words
-use Rattle.latex2mathml_tex.specs.Meanings.{alphabet_of, class_of, limit_place_of, style_of}
+use Rattle.latex2mathml_tex.specs.Meanings.{alphabet_of, class_of, fraction_rule_of, limit_place_of, style_of}
+use Rattle.latex2mathml_tex.specs.declared.{meaning.FractionRule.FractionRule, meaning.Style.Style}
 use Rattle.latex2mathml_tex.specs.declared.atoms.{Before.Before, Context.Context, Core.Core, Kind.Kind, Operand.Operand, Row.Row, Scripts.Scripts, Words.Words}
 use Rattle.latex2mathml_tex.specs.declared.atoms.Before.TheVariants as before
 use Rattle.latex2mathml_tex.specs.declared.atoms.Kind.TheVariants as kind
@@ -42,6 +43,33 @@ core_with core x = record { atom = atoms.atom (kind_of core.kind) core.high x; l
 abbrev pub operand_with : Operand → Element → rows.Operand
 operand_with operand x = record { element = x; class = class_of operand.class; high = operand.high }
 
+-- the change of style in a row, with the elements before it
+abbrev pub restyled_with : Option Style → ℕ → List Element → Option rows.Restyled
+restyled_with None settled xs = None
+restyled_with (Some group) settled xs = Some (record { before = take settled xs; group = style_of group })
+
+-- what a row stands below
+abbrev pub under_with : Option FractionRule → List Element → Option rows.Upper
+under_with None xs = None
+under_with (Some rule) xs = Some (record { rule = fraction_rule_of rule; element = top xs })
+
+-- how many elements stand before a change of style, where there was one
+abbrev pub settled_count : Option Style → ℕ → ℕ
+settled_count None settled = 0
+settled_count (Some group) settled = settled
+
+abbrev pub under_count : Option FractionRule → ℕ
+under_count None = 0
+under_count (Some rule) = 1
+
+-- how many elements of a row are below those since the last change of style
+abbrev pub row_rest : Row → ℕ
+row_rest row = settled_count row.restyled row.settled + under_count row.under
+
+-- how many there are
+abbrev pub row_count : Row → ℕ
+row_count row = row.count + row_rest row
+
 abbrev pub row_with : Row → List Element → rows.Row
 row_with row xs = record {
   elements = take row.count xs;
@@ -49,6 +77,8 @@ row_with row xs = record {
   ends_in_word = row.ends_in_word;
   high = row.high;
   class = class_of row.class;
+  restyled = restyled_with row.restyled row.settled (drop row.count xs);
+  under = under_with row.under (drop (row.count + settled_count row.restyled row.settled) xs);
 }
 
 abbrev pub words_with : Words → List Element → words.Words

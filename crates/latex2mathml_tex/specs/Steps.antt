@@ -6,9 +6,17 @@ use Rattle.latex2mathml_builder.specs.Built.{elements_in}
 use Rattle.latex2mathml_builder.specs.declared.attributes.Side.{Side}
 use Rattle.latex2mathml_tex_grammar.specs.Atoms.{Atom}
 use Rattle.latex2mathml_tex_grammar.specs.Makes.{Scripts, core, divider}
+use Rattle.latex2mathml_tex_grammar.specs.Meaning.{Change}
 use Rattle.latex2mathml_tex_grammar.specs.Next.{past_space}
-use Rattle.latex2mathml_tex_grammar.specs.Reading.{Read, Refused}
-use Rattle.latex2mathml_tex_grammar.specs.{Refusal.Refusal, Rows.Row, Starts.unended}
+use Rattle.latex2mathml_tex_grammar.specs.Reading.{Read, Refused, Outcome, ReadsRows}
+use Rattle.latex2mathml_tex_grammar.specs.{Refusal.Refusal, Rests.finished, Rows.Row, Starts.unended}
+use Rattle.latex2mathml_builder.specs.Columns.{columns_of}
+use Rattle.latex2mathml_tex.specs.Tables.{RowsLead, after_rows, behind_rows, delimiter_texts, cell_context, cells_of, rows_of, table_end}
+use Rattle.latex2mathml_tex_grammar.specs.Tables.{Lines, a_table}
+use Rattle.latex2mathml_tex_grammar.specs.Scanning.{Spot, Given, Missing, scan}
+use Rattle.std.specs.Borrow.{Bor}
+use Rattle.latex2mathml_builder.specs.declared.columns.Columns.{Columns}
+use Rattle.latex2mathml_tex.specs.declared.{environments.Environment.Environment, meaning.Style.Style}
 use Rattle.latex2mathml_tex_grammar.specs.Rules.{Rule, a_number, gives, rule, takes_delimiter}
 use Rattle.latex2mathml_tex_grammar.specs.{Symbols.Alphabet, Symbols.Class, Words.Word, Words.with_word}
 use Rattle.latex2mathml_tex_grammar.specs.Starts as starts
@@ -17,15 +25,15 @@ use Rattle.latex2mathml_tex_grammar.specs.Units.{Units, Next, End, Stop}
 use Rattle.latex2mathml_tex.specs.{Errors.refusal_of, Innermost.IsInnermost, Taking.piece_of, Taking.unit_of}
 use Rattle.latex2mathml_tex.specs.Frames.{RowMade, ScriptMade, Start, Whole, after_first, base_of, context_at, element_count, ending_count, ending_of, inside, primes_put, within}
 use Rattle.latex2mathml_tex.specs.Left.{unit_count, units_at}
-use Rattle.latex2mathml_tex.specs.Levels.{AtomMade, CoreMade, Leads, Level, OperandMade, PartMade, RuleLeads, ScriptsLead, Then, WordLeads, as_atom}
+use Rattle.latex2mathml_tex.specs.Levels.{AtomMade, CoreMade, Leads, Level, OperandMade, PartMade, RestLeads, RuleLeads, ScriptsLead, Then, WordLeads, as_atom}
 use Rattle.latex2mathml_tex.specs.Meanings.{alphabet_of, limit_place_of, style_of}
-use Rattle.latex2mathml_tex.specs.Models.{context_of, core_with, operand_with, row_with, script_count, scripts_with, top, words_with}
+use Rattle.latex2mathml_tex.specs.Models.{context_of, core_with, operand_with, row_count, row_with, script_count, scripts_with, top, words_with}
 use Rattle.latex2mathml_tex.specs.Numbers.{after_point}
-use Rattle.latex2mathml_tex.specs.declared.{atoms.Context.Context, atoms.Core.Core as CodeCore, atoms.Operand.Operand as CodeOperand, atoms.Row.Row as CodeRow, atoms.Scripts.Scripts as CodeScripts, atoms.Words.Words as CodeWords, meaning.Alphabet.Alphabet as CodeAlphabet, parse.Parser.Parser, parse.State.State, parse.scripts.Mark.Mark, unit.Unit.Unit}
+use Rattle.latex2mathml_tex.specs.declared.{atoms.Context.Context, atoms.Core.Core as CodeCore, atoms.Operand.Operand as CodeOperand, atoms.Row.Row as CodeRow, atoms.Scripts.Scripts as CodeScripts, atoms.Words.Words as CodeWords, meaning.Alphabet.Alphabet as CodeAlphabet, meaning.Style.Style as CodeStyle, parse.Parser.Parser, parse.State.State, parse.scripts.Mark.Mark, unit.Unit.Unit}
 use Rattle.latex2mathml_tex.specs.declared.parse.scripts.Mark.TheVariants as mark
 use Rattle.latex2mathml_builder.specs.declared.attributes.Side.TheVariants as side
 use Rattle.latex2mathml_tex.specs.declared.parse.State.TheVariants as state
-use Rattle.latex2mathml_tex.specs.declared.parse.frames.{Ending.Ending, First.First, Frame.Frame}
+use Rattle.latex2mathml_tex.specs.declared.parse.frames.{Ending.Ending, First.First, Frame.Frame, Table.Table}
 use Rattle.latex2mathml_tex.specs.declared.parse.frames.Ending.TheVariants as ending
 use Rattle.latex2mathml_tex.specs.declared.parse.frames.Frame.TheVariants as frame
 
@@ -75,6 +83,13 @@ Claims s p state.Refused = IfSome (refusal_of p.refusal) (λ r. Whole s (Refused
 pub record Holds (s : Start) (p : Parser) (st : State) : Type 0 where
   pub style : s.style ≡ style_of p.style
   pub claims : Claims s p st
+
+abbrev pub HoldsIn : State → Start → Parser → Type 0
+HoldsIn st s p = Holds s p st
+
+-- What is so of the parser before a step leads to what its result claims.
+abbrev pub LeadsOn : (Start → Parser → Type 0) → Parser → Parser → Result State AllocError → Type 0
+LeadsOn P old new result = (s : Start) → P s old → IfOk result (Holds s new)
 
 -- whatever the rule comes to, it leads on, in a formula of the parser's style
 pub record Begins (r : Rule) (n : ℕ) (s : Start) (p : Parser) : Type 0 where
@@ -213,6 +228,16 @@ pub record Took (u : Unit) (s : Start) (p : Parser) : Type 0 where
 abbrev pub BeginsUnit : Unit → Start → Parser → Type 0
 BeginsUnit u s p = Begins (rule u.place (context_at (level 0 s p)) (piece_of u.piece)) 0 s p
 
+-- What follows a change at this place is due in the innermost row.
+pub record BeginsRest (change : Change) (place : ℕ) (s : Start) (p : Parser) : Type 0 where
+  pub style : s.style ≡ style_of p.style
+  pub leads : RestLeads change place (level 0 s p) (left_of p)
+
+-- The unit was taken in a row, and is no mark: it begins an atom without scripts, or changes what stands after it.
+pub record TookUnmarked (u : Unit) (s : Start) (p : Parser) : Type 0 where
+  pub begins : starts.change_by (piece_of u.piece) ≡ None → BeginsUnit u s p
+  pub changes : (change : Change) → starts.change_by (piece_of u.piece) ≡ Some change → BeginsRest change u.place s p
+
 -- the mark of a unit
 abbrev pub mark_model : Mark → starts.Mark
 mark_model mark.Prime = starts.Prime
@@ -267,11 +292,68 @@ pub record ClosesRow (e : Ending) (place : ℕ) (xs : CodeRow) (s : Start) (p : 
   pub style : s.style ≡ style_of p.style
   pub leads : RowMade s e place (drop xs.count (elements_of p)) (level (xs.count + ending_count e) s p) (Read (row_with xs (elements_of p)) (left_of p))
 
--- The text ends in a row.
-pub record EndsText (e : Ending) (place : ℕ) (xs : CodeRow) (s : Start) (p : Parser) : Type 0 where
+-- A cell ends with this unit, which was taken; its frame is taken off.
+pub record ClosesCell (t : Table) (place : ℕ) (xs : CodeRow) (u : Unit) (s : Start) (p : Parser) : Type 0 where
   pub style : s.style ≡ style_of p.style
+  pub before : Units
+  pub next : past_space before ≡ Next (unit_of u) (left_of p)
+  pub leads : RowMade s (ending.Cell t) place (drop xs.count (elements_of p)) (level (xs.count + (t.cells + t.rows)) s p) (Read (row_with xs (elements_of p)) before)
+
+-- The row ends with this unit.
+abbrev pub Closes : Ending → ℕ → CodeRow → Unit → Start → Parser → Type 0
+Closes (ending.Cell t) place xs u s p = ClosesCell t place xs u s p
+Closes e place xs u s p = ClosesRow e place xs s p
+
+-- The next cell of a table is due.
+pub record GoesOnTable (t : Table) (place : ℕ) (s : Start) (p : Parser) : Type 0 where
+  pub style : s.style ≡ style_of p.style
+  pub leads : (o : Outcome Lines)
+      → ReadsRows (table_end t) place (columns_of t.columns) (cell_context t (context_at (level (t.cells + t.rows) s p))) (rows_of t (elements_of p)) (cells_of t (elements_of p)) (left_of p) o
+      → RowsLead (behind_rows t (context_at (level (t.cells + t.rows) s p))) (CoreMade (level (t.cells + t.rows) s p)) o
+
+-- The end of a table was taken at this place. Its rows are so many of the uppermost elements.
+pub record EndsRows (e : Option (Bor Environment)) (columns : Columns) (rows at : ℕ) (s : Start) (p : Parser) : Type 0 where
+  pub style : s.style ≡ style_of p.style
+  pub lines : Lines
+  pub are : take rows (elements_of p) ≡ lines.last ∷ lines.others
+  pub leads : RuleLeads (after_rows e (columns_of columns) (context_at (level rows s p)) lines at) (CoreMade (level rows s p)) (left_of p)
+
+-- A table is made of them, whose cells have this style.
+pub record MakesTable (delimiters : Option (Option ℕ × Option ℕ)) (columns : Columns) (own : Style) (rows : ℕ) (s : Start) (p : Parser) : Type 0 where
+  pub style : s.style ≡ style_of p.style
+  pub lines : Lines
+  pub are : take rows (elements_of p) ≡ lines.last ∷ lines.others
+  pub leads : RuleLeads (gives (a_table (option_map delimiter_texts delimiters) (columns_of columns) (style_of own) (context_at (level rows s p)).style lines)) (CoreMade (level rows s p)) (left_of p)
+
+-- A text was taken from this spot on, or what stands there is refused, and then nothing was taken.
+abbrev pub TookText : ℕ → Spot → Parser → Parser → Option (List ℕ) → Type 0
+TookText place spot old new (Some text) = (new ≡ record old { input = new.input }) × (scan place (left_of old) spot ≡ Given text (left_of new))
+TookText place spot old new None = (r : Refusal) × ((new ≡ record old { refusal = new.refusal }) × ((refusal_of new.refusal ≡ Some r) × (scan place (left_of old) spot ≡ Missing r)))
+
+-- what a row leaves that ends with this unit, which was taken: a cell leaves what ends it
+abbrev pub IsLeft : Ending → Unit → Units → Units → Type 0
+IsLeft (ending.Cell t) u rest left = past_space rest ≡ Next (unit_of u) left
+IsLeft e u rest left = rest ≡ left
+
+-- .. as it was read so far in this style
+pub record EndsRow (e : Ending) (place : ℕ) (style : CodeStyle) (xs : CodeRow) (u : Unit) (s : Start) (p : Parser) : Type 0 where
+  pub same_style : s.style ≡ style_of p.style
+  pub rest : Units
+  pub left : IsLeft e u rest (left_of p)
+  pub leads : RowMade s e place (drop (row_count xs) (elements_of p)) (level (row_count xs + ending_count e) s p)
+      (Read (finished (style_of style) (row_with xs (elements_of p))) rest)
+
+-- The whole formula ends with the text.
+pub record EndsFormula (style : CodeStyle) (xs : CodeRow) (s : Start) (p : Parser) : Type 0 where
+  pub same_style : s.style ≡ style_of p.style
   pub at : ℕ
-  pub ends : unended (ending_of e place) ≡ None → Whole s (Read (row_with xs (elements_of p)) (End at))
+  pub leads : Whole s (Read (finished (style_of style) (row_with xs (elements_of p))) (End at))
+
+-- The text ends in a row, which was read so far in this style.
+pub record EndsText (e : Ending) (place : ℕ) (style : CodeStyle) (xs : CodeRow) (s : Start) (p : Parser) : Type 0 where
+  pub same_style : s.style ≡ style_of p.style
+  pub at : ℕ
+  pub ends : unended (ending_of e place) ≡ None → Whole s (Read (finished (style_of style) (row_with xs (elements_of p))) (End at))
   pub refuses : (r : Refusal) → unended (ending_of e place) ≡ Some r → Whole s (Refused r)
 
 -- how much a frame still brings; the row of the whole text may be begun where nothing is read

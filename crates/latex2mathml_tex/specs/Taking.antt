@@ -2,6 +2,7 @@
 use Rattle.std.specs.Prelude.{◌≡◌, ℕ, ◌+◌, ◌≤◌, List, [], ◌∷◌, ◌++◌, Some, None, ⊤}
 use Rattle.std.specs.Str.{byte, chars}
 use Rattle.latex2mathml_tex_grammar.specs.Refusal.{Kind, LoneBackslash, ForbiddenCharacter, refusal_at}
+use Rattle.latex2mathml_tex_grammar.specs.Refusal as refusal
 use Rattle.latex2mathml_tex_grammar.specs.Units as units
 use Rattle.latex2mathml_tex_grammar.specs.Units.{Units, Spells, IsRefusedAt}
 use Rattle.latex2mathml_tex.specs.declared.reader.slices.Start.{Start}
@@ -26,6 +27,15 @@ unit_of u = units.unit (piece_of u.piece) u.place
 abbrev pub kind_of : Fault → Kind
 kind_of fault.LoneBackslash = LoneBackslash
 kind_of (fault.Forbidden c) = ForbiddenCharacter c
+kind_of fault.MissingArgument = refusal.MissingArgument
+kind_of fault.UnclosedBrace = refusal.UnclosedBrace
+kind_of fault.TooManyExpansions = refusal.TooManyExpansions
+kind_of fault.MissingMacroName = refusal.MissingMacroName
+kind_of fault.WrongParameters = refusal.WrongParameters
+kind_of fault.OptionalArgument = refusal.OptionalArgument
+kind_of fault.DelimitedArgument = refusal.DelimitedArgument
+kind_of fault.UnknownParameter = refusal.UnknownParameter
+kind_of fault.NoDefinition = refusal.NoDefinition
 
 -- what stands next was taken from the units `old`, and the units `new` are left
 abbrev pub Takes : Next → Units → Units → Type 0

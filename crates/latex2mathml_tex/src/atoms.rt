@@ -1,5 +1,6 @@
 //! Atoms and rows, and what an atom is to those beside it.
 ghost use Rattle.std.specs.Prelude.{◌≡◌, false};
+ghost use Rattle.latex2mathml_builder.specs.Names.{math_style_of};
 ghost use Rattle.latex2mathml_tex_grammar.specs.Atoms;
 ghost use Rattle.latex2mathml_tex_grammar.specs.Makes;
 ghost use Rattle.latex2mathml_tex_grammar.specs.Rows;
@@ -7,8 +8,8 @@ ghost use Rattle.latex2mathml_tex_grammar.specs.Symbols.{smaller};
 ghost use Rattle.latex2mathml_tex.specs.Meanings.{class_of, limit_place_of, style_of};
 ghost use Rattle.latex2mathml_tex.specs.{Frames.has_script, Innermost.empty_row, Models.before_of, Models.kind_of};
 
-use crate::meaning::{Alphabet, Class, LimitPlace, Style};
-use latex2mathml_builder::attributes::Side;
+use crate::meaning::{Alphabet, Class, FractionRule, LimitPlace, Style};
+use latex2mathml_builder::attributes::{MathStyle, Side};
 
 impl Style {
     /// The style of the parts of a fraction.
@@ -25,6 +26,17 @@ impl Style {
         ensures { result ≡ Makes.is_display (style_of self) }
     {
         matches!(self, Style::InDisplay)
+    }
+
+    /// What an element of this style says.
+    pub(crate) fn math_style(self) -> MathStyle
+        ensures { math_style_of result ≡ Makes.math_style (style_of self) }
+    {
+        match self {
+            Style::InDisplay => MathStyle::Display,
+            Style::InText => MathStyle::Text,
+            Style::InScript => MathStyle::Script,
+        }
     }
 
     /// Whether scripts stand below and above an atom whose limits are to stand there.
@@ -241,7 +253,7 @@ pub(crate) struct Operand {
 /// Atoms side by side. Their elements are the uppermost ones.
 #[derive(Clone, Copy)]
 pub(crate) struct Row {
-    /// How many elements there are.
+    /// How many elements there are since the last change of style.
     pub(crate) count: usize,
     /// What the next atom stands behind.
     pub(crate) before: Before,
@@ -251,6 +263,12 @@ pub(crate) struct Row {
     pub(crate) high: bool,
     /// The class of the row as the base of a mark.
     pub(crate) class: Class,
+    /// The style of its group, if the style was changed in it.
+    pub(crate) restyled: Option<Style>,
+    /// How many elements stand before that change, below the others.
+    pub(crate) settled: usize,
+    /// The rule of the fraction whose lower part it is, if it is one. The upper part is below the others.
+    pub(crate) under: Option<FractionRule>,
 }
 
 impl Row {
@@ -264,6 +282,9 @@ impl Row {
             ends_in_word: false,
             high: false,
             class: Class::Ordinary,
+            restyled: None,
+            settled: 0,
+            under: None,
         }
     }
 }

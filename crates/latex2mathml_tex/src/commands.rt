@@ -1,5 +1,6 @@
 //! The look-up of commands.
 ghost use Rattle.std.specs.Prelude.{◌≡◌, ◌<◌, IsTrue, map, length, Some, None, MatchOption};
+ghost use Rattle.std.specs.{Cmp.Lexicographic.slice_cmp, Ordering.nat_cmp};
 ghost use Rattle.latex2mathml_tex_grammar.specs.{Commands.entry_meaning, Commands.meaning_of, Sorted.ascending};
 ghost use Rattle.latex2mathml_tex.specs.Meanings;
 ghost use Rattle.latex2mathml_tex.specs.Meanings.{entry_of};
@@ -33,11 +34,23 @@ fn search(table: &[Entry], name: &str) -> Option<Meaning>
     while !entries.is_empty() {
         let middle = entries.len() / 2;
         let entry = &entries[middle];
-        match name.cmp(entry.name) {
+        match order(name, entry.name) {
             Ordering::Equal => return Some(entry.meaning),
             Ordering::Less => entries = &entries[..middle],
             Ordering::Greater => entries = &entries[middle + 1..],
         }
     }
     None
+}
+
+/// How two names are ordered. Most of them differ in their first bytes, which are compared first.
+#[inline(always)]
+fn order(name: &str, other: &str) -> Ordering
+    ensures { result ≡ slice_cmp nat_cmp name.now other.now }
+{
+    match (name.as_bytes(), other.as_bytes()) {
+        ([first, ..], [second, ..]) if first < second => Ordering::Less,
+        ([first, ..], [second, ..]) if first > second => Ordering::Greater,
+        _ => name.cmp(other),
+    }
 }

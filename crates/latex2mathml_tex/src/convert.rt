@@ -4,15 +4,19 @@ ghost use Rattle.std.specs.Str.{chars};
 ghost use Rattle.latex2mathml_elements.specs.{Characters.IsAllowed, Dollars.IsDollarFree, Element.children, Print.formula_print, Print.math_tag};
 ghost use Rattle.latex2mathml_builder.specs.Built.{elements_in, nothing};
 ghost use Rattle.latex2mathml_trees.specs.MathSchema.{IsMathElement};
-ghost use Rattle.latex2mathml_tex.specs.{Answers.IsAnswer, Answers.IsRefusal, Answers.style_in, Errors.IfRefused};
-ghost use Rattle.latex2mathml_tex.specs.{Left.units_at, Meanings.style_of, Steps.left_of};
+ghost use Rattle.latex2mathml_tex.specs.{Answers.IsAnswer, Answers.IsRefusal, Answers.style_in, Errors.IfRefused, MacroTables.AreDefined, MacroTables.Holding};
+ghost use Rattle.latex2mathml_tex.specs.{Left.units_at, Meanings.style_of, Steps.left_of, Whole.whole_units};
 ghost use Rattle.latex2mathml_tex_grammar.specs.Formulas as formula;
-ghost use Rattle.latex2mathml_tex_grammar.specs.{Cutting.units_of, Formulas.row_print, Makes.is_display, Rows.Row};
+ghost use Rattle.latex2mathml_tex_grammar.specs.{Formulas.IsExpansion, Formulas.row_print, Macros.Table, Makes.is_display, Rows.Row};
 
-use crate::error::{TexError, TexErrorKind};
+use crate::error::TexError;
+use crate::macros::expander::Expander;
+use crate::macros::table::Macros;
+use crate::macros::whole::Whole;
 use crate::meaning::Style;
 use crate::parse::Parser;
 use crate::parse::frames::Frames;
+use crate::unit::Unit;
 use latex2mathml_builder::builder::Builder;
 use latex2mathml_builder::works::Works;
 use latex2mathml_tokens::DisplayStyle;
@@ -21,17 +25,18 @@ use std::mem;
 
 /// The `math` element of a formula in LaTeX.
 ///
-/// `definitions` is for a text of macro definitions, which is read before the formula. Macros are not read yet, so it must be
-/// empty.
+/// `macros` are those that the formula may use; it may define more, by `\newcommand`, `\def` and the like, which hold from there
+/// to its end. First the macros of a formula are expanded, from left to right, and then what they expand to is read.
 ///
 /// White space between the parts of a formula changes nothing, except in words such as those of `\text`.
 ///
 /// # Errors
 ///
 /// [`TexError::kind`] says why the formula is refused, and [`TexError::place`] the byte of `tex` where what is refused begins.
-/// The first one from left to right is told, in the order in which the formula is read. If definitions are given, the kind is
-/// [`TexErrorKind::DefinitionsGiven`] and the place is 0. [`TexErrorKind::OutOfMemory`] may replace any other result; its place
-/// is 0.
+/// The first one from left to right is told, in the order in which the formula is read. What stands in the body of a macro has
+/// the place of the macro's use. If more than 1,000 macros are used, or they put more than 100,000 characters, commands and
+/// braces, the kind is [`TexErrorKind::TooManyExpansions`](crate::TexErrorKind::TooManyExpansions).
+/// [`TexErrorKind::OutOfMemory`](crate::TexErrorKind::OutOfMemory) may replace any other result; its place is 0.
 ///
 /// An answer is one `math` element with the children that MathML allows. It holds no character that XML forbids, and no dollar
 /// sign.
@@ -40,38 +45,42 @@ use std::mem;
 ///
 /// `x_i^2`, inline, is `<math xmlns="http://www.w3.org/1998/Math/MathML"
 /// display="inline"><msubsup><mi>x</mi><mi>i</mi><mn>2</mn></msubsup></math>`.
-pub fn tex_to_mathml(
+pub fn tex_to_mathml<'a>(
     alloc: Global,
-    definitions: &str,
-    tex: &str,
+    macros: &Macros<'a>,
+    tex: &'a str,
     display: DisplayStyle,
 ) -> Result<String, TexError>
-    ensures answer { IfOk result (λ markup.
-        IsAnswer definitions.now tex.now (style_in display) (string_bytes markup)) }
-    ensures refusal { IfRefused result (IsRefusal definitions.now tex.now (style_in display)) }
+    ensures answer { Holding macros.now (λ table. IfOk result (λ markup.
+        IsAnswer table tex.now (style_in display) (string_bytes markup))) }
+    ensures refusal { Holding macros.now (λ table.
+        IfRefused result (IsRefusal table tex.now (style_in display))) }
     ensures element { IfOk result (λ markup. IsMathElement (string_bytes markup)) }
-    ensures characters { IfOk result (λ markup. IsAllowed (string_bytes markup)) }
+    ensures characters { AreDefined macros.now → IfOk result (λ markup. IsAllowed (string_bytes markup)) }
     ensures dollars { IfOk result (λ markup. IsDollarFree (string_bytes markup)) }
 {
     let mut markup = String::new(alloc);
-    Converter::new(alloc).append(&mut markup, definitions, tex, display)?;
+    Converter::new(alloc).append(&mut markup, macros, tex, display)?;
     Ok(markup)
 }
 
-/// Converts formulas, one after another. It keeps the room that it works in from each to the next.
+/// Converts formulas, one after another. It keeps the room that it works in from each to the next, and borrows all of them for
+/// one lifetime.
 #[derive(Drop)]
-pub struct Converter {
+pub struct Converter<'a> {
     alloc: Global,
+    units: Vec<Unit<'a>>,
     frames: Frames,
     builder: Builder,
     works: Works,
 }
 
-impl Converter {
+impl<'a> Converter<'a> {
     /// A converter that has no room yet.
-    pub fn new(alloc: Global) -> Converter {
+    pub fn new(alloc: Global) -> Converter<'a> {
         Converter {
             alloc,
+            units: Vec::new(alloc),
             frames: Frames::new(alloc),
             builder: Builder::new(alloc),
             works: Works::new(alloc),
@@ -83,53 +92,68 @@ impl Converter {
     pub fn append(
         &mut self,
         text: &mut String,
-        definitions: &str,
-        tex: &str,
+        macros: &Macros<'a>,
+        tex: &'a str,
         display: DisplayStyle,
     ) -> Result<(), TexError>
-        ensures answer { OnOk result ((markup : List ℕ)
-            × IsAnswer definitions.now tex.now (style_in display) markup
-            × (string_bytes text.new ≡ string_bytes text.old ++ markup)) }
-        ensures refusal { IfRefused result (IsRefusal definitions.now tex.now (style_in display)) }
+        ensures answer { Holding macros.now (λ table. OnOk result ((markup : List ℕ)
+            × IsAnswer table tex.now (style_in display) markup
+            × (string_bytes text.new ≡ string_bytes text.old ++ markup))) }
+        ensures refusal { Holding macros.now (λ table.
+            IfRefused result (IsRefusal table tex.now (style_in display))) }
         ensures unchanged { IfRefused result (λ r. string_bytes text.new ≡ string_bytes text.old) }
     {
-        if !definitions.is_empty() {
-            return Err(TexError {
-                kind: TexErrorKind::DefinitionsGiven,
-                place: 0,
-            });
-        }
-        let mut parser = self.parser(tex, style_for(display));
+        let room = mem::replace(&mut self.units, Vec::new(self.alloc));
+        let whole = Expander::new(self.alloc, macros, tex).take_all(room)?;
+        let result = self.append_units(text, &whole, style_for(display));
+        self.units = whole.units;
+        result
+    }
+
+    /// Appends the markup of a formula that expands to these units.
+    fn append_units(
+        &mut self,
+        text: &mut String,
+        whole: &Whole,
+        style: Style,
+    ) -> Result<(), TexError>
+        ensures answer { (macros : Table) (tex : List ℕ) → IsExpansion macros tex (whole_units whole.now)
+            → OnOk result ((row : Row) × formula.IsReading macros tex (style_of style) row
+            × (string_bytes text.new ≡ string_bytes text.old ++ row_print (style_of style) row)) }
+        ensures refusal { (macros : Table) (tex : List ℕ) → IsExpansion macros tex (whole_units whole.now)
+            → IfRefused result (formula.IsRefusal macros tex (style_of style)) }
+        ensures unchanged { IfRefused result (λ r. string_bytes text.new ≡ string_bytes text.old) }
+    {
+        let mut parser = self.parser(whole, style);
         let result = render(&mut parser, &mut self.works, text);
         self.frames = mem::replace(&mut parser.frames, Frames::new(self.alloc));
         self.builder = mem::replace(&mut parser.builder, Builder::new(self.alloc));
         result
     }
 
-    /// A parser of a text, with the converter's room.
-    fn parser<'a>(&mut self, tex: &'a str, style: Style) -> Parser<'a>
-        ensures units { units_at result.input ≡ units_of 0 (chars tex.now) }
+    /// A parser of these units, with the converter's room.
+    fn parser<'w>(&mut self, whole: &'w Whole<'w>, style: Style) -> Parser<'w>
+        ensures units { units_at result.input ≡ whole_units whole.now }
         ensures style { result.style ≡ style }
         ensures frames { result.frames.stack.items ≡ [] }
         ensures builder { result.builder ≡ nothing }
     {
-        let mut parser = Parser::new(self.alloc, tex, style);
         self.frames.clear();
         self.builder.clear();
-        parser.frames = mem::replace(&mut self.frames, Frames::new(self.alloc));
-        parser.builder = mem::replace(&mut self.builder, Builder::new(self.alloc));
-        parser
+        let frames = mem::replace(&mut self.frames, Frames::new(self.alloc));
+        let builder = mem::replace(&mut self.builder, Builder::new(self.alloc));
+        Parser::new(self.alloc, whole, style, frames, builder)
     }
 }
 
 /// Appends the markup of the formula that a parser is to read.
 fn render(parser: &mut Parser, works: &mut Works, text: &mut String) -> Result<(), TexError>
     requires { parser.old.frames.stack.items ≡ [] }
-    ensures answer { (tex : List ℕ) → left_of parser.old ≡ units_of 0 tex
-        → OnOk result ((row : Row) × formula.IsReading tex (style_of parser.old.style) row
+    ensures answer { (macros : Table) (tex : List ℕ) → IsExpansion macros tex (left_of parser.old)
+        → OnOk result ((row : Row) × formula.IsReading macros tex (style_of parser.old.style) row
         × (string_bytes text.new ≡ string_bytes text.old ++ row_print (style_of parser.old.style) row)) }
-    ensures refusal { (tex : List ℕ) → left_of parser.old ≡ units_of 0 tex
-        → IfRefused result (formula.IsRefusal tex (style_of parser.old.style)) }
+    ensures refusal { (macros : Table) (tex : List ℕ) → IsExpansion macros tex (left_of parser.old)
+        → IfRefused result (formula.IsRefusal macros tex (style_of parser.old.style)) }
     ensures unchanged { IfRefused result (λ r. string_bytes text.new ≡ string_bytes text.old) }
 {
     let Some(count) = parser.finish()? else {

@@ -1,13 +1,14 @@
 //! Why a formula is refused.
 ghost use Rattle.std.specs.Prelude.{◌≡◌, Some};
 ghost use Rattle.latex2mathml_tex.specs.ErrorTexts.{error_text, has_place, kind_text};
-ghost use Rattle.latex2mathml_tex.specs.Errors.{out_of_memory};
+ghost use Rattle.latex2mathml_tex.specs.{Errors.kind_of_error, Errors.out_of_memory, Taking.kind_of};
 
+use crate::unit::Fault;
 use std::alloc::AllocError;
 use std::error::Error;
 use std::fmt;
 
-/// Why a formula is refused, or that memory is missing. The name of a command is without its backslash.
+/// Why a formula or a text of definitions is refused, or that memory is missing. The name of a command is without its backslash.
 #[derive(Debug, Drop)]
 pub enum TexErrorKind {
     /// A backslash ends the text.
@@ -34,26 +35,56 @@ pub enum TexErrorKind {
     LimitsWithoutOperator,
     SecondSubscript,
     SecondSuperscript,
+    /// A command for the rest of its group that stands where an argument is to stand.
+    ChangeAsArgument,
+    /// A second `\over` or the like in one group.
+    SecondInfix,
     /// No delimiter stands here.
     MissingDelimiter,
     /// What stands after `\not` takes no stroke.
     NothingToNegate,
     /// A sign that stands in tables alone.
     OutsideTable,
+    /// No name stands behind `\begin` or `\end`.
+    MissingName,
+    /// No environment has this name.
+    UnknownEnvironment(String),
+    /// A `\begin` whose `\end` does not come.
+    BeginWithoutEnd,
+    EndWithoutBegin,
+    /// An `\end` whose name is not that of its `\begin`.
+    OtherName,
+    /// What stands among the columns of an `array` is none.
+    UnknownColumn,
+    /// An `array` of more columns than can be said.
+    TooManyColumns,
     /// A character that has no meaning in a formula.
     MisplacedCharacter(char),
     /// A command that cannot stand in words.
     CommandInWords(String),
     /// A character that cannot stand in words.
     CharacterInWords(char),
-    /// Definitions were given. They are not read yet.
-    DefinitionsGiven,
+    /// More macros are used than can be, or they put more than can be: 1,000 uses, or 100,000 characters, commands and
+    /// braces.
+    TooManyExpansions,
+    /// What a definition is to define is no name.
+    MissingMacroName,
+    /// What stands before the body of a definition does not say how many arguments there are.
+    WrongParameters,
+    /// An argument of a macro that may be left out.
+    OptionalArgument,
+    /// An argument that ends before some sign.
+    DelimitedArgument,
+    /// The body of a definition asks for an argument that is not there.
+    UnknownParameter,
+    /// What stands among definitions is none.
+    NoDefinition,
     /// Out of memory.
     OutOfMemory,
 }
 
-/// Why a formula is refused, and the byte of its text where what is refused begins. [`TexError::position`] tells that place as a
-/// line and a column.
+/// Why a formula or a text of definitions is refused, and the byte of that text where what is refused begins.
+/// [`TexError::position`] tells that place as a line and a column.
 #[derive(Debug, Drop)]
 pub struct TexError {
     pub kind: TexErrorKind,
@@ -84,13 +115,30 @@ impl fmt::Display for TexErrorKind {
             TexErrorKind::LimitsWithoutOperator => f.write_str("limits without an operator"),
             TexErrorKind::SecondSubscript => f.write_str("a second subscript"),
             TexErrorKind::SecondSuperscript => f.write_str("a second superscript"),
+            TexErrorKind::ChangeAsArgument => f.write_str(
+                "a command for the rest of a group is no argument",
+            ),
+            TexErrorKind::SecondInfix => f.write_str("a second \\over or the like in one group"),
             TexErrorKind::MissingDelimiter => f.write_str("a delimiter is missing"),
             TexErrorKind::NothingToNegate => f.write_str("nothing to negate"),
             TexErrorKind::OutsideTable => f.write_str("a sign of tables outside of a table"),
+            TexErrorKind::MissingName => f.write_str("the name of an environment is missing"),
+            TexErrorKind::UnknownEnvironment(name) => write!(f, "unknown environment {name}"),
+            TexErrorKind::BeginWithoutEnd => f.write_str("\\begin without \\end"),
+            TexErrorKind::EndWithoutBegin => f.write_str("\\end without \\begin"),
+            TexErrorKind::OtherName => f.write_str("\\end has another name than \\begin"),
+            TexErrorKind::UnknownColumn => f.write_str("unknown column"),
+            TexErrorKind::TooManyColumns => f.write_str("more than 16 columns"),
             TexErrorKind::MisplacedCharacter(c) => write!(f, "{c} has no meaning here"),
             TexErrorKind::CommandInWords(name) => write!(f, "\\{name} in words"),
             TexErrorKind::CharacterInWords(c) => write!(f, "{c} in words"),
-            TexErrorKind::DefinitionsGiven => f.write_str("definitions are not read yet"),
+            TexErrorKind::TooManyExpansions => f.write_str("too many macros are expanded"),
+            TexErrorKind::MissingMacroName => f.write_str("no name to define"),
+            TexErrorKind::WrongParameters => f.write_str("wrong parameters of a definition"),
+            TexErrorKind::OptionalArgument => f.write_str("optional arguments are not read"),
+            TexErrorKind::DelimitedArgument => f.write_str("an argument up to a sign is not read"),
+            TexErrorKind::UnknownParameter => f.write_str("a body has no such argument"),
+            TexErrorKind::NoDefinition => f.write_str("not a definition"),
             TexErrorKind::OutOfMemory => f.write_str("out of memory"),
         }
     }
@@ -112,14 +160,31 @@ impl fmt::Display for TexError {
 impl Error for TexError {}
 
 impl TexErrorKind {
-    /// Whether errors of this kind are about a place of the formula.
+    /// Why no unit stands next.
+    #[cold]
+    pub(crate) fn of_fault(fault: Fault) -> TexErrorKind
+        ensures { kind_of_error result ≡ Some (kind_of fault) }
+    {
+        match fault {
+            Fault::LoneBackslash => TexErrorKind::LoneBackslash,
+            Fault::Forbidden(c) => TexErrorKind::ForbiddenCharacter(c),
+            Fault::MissingArgument => TexErrorKind::MissingArgument,
+            Fault::UnclosedBrace => TexErrorKind::UnclosedBrace,
+            Fault::TooManyExpansions => TexErrorKind::TooManyExpansions,
+            Fault::MissingMacroName => TexErrorKind::MissingMacroName,
+            Fault::WrongParameters => TexErrorKind::WrongParameters,
+            Fault::OptionalArgument => TexErrorKind::OptionalArgument,
+            Fault::DelimitedArgument => TexErrorKind::DelimitedArgument,
+            Fault::UnknownParameter => TexErrorKind::UnknownParameter,
+            Fault::NoDefinition => TexErrorKind::NoDefinition,
+        }
+    }
+
+    /// Whether errors of this kind are about a place of the text.
     fn has_place(&self) -> bool
         ensures { result ≡ has_place self.now }
     {
-        !matches!(
-            self,
-            TexErrorKind::DefinitionsGiven | TexErrorKind::OutOfMemory
-        )
+        !matches!(self, TexErrorKind::OutOfMemory)
     }
 }
 

@@ -1,39 +1,72 @@
 //! The units that are left, of which the next one is in sight.
 ghost use Rattle.std.specs.Prelude.{◌≡◌, ◌∷◌, [], false, IsTrue, MatchBool, MatchOption, None, Some};
-ghost use Rattle.std.specs.Str.{chars};
-ghost use Rattle.latex2mathml_tex_grammar.specs.Cutting.{units_of};
 ghost use Rattle.latex2mathml_tex_grammar.specs.Delimiters.{delimiter_of, negated_of};
 ghost use Rattle.latex2mathml_tex_grammar.specs.Next.{next_are, past_space};
 ghost use Rattle.latex2mathml_tex_grammar.specs.Rules.{a_character, a_digit};
-ghost use Rattle.latex2mathml_tex.specs.Left.{put_back, units_at};
+ghost use Rattle.latex2mathml_tex.specs.{Left.end_of, Left.put_back, Left.units_at, Left.units_behind, Whole.whole_units};
+ghost use Rattle.latex2mathml_tex_grammar.specs.Units as units;
 ghost use Rattle.latex2mathml_tex.specs.Delimiters.{delimiter_text};
 
 use crate::delimiters::{delimiter_of, negated_of};
-use crate::reader::Reader;
+use crate::macros::whole::{End, Whole};
 use crate::unit::{Next, Piece, Unit};
 
 #[derive(Clone, Copy)]
 pub(crate) struct Input<'a> {
-    reader: Reader<'a>,
+    units: &'a [Unit<'a>],
+    /// How many stand before those behind the one in sight.
+    passed: usize,
+    /// How they end.
+    end: End,
     /// What stands next.
     pub(crate) next: Next<'a>,
 }
 
-impl<'a> Input<'a> {
-    /// All units of a text.
-    pub(crate) fn new(text: &'a str) -> Input<'a>
-        ensures { units_at result ≡ units_of 0 (chars text.now) }
+impl End {
+    /// What stands behind the last unit.
+    fn next<'a>(self) -> Next<'a>
+        ensures { (l : units.Units) → put_back result l ≡ end_of self }
     {
-        let mut reader = Reader::new(text);
-        let next = reader.take();
-        Input { reader, next }
+        match self {
+            End::Text(place) => Next::End(place),
+            End::Fault(fault, place) => Next::Fault(fault, place),
+        }
+    }
+}
+
+impl<'a> Input<'a> {
+    /// All of these units.
+    pub(crate) fn new(whole: &'a Whole<'a>) -> Input<'a>
+        ensures { units_at result ≡ whole_units whole.now }
+    {
+        let mut input = Input {
+            units: &whole.units,
+            passed: 0,
+            end: whole.end,
+            next: whole.end.next(),
+        };
+        input.look_ahead();
+        input
     }
 
     /// Passes over the unit that stands next, if one does.
     pub(crate) fn advance(&mut self)
         ensures { units_at self.old ≡ put_back self.old.next (units_at self.new) }
     {
-        self.next = self.reader.take();
+        self.look_ahead();
+    }
+
+    /// Brings the first of the units behind the one in sight into sight.
+    fn look_ahead(&mut self)
+        ensures { units_at self.new ≡ units_behind self.old }
+    {
+        match self.units.get(self.passed) {
+            Some(unit) => {
+                self.next = Next::Unit(*unit);
+                self.passed += 1;
+            }
+            None => self.next = self.end.next(),
+        }
     }
 
     /// Passes over white space.
@@ -93,6 +126,25 @@ impl<'a> Input<'a> {
             (next_are (a_character c ∷ []) (units_at self.old) ≡ Some (c ∷ [], units_at self.new))
             ((next_are (a_character c ∷ []) (units_at self.old) ≡ None) × (units_at self.new ≡ units_at self.old)) }
     {
+        if let Next::Unit(unit) = self.next
+            && let Piece::Character(d) = unit.piece
+        {
+            if c != d {
+                return false;
+            }
+            self.advance();
+            return true;
+        }
+        self.take_character_past_space(c)
+    }
+
+    /// The same, where white space may stand first.
+    fn take_character_past_space(&mut self, c: char) -> bool
+        ensures { MatchBool result
+            (next_are (a_character c ∷ []) (units_at self.old) ≡ Some (c ∷ [], units_at self.new))
+            ((next_are (a_character c ∷ []) (units_at self.old) ≡ None)
+            × (units_at self.new ≡ units_at self.old)) }
+    {
         let mut ahead = *self;
         ahead.skip_space();
         if let Next::Unit(unit) = ahead.next
@@ -110,6 +162,25 @@ impl<'a> Input<'a> {
     pub(crate) fn take_digit(&mut self) -> Option<char>
         ensures { MatchOption result
             ((next_are (a_digit ∷ []) (units_at self.old) ≡ None) × (units_at self.new ≡ units_at self.old))
+            (λ c. next_are (a_digit ∷ []) (units_at self.old) ≡ Some (c ∷ [], units_at self.new)) }
+    {
+        if let Next::Unit(unit) = self.next
+            && let Piece::Character(c) = unit.piece
+        {
+            if !c.is_ascii_digit() {
+                return None;
+            }
+            self.advance();
+            return Some(c);
+        }
+        self.take_digit_past_space()
+    }
+
+    /// The same, where white space may stand first.
+    fn take_digit_past_space(&mut self) -> Option<char>
+        ensures { MatchOption result
+            ((next_are (a_digit ∷ []) (units_at self.old) ≡ None)
+            × (units_at self.new ≡ units_at self.old))
             (λ c. next_are (a_digit ∷ []) (units_at self.old) ≡ Some (c ∷ [], units_at self.new)) }
     {
         let mut ahead = *self;

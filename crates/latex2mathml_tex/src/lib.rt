@@ -1,6 +1,7 @@
 //! LaTeX as authors write it, turned into MathML.
 //!
 //! - [`tex_to_mathml`] converts a formula to a `math` element.
+//! - [`Macros`] are the macros that a formula may use.
 //! - [`Converter`] converts one formula after another, and keeps its memory.
 //! - [`TexError`] says why a formula is refused, and where.
 //!
@@ -12,12 +13,17 @@ mod atoms;
 mod commands;
 mod convert;
 mod delimiters;
+mod environments;
 mod error;
+mod fractions;
 mod input;
+mod macros;
 mod meaning;
 mod parse;
 mod position;
 mod reader;
+mod rests;
+mod scanning;
 mod shapes;
 mod signs;
 mod unit;
@@ -25,4 +31,5 @@ mod unit;
 pub use convert::{Converter, tex_to_mathml};
 pub use error::{TexError, TexErrorKind};
 pub use latex2mathml_tokens::DisplayStyle;
+pub use macros::table::Macros;
 pub use position::Position;

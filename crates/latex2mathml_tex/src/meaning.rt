@@ -51,11 +51,14 @@ pub(crate) enum Symbol {
     Integral(char),
 }
 
-/// Whether a fraction has its bar, or parentheses around it.
+/// Whether a fraction has its bar, or has none: then parentheses, braces, brackets or nothing stand around it.
 #[derive(Clone, Copy)]
 pub(crate) enum FractionRule {
     Bar,
     NoBar,
+    Braced,
+    Bracketed,
+    Bare,
 }
 
 /// Where the limits of an operator stand.
@@ -68,6 +71,17 @@ pub(crate) enum LimitPlace {
     Movable,
     /// Always above and below it.
     Stacked,
+}
+
+/// What a command changes up to the end of its group.
+#[derive(Clone, Copy)]
+pub(crate) enum Change {
+    /// Letters and digits are in an alphabet.
+    ToAlphabet(Alphabet),
+    /// All is in a style.
+    ToStyle(Style),
+    /// All is the lower part of a fraction, and what stands before it the upper one.
+    Divides(FractionRule),
 }
 
 /// What a command means.
@@ -108,6 +122,15 @@ pub(crate) enum Meaning {
     NoLimits,
     /// Its operand as an atom of this class.
     Classed(Class),
+    /// A change of what stands after it in its group.
+    Changes(Change),
+    /// A table, and its end.
+    BeginTable,
+    EndTable,
+    /// What ends a row of a table.
+    LineBreak,
+    /// Rows in braces.
+    Substack,
 }
 
 /// The name of a command, without its backslash, and what it means.

@@ -1,11 +1,10 @@
 //! Units to elements: one loop over a stack of frames. Each step is proved to lead to what the definitions say about the
 //! units that were left before it.
 ghost use Rattle.std.specs.Prelude.{◌≡◌, ◌≢◌, ◌+◌, ℕ, [], IfOk, IsTrue, Some};
-ghost use Rattle.std.specs.Str.{chars};
-ghost use Rattle.latex2mathml_tex_grammar.specs.{Cutting.units_of, Next.past_space, Next.refusal_here};
+ghost use Rattle.latex2mathml_tex_grammar.specs.{Next.past_space, Next.refusal_here};
 ghost use Rattle.latex2mathml_tex_grammar.specs.Refusal.{MissingDelimiter, refusal_at};
-ghost use Rattle.latex2mathml_tex.specs.{Errors.refusal_of, Frames.Start, Frames.element_count, Left.units_at, Levels.Leads, Meanings.style_of, Taking.kind_of};
-ghost use Rattle.latex2mathml_tex.specs.Steps.{CanMake, Holds, IsStep, Ready, accepts, core_made, frame_weight, last_state, left_of, level_within, makes, state_weight};
+ghost use Rattle.latex2mathml_tex.specs.{Errors.refusal_of, Frames.Start, Frames.element_count, Left.units_at, Levels.Leads, Meanings.style_of, Taking.kind_of, Whole.whole_units};
+ghost use Rattle.latex2mathml_tex.specs.Steps.{CanMake, Holds, HoldsIn, IsStep, LeadsOn, Ready, accepts, core_made, frame_weight, last_state, left_of, level_within, makes, state_weight};
 
 mod begin;
 mod deliver;
@@ -14,11 +13,13 @@ mod leaves;
 mod rows;
 pub(crate) mod scripts;
 mod symbols;
+mod tables;
 mod words;
 
 use crate::atoms::{Core, Operand, Scripts, Words};
 use crate::error::{TexError, TexErrorKind};
 use crate::input::Input;
+use crate::macros::whole::Whole;
 use crate::meaning::{Alphabet, Style};
 use crate::parse::frames::{Frame, Frames};
 use crate::unit::{Fault, Next};
@@ -61,18 +62,25 @@ pub(crate) struct Parser<'a> {
 }
 
 impl<'a> Parser<'a> {
-    /// A parser that has read nothing of a text.
-    pub(crate) fn new(alloc: Global, text: &'a str, style: Style) -> Parser<'a>
-        ensures units { units_at result.input ≡ units_of 0 (chars text.now) }
+    /// A parser that has read none of these units, with this room.
+    pub(crate) fn new(
+        alloc: Global,
+        whole: &'a Whole<'a>,
+        style: Style,
+        frames: Frames,
+        builder: Builder,
+    ) -> Parser<'a>
+        ensures units { units_at result.input ≡ whole_units whole.now }
         ensures style { result.style ≡ style }
-        ensures frames { result.frames.stack.items ≡ [] }
+        ensures frames { result.frames ≡ frames }
+        ensures builder { result.builder ≡ builder }
     {
         Parser {
             alloc,
-            input: Input::new(text),
+            input: Input::new(whole),
             style,
-            frames: Frames::new(alloc),
-            builder: Builder::new(alloc),
+            frames,
+            builder,
             refusal: TexError::out_of_memory(),
         }
     }
@@ -80,7 +88,8 @@ impl<'a> Parser<'a> {
     /// Goes on until the formula is read or refused. Returns how many elements it has, if it is read.
     pub(crate) fn finish(&mut self) -> Result<Option<usize>, AllocError>
         requires { self.old.frames.stack.items ≡ [] }
-        ensures holds { (s : Start) → Holds s self.old State.Next → IfOk result (λ read. Holds s self.new (last_state read)) }
+        ensures holds { (s : Start) → Holds s self.old State.Next
+            → IfOk result (λ read. Holds s self.new (last_state read)) }
         ensures ready { IfOk result (λ read. Ready self.new (last_state read)) }
     {
         let mut state = State::Next;
@@ -104,7 +113,7 @@ impl<'a> Parser<'a> {
     fn step(&mut self, state: State) -> Result<State, AllocError>
         requires going_on { ((count : ℕ) → state ≢ State.End count) × (state ≢ State.Refused) }
         requires ready { Ready self.old state }
-        ensures holds { (s : Start) → Holds s self.old state → IfOk result (Holds s self.new) }
+        ensures holds { LeadsOn (HoldsIn state) self.old self.new result }
         ensures step { IsStep (state_weight state) self.old self.new result }
     {
         match state {
@@ -121,11 +130,13 @@ impl<'a> Parser<'a> {
     /// Reads what the innermost frame waits for.
     fn next(&mut self) -> Result<State, AllocError>
         requires { Ready self.old State.Next }
-        ensures holds { (s : Start) → Holds s self.old State.Next → IfOk result (Holds s self.new) }
+        ensures holds { LeadsOn (HoldsIn State.Next) self.old self.new result }
         ensures step { IsStep 1 self.old self.new result }
     {
         match self.frames.innermost(self.style) {
-            Frame::Row(ending, place, _, row) => self.next_atom(ending, place, row),
+            Frame::Row(ending, place, context, row) => {
+                self.next_atom(ending, place, context, row)
+            }
             Frame::Last(_, place, _) => self.next_operand(place),
             Frame::First(_, place, _) => self.next_operand(place),
             Frame::Script(_, _, _, place, _) => self.next_operand(place),
@@ -138,7 +149,9 @@ impl<'a> Parser<'a> {
     pub(crate) fn open(&mut self, frame: Frame) -> Result<State, AllocError>
         requires can { CanMake (makes frame) (element_count frame) self.old }
         requires accepts { IsTrue (accepts core_made frame) }
-        ensures holds { (s : Start) → s.style ≡ style_of self.old.style → Leads (level_within frame 0 s self.old) (left_of self.old) → IfOk result (Holds s self.new) }
+        ensures holds { (s : Start) → s.style ≡ style_of self.old.style
+            → Leads (level_within frame 0 s self.old) (left_of self.old)
+            → IfOk result (Holds s self.new) }
         ensures step { IsStep (frame_weight frame + 2) self.old self.new result }
     {
         self.frames.push(frame)?;
@@ -149,7 +162,8 @@ impl<'a> Parser<'a> {
     #[cold]
     pub(crate) fn refuse(&mut self, kind: TexErrorKind, place: usize) -> State
         ensures state { result ≡ State.Refused }
-        ensures parser { self.new ≡ record self.old { refusal = record { kind = kind; place = place } } }
+        ensures parser { self.new
+            ≡ record self.old { refusal = record { kind = kind; place = place } } }
     {
         self.refusal = TexError { kind, place };
         State::Refused
@@ -162,11 +176,7 @@ impl<'a> Parser<'a> {
         ensures refusal { refusal_of self.new.refusal ≡ Some (refusal_at (kind_of fault) place) }
         ensures parser { self.new ≡ record self.old { refusal = self.new.refusal } }
     {
-        let kind = match fault {
-            Fault::LoneBackslash => TexErrorKind::LoneBackslash,
-            Fault::Forbidden(c) => TexErrorKind::ForbiddenCharacter(c),
-        };
-        self.refuse(kind, place)
+        self.refuse(TexErrorKind::of_fault(fault), place)
     }
 
     /// Refuses the formula because no delimiter stands next. What is no unit there is refused first.
@@ -174,8 +184,10 @@ impl<'a> Parser<'a> {
     pub(crate) fn refuse_delimiter(&mut self) -> State
         ensures state { result ≡ State.Refused }
         ensures units { units_at self.new.input ≡ past_space (units_at self.old.input) }
-        ensures refusal { refusal_of self.new.refusal ≡ Some (refusal_here MissingDelimiter (past_space (units_at self.old.input))) }
-        ensures parser { self.new ≡ record self.old { input = self.new.input; refusal = self.new.refusal } }
+        ensures refusal { refusal_of self.new.refusal
+            ≡ Some (refusal_here MissingDelimiter (past_space (units_at self.old.input))) }
+        ensures parser { self.new
+            ≡ record self.old { input = self.new.input; refusal = self.new.refusal } }
     {
         let kind = TexErrorKind::MissingDelimiter;
         self.input.skip_space();

@@ -13,7 +13,7 @@ pub struct Position {
 }
 
 impl TexError {
-    /// Where the error's place is in the text of the formula, as a line and a column.
+    /// Where the error's place is in the text that is refused, as a line and a column.
     ///
     /// A line feed ends a line. A place inside a character counts as one behind it, and one behind the text as the end of the
     /// text. An error of [`tex_to_mathml`](crate::tex_to_mathml) that is about no place is at the beginning of the text.

@@ -8,13 +8,13 @@ ghost use Rattle.latex2mathml_tex_grammar.specs.Atoms;
 ghost use Rattle.latex2mathml_tex_grammar.specs.Makes;
 ghost use Rattle.latex2mathml_tex_grammar.specs.Meaning;
 ghost use Rattle.latex2mathml_tex_grammar.specs.Rows;
-ghost use Rattle.latex2mathml_tex.specs.Meanings.{class_of, fraction_rule_of, style_of};
-ghost use Rattle.latex2mathml_tex.specs.Models.{before_of, core_with, kind_of, row_with, top};
+ghost use Rattle.latex2mathml_tex.specs.Meanings.{class_of, style_of};
+ghost use Rattle.latex2mathml_tex.specs.Models.{before_of, core_with, kind_of, row_rest, row_with, top};
 ghost use Rattle.latex2mathml_tex.specs.Shapes.{changed_at, delimiter_element, mapped_first, mark_element};
 ghost use Rattle.latex2mathml_tex.specs.Delimiters.{delimiter_text};
 
 use crate::atoms::{Before, Core, Kind, Row};
-use crate::meaning::{Class, FractionRule, Style};
+use crate::meaning::{Class, Style};
 use latex2mathml_builder::attributes::{Attributes, Form, Side, Size, Space, Stretch};
 use latex2mathml_builder::builder::Builder;
 use latex2mathml_builder::tag::{Container, Pair, Token};
@@ -283,6 +283,7 @@ pub(crate) fn with_atom(
     ensures row { IfOk result (λ longer. row_with longer (elements_in builder.new)
         ≡ Rows.with_atom (style_of style) (row_with row (drop 1 (elements_in builder.old))) (core_with core (top (elements_in builder.old))).atom) }
     ensures below { IfOk result (λ longer. drop longer.count (elements_in builder.new) ≡ drop (row.count + 1) (elements_in builder.old)) }
+    ensures rest { IfOk result (λ longer. row_rest longer ≡ row_rest row) }
     ensures count { IfOk result (λ longer. longer.count ≤ length (elements_in builder.new)) }
 {
     let count = put_behind(builder, style, row, core.kind)?;
@@ -296,6 +297,9 @@ pub(crate) fn with_atom(
         } else {
             Class::Ordinary
         },
+        restyled: row.restyled,
+        settled: row.settled,
+        under: row.under,
     })
 }
 
@@ -411,46 +415,6 @@ pub(crate) fn put_stack(builder: &mut Builder, side: Side) -> Result<(), AllocEr
         ≡ Makes.on_side (side_of side) plain (top (elements_in builder.old)) (top (drop 1 (elements_in builder.old))) ∷ drop 2 (elements_in builder.old)) }
 {
     builder.pair(pair_on(side), Attributes::plain(), true)
-}
-
-/// A fraction of the two uppermost elements, which may have a style of its own.
-pub(crate) fn put_fraction(
-    builder: &mut Builder,
-    rule: FractionRule,
-    own: Option<Style>,
-) -> Result<(), AllocError>
-    requires { 2 ≤ length (elements_in builder.old) }
-    ensures { OnOk result (elements_in builder.new
-        ≡ (Makes.fraction (fraction_rule_of rule) (option_map style_of own) (top (drop 1 (elements_in builder.old))) (top (elements_in builder.old))).atom.element ∷ drop 2 (elements_in builder.old)) }
-{
-    put_quotient(builder, rule)?;
-    if let Some(style) = own {
-        let attributes = Attributes {
-            display: Some(style.is_display()),
-            ..Attributes::plain()
-        };
-        builder.container(Container::Mstyle, attributes, 1)?;
-    }
-    Ok(())
-}
-
-/// A fraction of the two uppermost elements.
-fn put_quotient(builder: &mut Builder, rule: FractionRule) -> Result<(), AllocError>
-    requires { 2 ≤ length (elements_in builder.old) }
-    ensures { OnOk result (elements_in builder.new
-        ≡ Makes.fraction_element (fraction_rule_of rule) (top (drop 1 (elements_in builder.old))) (top (elements_in builder.old)) ∷ drop 2 (elements_in builder.old)) }
-{
-    match rule {
-        FractionRule::Bar => builder.pair(Pair::Mfrac, Attributes::plain(), false),
-        FractionRule::NoBar => {
-            let attributes = Attributes {
-                no_line: true,
-                ..Attributes::plain()
-            };
-            builder.pair(Pair::Mfrac, attributes, false)?;
-            enclose(builder, true, Some('('), Some(')'))
-        }
-    }
 }
 
 /// Puts a mark for so many primes.

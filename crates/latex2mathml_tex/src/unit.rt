@@ -22,13 +22,31 @@ pub(crate) struct Unit<'a> {
     pub(crate) place: usize,
 }
 
-/// What is no unit.
+/// Why no unit stands next.
 #[derive(Clone, Copy)]
 pub(crate) enum Fault {
     /// A backslash ends the text.
     LoneBackslash,
     /// XML forbids this character.
     Forbidden(char),
+    /// An argument of a macro or a part of a definition does not stand there.
+    MissingArgument,
+    /// A brace that does not end.
+    UnclosedBrace,
+    /// More macros are used than can be, or they put more units than can be.
+    TooManyExpansions,
+    /// What a definition is to define is no name.
+    MissingMacroName,
+    /// What stands before the body of a definition does not say how many arguments there are.
+    WrongParameters,
+    /// An argument that may be left out.
+    OptionalArgument,
+    /// An argument that ends before some sign.
+    DelimitedArgument,
+    /// A body asks for an argument that is not there.
+    UnknownParameter,
+    /// What stands among definitions is none.
+    NoDefinition,
 }
 
 /// What stands next in a text.
@@ -38,6 +56,6 @@ pub(crate) enum Next<'a> {
     Unit(Unit<'a>),
     /// The end of the text, at this byte.
     End(usize),
-    /// What is no unit, and the byte where it stands.
+    /// No unit, why, and the byte where what is refused stands.
     Fault(Fault, usize),
 }

@@ -1,15 +1,19 @@
 -- The rules of a piece at two places are alike: they differ in places alone, of refusals too.
-use Rattle.std.proofs.Common.{◌≡◌, ◌==◌, ℕ, Bool, true, false, List, inl, inr, [], ◌∷◌, ◌++◌, Option, Some, None, codes, refl, sym, subst, if◌then◌else◌}
+use Rattle.std.proofs.Common.{◌≡◌, ◌==◌, ℕ, Bool, nat_le, length, true, false, List, inl, inr, [], ◌∷◌, ◌++◌, Option, Some, None, codes, refl, sym, subst, if◌then◌else◌}
 use Rattle.std.proofs.lemmas.Bool.{cases_Bool}
 use Rattle.std.specs.{Char.is_ascii_alphabetic, Char.is_ascii_digit, Str.byte, Str.bytes_eq}
 use Rattle.latex2mathml_elements.specs.Element.{Element}
+use Rattle.latex2mathml_elements.specs.Columns.{Columns}
+use Rattle.latex2mathml_tex_grammar.specs.Environments.{Environment, environment_of}
+use Rattle.latex2mathml_tex_grammar.specs.Scanning.{Spot, Argument, Name, ColumnList, Number}
+use Rattle.latex2mathml_tex_grammar.specs.Tables.{Lines}
 use Rattle.latex2mathml_tex_grammar.specs.{Commands.meaning_of, Commands.symbol_of, Delimiters.delimiter_of, Makes.Core, Refusal.Refusal, Rows.Row, Rows.Operand, Symbols.Alphabet, Symbols.Symbol, Words.Words}
-use Rattle.latex2mathml_tex_grammar.specs.Meaning.{Meaning, Shows, FunctionName, Spacing, Styled, Words as TakesWordsIn, Fraction, Root, Accent, Brace, Stack, StackedRelation, OperatorName, Negation, Slash, Sized, Left, Middle, Right, Limits, NoLimits, Classed}
-use Rattle.latex2mathml_tex_grammar.specs.Rules.{Context, Ending, WholeText, InBraces, InBrackets, InDollars, InDelimiters, Rule, gives, refuses, reads_operand, reads_core, reads_atoms, reads_words, takes_if, takes_digits, takes_delimiter, of_one, of_two, decimal, after_digits, a_number, a_symbol, begins_none, character_rule, struck_atom, command_rule, rule}
-use Rattle.latex2mathml_tex_grammar.specs.Spacing.{Standing, BeforeWords, InWords, BetweenDollars, standing_behind, behind_unit, takes_words}
-use Rattle.latex2mathml_tex_grammar.specs.Starts.{atom_start, ends, unended, is_close, is_character, is_command}
-use Rattle.latex2mathml_tex_grammar.specs.Units.{Piece, Space, Open, Close, Command, Character}
-use Rattle.latex2mathml_tex_grammar.proofs.{OneList.is_byte, Plain.a_character_plain, Plain.close_plain, Plain.delimiter_plain, Plain.named, Plain.open_plain, Plain.negated_of_plain, Plain.right_plain, Plain.takes_none}
+use Rattle.latex2mathml_tex_grammar.specs.Meaning.{Meaning, Shows, FunctionName, Spacing, Styled, Words as TakesWordsIn, Fraction, Root, Accent, Brace, Stack, StackedRelation, OperatorName, Negation, Slash, Sized, Left, Middle, Right, Limits, NoLimits, Classed, Changes, BeginTable, EndTable, LineBreak, Substack}
+use Rattle.latex2mathml_tex_grammar.specs.Rules.{Context, Ending, WholeText, InBraces, InBrackets, InDollars, InDelimiters, Rule, gives, refuses, reads_operand, reads_core, reads_atoms, reads_words, takes_if, takes_digits, takes_delimiter, of_one, of_two, decimal, after_digits, a_number, a_symbol, begins_none, character_rule, struck_atom, command_rule, rule, TableEnd, ByName, ByBrace, InCell, takes_found, passes_over, reads_rows, ended_table, rows_rule, listed_rule, argument_rule, position_rule, environment_rule, most_columns}
+use Rattle.latex2mathml_tex_grammar.specs.Spacing.{Standing, BeforeWords, InWords, BetweenDollars, standing_behind, behind_unit, takes_words, AreAlike, same_piece}
+use Rattle.latex2mathml_tex_grammar.specs.Starts.{atom_start, ends, unended, is_close, is_character, is_command, left_behind, is_break}
+use Rattle.latex2mathml_tex_grammar.specs.Units.{Piece, Space, Open, Close, Command, Character, Unit, Units}
+use Rattle.latex2mathml_tex_grammar.proofs.{OneList.is_byte, Plain.a_character_plain, Plain.close_plain, Plain.delimiter_plain, Plain.named, Plain.open_plain, Plain.negated_of_plain, Plain.right_plain, Plain.takes_none, Plain.TakesNone, Plain.break_plain, Plain.cr_plain, Plain.newline_plain, Plain.end_plain, Scans.either_holds}
 use Rattle.latex2mathml_tex_grammar.proofs.Spaces.{IsCalm, in_formula, in_dollars, IsPlain, AllPlain, character_plain, digit_plain}
 
 -- Endings
@@ -21,6 +25,7 @@ pub data AlikeEndings : Ending → Ending → Type 0 where
   both_brackets : {p q : ℕ} → AlikeEndings (InBrackets p) (InBrackets q)
   both_dollars : {p q : ℕ} → AlikeEndings (InDollars p) (InDollars q)
   both_delimiters : {p q : ℕ} → AlikeEndings (InDelimiters p) (InDelimiters q)
+  both_cells : (end : TableEnd) {p q : ℕ} → AlikeEndings (InCell end p) (InCell end q)
 
 pub same_ends : {e f : Ending} → AlikeEndings e f → (piece : Piece) → ends e piece ≡ ends f piece
 same_ends both_whole piece = refl
@@ -28,6 +33,8 @@ same_ends both_braces piece = refl
 same_ends both_brackets piece = refl
 same_ends both_dollars piece = refl
 same_ends both_delimiters piece = refl
+same_ends (both_cells ByName) piece = refl
+same_ends (both_cells ByBrace) piece = refl
 
 pub same_start : {e f : Ending} → AlikeEndings e f → (piece : Piece) → atom_start e piece ≡ atom_start f piece
 same_start both_whole piece = refl
@@ -35,6 +42,7 @@ same_start both_braces piece = refl
 same_start both_brackets piece = refl
 same_start both_dollars piece = refl
 same_start both_delimiters piece = refl
+same_start (both_cells end) piece = refl
 
 pub unended_too : {e f : Ending} → AlikeEndings e f → unended e ≡ None → unended f ≡ None
 unended_too both_whole h = refl
@@ -42,6 +50,8 @@ unended_too both_braces h = cc
 unended_too both_brackets h = cc
 unended_too both_dollars h = cc
 unended_too both_delimiters h = cc
+unended_too (both_cells ByName) h = cc
+unended_too (both_cells ByBrace) h = cc
 
 same_some : {r q : Refusal} → Some r ≡ Some q → r ≡ q
 same_some e = cc
@@ -52,6 +62,8 @@ never_ended_too both_braces h = (_, rw (sym (same_some h)) refl, refl)
 never_ended_too both_brackets h = (_, rw (sym (same_some h)) refl, refl)
 never_ended_too both_dollars h = (_, rw (sym (same_some h)) refl, refl)
 never_ended_too both_delimiters h = (_, rw (sym (same_some h)) refl, refl)
+never_ended_too (both_cells ByName) h = (_, rw (sym (same_some h)) refl, refl)
+never_ended_too (both_cells ByBrace) h = (_, rw (sym (same_some h)) refl, refl)
 
 -- where atoms stand that have this ending, which itself stands here
 abbrev pub inside : Ending → Standing → Standing
@@ -60,6 +72,7 @@ inside (InBraces place) at = at
 inside (InBrackets place) at = at
 inside (InDollars place) at = BetweenDollars at
 inside (InDelimiters place) at = at
+inside (InCell end place) at = at
 
 close_ends : (piece : Piece) → is_close piece ≡ true → IsPlain piece
 close_ends Close h = close_plain
@@ -82,6 +95,33 @@ right_ends Open h = cc
 right_ends Close h = cc
 right_ends (Character c) h = cc
 
+-- what ends a cell
+
+break_command : (name : List ℕ) → is_break (Command name) ≡ true → TakesNone name
+break_command name h =
+    either_holds _ _
+    (either_holds _ _ (named (codes "\\") name break_plain) (named (codes "cr") name cr_plain))
+    (named (codes "newline") name newline_plain) h
+
+pub cell_ends : (end : TableEnd) (place : ℕ) (piece : Piece) → ends (InCell end place) piece ≡ true → IsPlain piece
+cell_ends ByName place (Command name) h =
+    takes_none name (either_holds _ _ (either_holds _ _ (named (codes "end") name end_plain) (λ k. absurd (cc))) (break_command name) h)
+cell_ends ByBrace place (Command name) h = takes_none name (break_command name h)
+cell_ends end place (Character c) h = elim (cases_Bool (c == byte "$")) [
+  | inl s ↦ absurd (dollar_in_cell end place (subst (λ d. ends (InCell end place) (Character d) ≡ true) (is_byte c (byte "$") s) h))
+  | inr s ↦ character_plain c s
+]
+  where
+    dollar_in_cell : (end : TableEnd) (place : ℕ) → ends (InCell end place) (Character (byte "$")) ≡ true → ⊥
+    dollar_in_cell ByName place h = cc
+    dollar_in_cell ByBrace place h = cc
+cell_ends ByBrace place Close h = close_plain
+cell_ends ByName place Close h = cc
+cell_ends ByName place Space h = cc
+cell_ends ByName place Open h = cc
+cell_ends ByBrace place Space h = cc
+cell_ends ByBrace place Open h = cc
+
 dollar_ends : (at : Standing) (piece : Piece) → is_character (byte "$") piece ≡ true → standing_behind piece (BetweenDollars at) ≡ at
 dollar_ends at (Character c) h = subst (λ d. standing_behind (Character d) (BetweenDollars at) ≡ at) (is_byte (byte "$") c h) refl
 dollar_ends at Space h = cc
@@ -96,6 +136,16 @@ ended_behind {at} (InBraces place) piece h calm = close_ends piece h at calm
 ended_behind {at} (InBrackets place) piece h calm = bracket_ends piece h at calm
 ended_behind {at} (InDollars place) piece h calm = dollar_ends at piece h
 ended_behind {at} (InDelimiters place) piece h calm = right_ends piece h at calm
+ended_behind {at} (InCell end place) piece h calm = cell_ends end place piece h at calm
+
+-- so units that are left behind atoms are alike
+pub left_too : {e f : Ending} {l m : Units} (at : Standing) → AlikeEndings e f → (u v : Unit) → u.piece ≡ v.piece → ends e u.piece ≡ true → IsCalm (inside e at) → AreAlike (standing_behind u.piece (inside e at)) l m → AreAlike at (left_behind e u l) (left_behind f v m)
+left_too {e} {l = l} {m = m} at both_whole u v same s calm i = subst (λ k. AreAlike k l m) (ended_behind e u.piece s calm) i
+left_too {e} {l = l} {m = m} at both_braces u v same s calm i = subst (λ k. AreAlike k l m) (ended_behind e u.piece s calm) i
+left_too {e} {l = l} {m = m} at both_brackets u v same s calm i = subst (λ k. AreAlike k l m) (ended_behind e u.piece s calm) i
+left_too {e} {l = l} {m = m} at both_dollars u v same s calm i = subst (λ k. AreAlike k l m) (ended_behind e u.piece s calm) i
+left_too {e} {l = l} {m = m} at both_delimiters u v same s calm i = subst (λ k. AreAlike k l m) (ended_behind e u.piece s calm) i
+left_too at (both_cells end) u v same s calm i = same_piece same i
 
 -- Rules
 
@@ -116,6 +166,9 @@ pub data AlikeRules (at : Standing) : Standing → Rule → Rule → Type 0 wher
   if_too : {tests : List (Piece → Option (List ℕ))} {f g : List ℕ → Rule} {r s : Rule} → AllPlain tests → ((x : List ℕ) → AlikeRules at at (f x) (g x)) → AlikeRules at at r s → AlikeRules at at (takes_if tests f r) (takes_if tests g s)
   digits_taken_too : {f g : List ℕ → Rule} → ((x : List ℕ) → AlikeRules at at (f x) (g x)) → AlikeRules at at (takes_digits f) (takes_digits g)
   delimiter_too : {f g : List ℕ → Rule} → ((x : List ℕ) → AlikeRules at at (f x) (g x)) → AlikeRules at at (takes_delimiter f) (takes_delimiter g)
+  scanned_too : {spot : Spot} {p q : ℕ} {f g : List ℕ → Rule} → ((x : List ℕ) → AlikeRules at at (f x) (g x)) → AlikeRules at at (takes_found spot p f) (takes_found spot q g)
+  passed_too : {spot : Spot} {r s : Rule} → AlikeRules at at r s → AlikeRules at at (passes_over spot r) (passes_over spot s)
+  rows_too : {end : TableEnd} {p q : ℕ} {columns : Columns} {c : Context} {f g : Lines → ℕ → Rule} → ((x : Lines) (j k : ℕ) → AlikeRules at at (f x j) (g x k)) → AlikeRules at at (reads_rows end p columns c f) (reads_rows end q columns c g)
 
 either : {at : Standing} {r s t k : Rule} (b : Bool) → AlikeRules at at r s → AlikeRules at at t k → AlikeRules at at (if b then r else t) (if b then s else k)
 either true x y = x
@@ -154,6 +207,32 @@ struck_too : {at : Standing} (p q : ℕ) (x : Core) (found : Option Element) →
 struck_too p q x None = refuses_too refl
 struck_too p q x (Some element) = gives_too
 
+-- tables
+
+ended_too : {at : Standing} (p q : ℕ) (c : Context) (e : Environment) (columns : Columns) (lines : Lines) (same : Bool) → AlikeRules at at (ended_table p c e columns lines same) (ended_table q c e columns lines same)
+ended_too p q c e columns lines true = gives_too
+ended_too p q c e columns lines false = refuses_too refl
+
+rows_of_too : {at : Standing} (p q : ℕ) (c : Context) (name : List ℕ) (e : Environment) (columns : Columns) → AlikeRules at at (rows_rule p c name e columns) (rows_rule q c name e columns)
+rows_of_too p q c name e columns = rows_too (λ lines j k. scanned_too (λ other. ended_too j k c e columns lines (bytes_eq other name)))
+
+listed_too : {at : Standing} (p q : ℕ) (c : Context) (name : List ℕ) (e : Environment) (letters : List ℕ) → AlikeRules at at (listed_rule p c name e letters) (listed_rule q c name e letters)
+listed_too p q c name e letters = either (nat_le (length letters) most_columns) (rows_of_too p q c name e _) (refuses_too refl)
+
+argument_too : {at : Standing} (p q : ℕ) (c : Context) (name : List ℕ) (e : Environment) (argument : Option Argument) → AlikeRules at at (argument_rule p c name e argument) (argument_rule q c name e argument)
+argument_too p q c name e None = rows_of_too p q c name e _
+argument_too p q c name e (Some ColumnList) = scanned_too (λ letters. listed_too p q c name e letters)
+argument_too p q c name e (Some Number) = scanned_too (λ number. rows_of_too p q c name e _)
+argument_too p q c name e (Some Name) = rows_of_too p q c name e _
+
+position_too : {at : Standing} {r s : Rule} (b : Bool) → AlikeRules at at r s → AlikeRules at at (position_rule b r) (position_rule b s)
+position_too true h = passed_too h
+position_too false h = h
+
+environment_too : {at : Standing} (p q : ℕ) (c : Context) (name : List ℕ) (e : Option Environment) → AlikeRules at at (environment_rule p c name e) (environment_rule q c name e)
+environment_too p q c name None = refuses_too refl
+environment_too p q c name (Some e) = position_too e.may_have_position (argument_too p q c name e e.argument)
+
 -- a command that takes no words leaves it as it is where units stand
 as_is : {at : Standing} {r s : Rule} → IsCalm at → AlikeRules at at r s → AlikeRules at (behind_unit at) r s
 as_is in_formula h = h
@@ -163,15 +242,11 @@ words_follow : {at : Standing} {r s : Rule} → IsCalm at → AlikeRules at (Bef
 words_follow in_formula h = h
 words_follow in_dollars h = h
 
-unknown_too : {at before : Standing} (r q s t : Refusal) (b : Bool) → r.kind ≡ q.kind → s.kind ≡ t.kind → AlikeRules at before (if b then refuses r else refuses s) (if b then refuses q else refuses t)
-unknown_too r q s t true h k = refuses_too h
-unknown_too r q s t false h k = refuses_too k
-
 abbrev behind_command : Bool → Standing → Standing
 behind_command takes at = if takes then BeforeWords (behind_unit at) else behind_unit at
 
 command_too : {at : Standing} (p q : ℕ) (c : Context) (name : List ℕ) (meaning : Option Meaning) → IsCalm at → AlikeRules at (behind_command (takes_words meaning) at) (command_rule p c name meaning) (command_rule q c name meaning)
-command_too p q c name None calm = unknown_too _ _ _ _ (bytes_eq name (codes "\\")) refl refl
+command_too p q c name None calm = refuses_too refl
 command_too p q c name (Some (Shows s)) calm = as_is calm gives_too
 command_too p q c name (Some (FunctionName limits own)) calm = as_is calm gives_too
 command_too p q c name (Some (Spacing width)) calm = as_is calm gives_too
@@ -193,6 +268,11 @@ command_too p q c name (Some Right) calm = refuses_too refl
 command_too p q c name (Some Limits) calm = refuses_too refl
 command_too p q c name (Some NoLimits) calm = refuses_too refl
 command_too p q c name (Some (Classed class)) calm = as_is calm one_too
+command_too p q c name (Some (Changes change)) calm = refuses_too refl
+command_too p q c name (Some BeginTable) calm = as_is calm (scanned_too (λ own. environment_too p q c own (environment_of own)))
+command_too p q c name (Some EndTable) calm = refuses_too refl
+command_too p q c name (Some LineBreak) calm = refuses_too refl
+command_too p q c name (Some Substack) calm = as_is calm (scanned_too (λ brace. rows_too (λ lines j k. gives_too)))
 
 plain_rule : {at before : Standing} {r s : Rule} → before ≡ at → AlikeRules at at r s → AlikeRules at before r s
 plain_rule {at} {before} {r} {s} e h = subst (λ k. AlikeRules at k r s) (sym e) h

@@ -3,11 +3,13 @@ use Rattle.std.proofs.Common.{◌≡◌, ℕ, false, List, [], ◌∷◌, ◌++�
 use Rattle.std.specs.{Bool.⊤, List.AllByRecursion}
 use Rattle.latex2mathml_elements.specs.{Characters.IsAllowed, Characters.HasAllowedTexts, Element.Element}
 use Rattle.latex2mathml_elements.proofs.Plain.{IsPlain}
-use Rattle.latex2mathml_tex_grammar.specs.{Atoms.Atom, Reading.Outcome, Reading.Read, Reading.Refused, Rows.Row, Rows.Operand}
+use Rattle.latex2mathml_tex_grammar.specs.{Atoms.Atom, Reading.Outcome, Reading.Read, Reading.Refused, Rests.Rest, Rests.GoesOnIn, Rests.NoRest, Rows.Restyled, Rows.Row, Rows.Operand, Rows.Upper}
 use Rattle.latex2mathml_tex_grammar.specs.Makes.{Core, Scripts}
-use Rattle.latex2mathml_tex_grammar.specs.Rules.{Rule, gives, refuses, reads_operand, reads_core, reads_atoms, reads_words, takes_if, takes_digits, takes_delimiter}
+use Rattle.latex2mathml_tex_grammar.specs.Rules.{Rule, gives, refuses, reads_operand, reads_core, reads_atoms, reads_words, takes_if, takes_digits, takes_delimiter, takes_found, passes_over, reads_rows}
 use Rattle.latex2mathml_tex_grammar.specs.Starts.{Step, GoesOn, TakesOperand, Forbidden}
-use Rattle.latex2mathml_tex_grammar.specs.Units.{Piece, Command, Character, Units, Next, End, Stop, is_forbidden}
+use Rattle.latex2mathml_tex_grammar.specs.ExpansionLaws.{EachPiece}
+use Rattle.latex2mathml_tex_grammar.specs.Tables.{Lines}
+use Rattle.latex2mathml_tex_grammar.specs.Units.{Piece, Command, Character, Units, is_forbidden}
 use Rattle.latex2mathml_tex_grammar.specs.Words.{Word, Shown, Formula, WordRule, IsWord, Words}
 
 -- Units
@@ -18,9 +20,7 @@ IsAllowedPiece (Character c) = is_forbidden c ≡ false
 IsAllowedPiece piece = ⊤
 
 abbrev pub AreAllowedUnits : Units → Type 0
-AreAllowedUnits (Next u us) = IsAllowedPiece u.piece × AreAllowedUnits us
-AreAllowedUnits (End place) = ⊤
-AreAllowedUnits (Stop refusal) = ⊤
+AreAllowedUnits = EachPiece IsAllowedPiece
 
 -- What is read
 
@@ -44,8 +44,30 @@ IsAllowedOperand x = HasAllowedTexts x.element
 abbrev pub IsAllowedRow : Row → Type 0
 IsAllowedRow row = AreAllowedElements row.elements
 
+-- a row that is still read: also what was put aside for it
+
+abbrev pub IsAllowedBefore : Option Restyled → Type 0
+IsAllowedBefore None = ⊤
+IsAllowedBefore (Some change) = AreAllowedElements change.before
+
+abbrev pub IsAllowedUpper : Option Upper → Type 0
+IsAllowedUpper None = ⊤
+IsAllowedUpper (Some upper) = HasAllowedTexts upper.element
+
+pub record IsAllowedPart (row : Row) : Type 0 where
+  pub elements : AreAllowedElements row.elements
+  pub before : IsAllowedBefore row.restyled
+  pub upper : IsAllowedUpper row.under
+
+abbrev pub IsAllowedRest : Rest → Type 0
+IsAllowedRest (GoesOnIn c row) = IsAllowedPart row
+IsAllowedRest (NoRest kind) = ⊤
+
 abbrev pub AreAllowedWords : Words → Type 0
 AreAllowedWords ws = AreAllowedElements ws.elements
+
+abbrev pub AreAllowedLines : Lines → Type 0
+AreAllowedLines lines = HasAllowedTexts lines.last × AreAllowedElements lines.others
 
 abbrev pub AreAllowedScripts : Scripts → Type 0
 AreAllowedScripts scripts = IsAllowedElement scripts.below × IsAllowedElement scripts.above
@@ -89,3 +111,6 @@ IsAllowedRule (takes_if tests then otherwise) =
     ((text : List ℕ) → AreGiven tests text → IsAllowedRule (then text)) × IsAllowedRule otherwise
 IsAllowedRule (takes_digits then) = (digits : List ℕ) → IsPlain digits → IsAllowedRule (then digits)
 IsAllowedRule (takes_delimiter then) = (sign_text : List ℕ) → IsAllowed sign_text → IsAllowedRule (then sign_text)
+IsAllowedRule (takes_found spot place then) = (text : List ℕ) → IsAllowedRule (then text)
+IsAllowedRule (passes_over spot then) = IsAllowedRule then
+IsAllowedRule (reads_rows end place columns c then) = (lines : Lines) (at : ℕ) → AreAllowedLines lines → IsAllowedRule (then lines at)

@@ -4,12 +4,12 @@ use Rattle.std.proofs.{lemmas.Bool.and_parts, lemmas.Grind.reverse_onto}
 use Rattle.std.specs.{List.list_all, Str.NonePass}
 use Rattle.latex2mathml_elements.specs.Attributes.{Attributes, Side, Above, Below, Stretch}
 use Rattle.latex2mathml_elements.specs.Characters.{is_forbidden, IsAllowed, HasAllowedTexts, EachTextOf}
-use Rattle.latex2mathml_elements.specs.Element.{Mi, Mn, Mo, Mtext, Element, token, space, container, pair, triple, children}
+use Rattle.latex2mathml_elements.specs.Element.{Mi, Mn, Mo, Mtext, Element, token, space, container, pair, triple, table, children}
 use Rattle.latex2mathml_elements.proofs.{Characters.allowed_both, Characters.allowed_char, Characters.allowed_plain, Characters.plain_is_allowed, Plain.IsPlain, Plain.is_plain}
 use Rattle.latex2mathml_tex_grammar.specs.Alphabets.{in_alphabet}
 use Rattle.latex2mathml_tex_grammar.specs.Atoms.{Atom, Kind, SignOf, PlusOrMinus, Plain, UprightLetters, FunctionWord, Blank, Divider, Before, begins_operand, class_there, as_prefix, without_space, tight, sign_there, element_there, is_parted, lone_sign, element_as}
 use Rattle.latex2mathml_tex_grammar.specs.Makes.{text, letter, upright_letter, number, symbol, struck, classed, on_side, accent, brace, stack, in_style, fenced, fraction_element, fraction, lowered_divider, lowered, between_delimiters, Scripts, primes_text, prime_mark, behind_primes, superscript, are_stacked, fixed_base, with_scripts, scripted_atom, scripted}
-use Rattle.latex2mathml_tex_grammar.specs.Meaning.{FractionRule, Bar, NoBar, LimitPlace, Beside, ByStyle, Movable, Stacked}
+use Rattle.latex2mathml_tex_grammar.specs.Meaning.{FractionRule, Bar, NoBar, Braced, Bracketed, Bare, LimitPlace, Beside, ByStyle, Movable, Stacked}
 use Rattle.latex2mathml_tex_grammar.specs.Rows.{Row, Operand, as_base, join, parted, put, row_element, single, with_atom, empty_row}
 use Rattle.latex2mathml_tex_grammar.specs.Symbols.{Class, Ordinary, Operator, Binary, Relation, Opening, Closing, Punctuation, Inner, Style, InDisplay, InText, InScript, Alphabet, Upright, Italic, Bold, BoldItalic, DoubleStruck, Fraktur, Calligraphic, SansSerif, Monospace, Symbol, Letter, UprightLetter, Sign, BigOperator, Integral}
 use Rattle.latex2mathml_tex_grammar.proofs.Allowed.{AreAllowedElements, IsAllowedElement, IsAllowedCore, IsAllowedAtom, IsAllowedOperand, IsAllowedRow, AreAllowedScripts}
@@ -81,6 +81,7 @@ prefix_allowed (space width) h = h
 prefix_allowed (container c a xs) h = h
 prefix_allowed (pair p a x y) h = h
 prefix_allowed (triple t a x y z) h = h
+prefix_allowed (table a rows) h = h
 
 without_space_allowed : (x : Element) → HasAllowedTexts x → HasAllowedTexts (without_space x)
 without_space_allowed (token t a text) h = h
@@ -88,6 +89,7 @@ without_space_allowed (space width) h = h
 without_space_allowed (container c a xs) h = h
 without_space_allowed (pair p a x y) h = h
 without_space_allowed (triple t a x y z) h = h
+without_space_allowed (table a rows) h = h
 
 tight_allowed : (style : Style) (x : Element) → HasAllowedTexts x → HasAllowedTexts (tight style x)
 tight_allowed InDisplay x h = h
@@ -125,10 +127,12 @@ join_allowed (token t a letter) (space width ∷ xs) h k = (h, k)
 join_allowed (token t a letter) (container c b ys ∷ xs) h k = (h, k)
 join_allowed (token t a letter) (pair p b y z ∷ xs) h k = (h, k)
 join_allowed (token t a letter) (triple u b x y z ∷ xs) h k = (h, k)
+join_allowed (token t a letter) (table b rows ∷ xs) h k = (h, k)
 join_allowed (space width) xs h k = (h, k)
 join_allowed (container c a ys) xs h k = (h, k)
 join_allowed (pair p a y z) xs h k = (h, k)
 join_allowed (triple t a x y z) xs h k = (h, k)
+join_allowed (table a rows) xs h k = (h, k)
 
 put_allowed : (joins : Bool) (style : Style) (before : Before) (x : Atom) (xs : List Element) → IsAllowedAtom x → AreAllowedElements xs → AreAllowedElements (put joins style before x xs)
 put_allowed true style before x xs h k = join_allowed x.element xs h k
@@ -150,6 +154,7 @@ struck_allowed (space width) h = tt
 struck_allowed (container c a xs) h = tt
 struck_allowed (pair p a x y) h = tt
 struck_allowed (triple t a x y z) h = tt
+struck_allowed (table a rows) h = tt
 
 lone_sign_allowed : (style : Style) (class : Class) (x : Element) → HasAllowedTexts x → HasAllowedTexts (lone_sign style class x)
 lone_sign_allowed style class (token Mo a text) h = h
@@ -160,6 +165,7 @@ lone_sign_allowed style class (space width) h = h
 lone_sign_allowed style class (container c a xs) h = h
 lone_sign_allowed style class (pair p a x y) h = h
 lone_sign_allowed style class (triple t a x y z) h = h
+lone_sign_allowed style class (table a rows) h = h
 
 element_as_allowed : (style : Style) (class own : Class) (x : Element) → HasAllowedTexts x → HasAllowedTexts (element_as style class own x)
 element_as_allowed style class Ordinary x h = h
@@ -203,13 +209,18 @@ in_style_allowed : (style : Option Style) (x : Element) → HasAllowedTexts x �
 in_style_allowed None x h = h
 in_style_allowed (Some style) x h = (h, tt)
 
-fenced_allowed : (high : Bool) (opening closing : List ℕ) (inside : Element) → IsAllowed opening → IsAllowed closing → HasAllowedTexts inside → HasAllowedTexts (fenced high opening closing inside)
+pub fenced_allowed : (high : Bool) (opening closing : List ℕ) (inside : Element) → IsAllowed opening → IsAllowed closing → HasAllowedTexts inside → HasAllowedTexts (fenced high opening closing inside)
 fenced_allowed high opening closing inside h k i = (h, (i, (k, tt)))
 
 fraction_element_allowed : (rule : FractionRule) (above below : Element) → HasAllowedTexts above → HasAllowedTexts below → HasAllowedTexts (fraction_element rule above below)
 fraction_element_allowed Bar above below h k = (h, k)
+fraction_element_allowed Bare above below h k = (h, k)
 fraction_element_allowed NoBar above below h k =
     (allowed_plain (codes "(") refl, ((h, k), (allowed_plain (codes ")") refl, tt)))
+fraction_element_allowed Braced above below h k =
+    (allowed_plain (codes "{") refl, ((h, k), (allowed_plain (codes "}") refl, tt)))
+fraction_element_allowed Bracketed above below h k =
+    (allowed_plain (codes "[") refl, ((h, k), (allowed_plain (codes "]") refl, tt)))
 
 pub fraction_allowed : (rule : FractionRule) (own : Option Style) (above below : Element) → HasAllowedTexts above → HasAllowedTexts below → IsAllowedCore (fraction rule own above below)
 fraction_allowed rule own above below h k = in_style_allowed own _ (fraction_element_allowed rule above below h k)
@@ -220,6 +231,7 @@ lowered_divider_allowed (space width) h = h
 lowered_divider_allowed (container c a xs) h = h
 lowered_divider_allowed (pair p a x y) h = h
 lowered_divider_allowed (triple t a x y z) h = h
+lowered_divider_allowed (table a rows) h = h
 
 each_lowered : (xs : List Element) → AreAllowedElements xs → AreAllowedElements (map lowered_divider xs)
 each_lowered [] h = tt
@@ -267,6 +279,7 @@ fixed_base_allowed Stacked (space width) h = h
 fixed_base_allowed Stacked (container c a xs) h = h
 fixed_base_allowed Stacked (pair p a x y) h = h
 fixed_base_allowed Stacked (triple t a x y z) h = h
+fixed_base_allowed Stacked (table a rows) h = h
 
 with_scripts_allowed : (stacked : Bool) (base : Element) (below above : Option Element) → HasAllowedTexts base → IsAllowedElement below → IsAllowedElement above → HasAllowedTexts (with_scripts stacked base below above)
 with_scripts_allowed true base None None h k i = h

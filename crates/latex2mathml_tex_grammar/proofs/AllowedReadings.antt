@@ -1,21 +1,37 @@
 -- No reading of units has a text with a character that XML forbids, where the units have none.
 use Rattle.std.proofs.Common.{ℕ, List, [], ◌∷◌, Option, subst, reverse}
-use Rattle.latex2mathml_elements.specs.{Characters.IsAllowed, Dollars.IsDollarFree, Element.children}
+use Rattle.latex2mathml_elements.specs.{Characters.IsAllowed, Dollars.IsDollarFree, Element.Element, Element.children}
+use Rattle.latex2mathml_elements.specs.Columns.{Columns}
+use Rattle.latex2mathml_tex_grammar.specs.{Scanning.BeforeRow, Tables.Lines}
 use Rattle.latex2mathml_elements.proofs.{Characters.allowed_print, Characters.dollar_free}
-use Rattle.latex2mathml_tex_grammar.specs.{Atoms.Atom, Delimiters.delimiter_of, Formulas.IsReading, Formulas.row_print, Laws.ReadingsAreAllowed, Rows.Row, Rows.Operand, Rows.row_element, Symbols.Alphabet, Symbols.Style}
+use Rattle.latex2mathml_tex_grammar.specs.{Atoms.Atom, DefinitionTexts.Defines, Delimiters.delimiter_of, Formulas.IsReading, Formulas.row_print, Laws.ReadingsAreAllowed, Macros.Table, Rows.Row, Rows.Operand, Rows.empty_row, Rows.row_element, Symbols.Alphabet, Symbols.Style}
 use Rattle.latex2mathml_tex_grammar.specs.Makes.{Core, core, divider, is_display, number, Scripts}
-use Rattle.latex2mathml_tex_grammar.specs.Reading.{Outcome, ReadsRule, rule_gives, rule_refuses, operand_read, operand_refused, core_read, core_refused, core_missing, core_stopped, atoms_read, atoms_refused, words_read, words_refused, units_taken, units_missing, digits_taken, delimiter_taken, delimiter_missing, ReadsOperand, group_operand, group_refused, digit_operand, other_operand, other_refused, no_operand, operand_at_end, operand_stopped, ReadsScripts, scripts_end, mark_taken, script_read, script_refused, mark_refused, ReadsAtom, divider_read, divider_refused, on_empty_row, base_read, base_refused, ReadsAtoms, text_ends, never_ended, atoms_stopped, atoms_end, atom_read, atom_refused, ReadsWord, word_stands, group_of_words, formula_read, formula_refused, words_in_alphabet, no_word, word_missing, word_at_end, word_stopped, ReadsWords, words_end, words_never_ended, words_stopped, word_read, word_refused}
-use Rattle.latex2mathml_tex_grammar.specs.Rules.{Context, Ending, Rule, gives, takes_delimiter}
-use Rattle.latex2mathml_tex_grammar.specs.Starts.{mark_of}
+use Rattle.latex2mathml_tex_grammar.specs.Reading.{Outcome, ReadsRule, rule_gives, rule_refuses, operand_read, operand_refused, core_read, core_refused, core_missing, core_stopped, atoms_read, atoms_refused, words_read, words_refused, units_taken, units_missing, digits_taken, delimiter_taken, delimiter_missing, ReadsOperand, group_operand, group_refused, digit_operand, other_operand, other_refused, no_operand, operand_at_end, operand_stopped, ReadsScripts, scripts_end, mark_taken, script_read, script_refused, mark_refused, ReadsAtom, divider_read, divider_refused, on_empty_row, base_read, base_refused, ReadsAtoms, text_ends, never_ended, atoms_stopped, atoms_end, atom_read, atom_refused, rest_read, change_refused, ReadsWord, word_stands, group_of_words, formula_read, formula_refused, words_in_alphabet, no_word, word_missing, word_at_end, word_stopped, ReadsWords, words_end, words_never_ended, words_stopped, word_read, word_refused, found_taken, found_refused, passed_over, rows_read, rows_refused, ReadsRows, cell_read, cell_refused, ReadsBehindCell, next_cell, next_row, table_ends}
+use Rattle.latex2mathml_tex_grammar.specs.Rules.{Context, Ending, Rule, gives, takes_delimiter, TableEnd, WholeText, InBraces, InBrackets, InDollars, InDelimiters, InCell}
+use Rattle.latex2mathml_tex_grammar.specs.Starts.{mark_of, left_behind}
 use Rattle.latex2mathml_tex_grammar.specs.Units.{Unit, Units}
 use Rattle.latex2mathml_tex_grammar.specs.Words.{Formula, Words}
-use Rattle.latex2mathml_tex_grammar.proofs.Allowed.{IsAllowedPiece, AreAllowedUnits, IsAllowedCore, IsAllowedAtom, IsAllowedOperand, IsAllowedRow, AreAllowedScripts, AreAllowedWords, IsAllowedWordRule, IsAllowedStep, IsAllowedRule, IsAllowedOutcome}
+use Rattle.latex2mathml_tex_grammar.proofs.Allowed.{IsAllowedPiece, AreAllowedUnits, IsAllowedCore, IsAllowedAtom, IsAllowedOperand, IsAllowedPart, IsAllowedRest, IsAllowedRow, AreAllowedScripts, AreAllowedWords, IsAllowedWordRule, IsAllowedStep, IsAllowedRule, IsAllowedOutcome, AreAllowedElements, AreAllowedLines}
 use Rattle.latex2mathml_tex_grammar.proofs.AllowedMakes.{number_allowed, row_children_allowed, row_element_allowed, scripted_allowed, single_allowed, with_atom_allowed}
+use Rattle.latex2mathml_tex_grammar.proofs.AllowedMacros.{expansion_allowed, macros_allowed}
+use Rattle.latex2mathml_tex_grammar.proofs.AllowedRests.{finished_allowed, rest_allowed}
+use Rattle.latex2mathml_tex_grammar.proofs.AllowedRows.{given_allowed, past_spot_allowed, past_break_allowed, a_row_allowed, with_last_allowed}
 use Rattle.latex2mathml_tex_grammar.proofs.AllowedRules.{IsPlainStart, start_plain, delimiter_given, rule_allowed, step_allowed, with_word_allowed, word_rule_allowed}
 use Rattle.latex2mathml_tex_grammar.proofs.AllowedUnits.{digits_taken as digits_next_allowed, next_allowed, next_taken, past_allowed, units_allowed}
 
 divider_allowed : IsAllowedRule (takes_delimiter (λ sign_text. gives (core (divider sign_text))))
 divider_allowed = λ sign_text h. h
+
+nothing_read : IsAllowedPart empty_row
+nothing_read = record { elements = tt; before = tt; upper = tt }
+
+left_allowed : (ending : Ending) (u : Unit) (m : Units) → IsAllowedPiece u.piece → AreAllowedUnits m → AreAllowedUnits (left_behind ending u m)
+left_allowed WholeText u m h k = k
+left_allowed (InBraces place) u m h k = k
+left_allowed (InBrackets place) u m h k = k
+left_allowed (InDollars place) u m h k = k
+left_allowed (InDelimiters place) u m h k = k
+left_allowed (InCell end place) u m h k = (h, k)
 
 mutual
   rules : {r : Rule} {l : Units} {o : Outcome Core} → ReadsRule r l o → IsAllowedRule r → AreAllowedUnits l → IsAllowedOutcome IsAllowedCore o
@@ -30,7 +46,7 @@ mutual
   rules (core_refused p d) h k = tt
   rules (core_missing p) h k = tt
   rules (core_stopped p) h k = tt
-  rules (atoms_read {row = row} d ds) h k = (let read = rows d tt k in rules ds (h row read.0) read.1)
+  rules (atoms_read {row = row} d ds) h k = (let read = rows d nothing_read k in rules ds (h row read.0) read.1)
   rules (atoms_refused d) h k = tt
   rules (words_read {l = l} {ws = ws} d ds) h k = (let read = words d tt (past_allowed l k) in rules ds (h ws read.0) read.1)
   rules (words_refused d) h k = tt
@@ -41,10 +57,16 @@ mutual
   rules (delimiter_taken {l = l} {m = m} {sign_text = sign_text} p ds) h k =
       let taken = next_taken (delimiter_of ∷ []) l m sign_text p k in rules ds (h sign_text (delimiter_given sign_text taken.0)) taken.1
   rules (delimiter_missing p) h k = tt
+  rules (found_taken {spot = spot} {place = place} {l = l} {m = m} {text = text} e d) h k = rules d (h text) (given_allowed place l m spot text e k)
+  rules (found_refused e) h k = tt
+  rules (passed_over {spot = spot} {l = l} d) h k = rules d h (past_spot_allowed spot l k)
+  rules (rows_read {l = l} {m = m} {u = u} {lines = lines} d p ds) h k =
+      let read = tables d tt tt (past_spot_allowed BeforeRow l k) in rules ds (h lines u.place read.0) (next_allowed m p read.1).1
+  rules (rows_refused d) h k = tt
 
   operands : {place : ℕ} {c : Context} {l : Units} {o : Outcome Operand} → ReadsOperand place c l o → AreAllowedUnits l → IsAllowedOutcome IsAllowedOperand o
   operands (group_operand {l = l} {row = row} p s d) k =
-      let read = rows d tt (next_allowed l p k).1 in (row_element_allowed row.elements read.0, read.1)
+      let read = rows d nothing_read (next_allowed l p k).1 in (row_element_allowed row.elements read.0, read.1)
   operands (group_refused p s d) k = tt
   operands (digit_operand {c = c} {l = l} {u = u} {digit = digit} p s) k =
       (single_allowed c.style (number c.alphabet digit) (number_allowed c.alphabet digit (subst IsPlainStart s (start_plain u.piece))), (next_allowed l p k).1)
@@ -75,23 +97,35 @@ mutual
       let read = rules d (rule_allowed u.place c u.piece h) k in marks ds read.0 (tt, tt) read.1
   atoms (base_refused s d) h k = tt
 
-  rows : {ending : Ending} {c : Context} {row : Row} {l : Units} {o : Outcome Row} → ReadsAtoms ending c row l o → IsAllowedRow row → AreAllowedUnits l → IsAllowedOutcome IsAllowedRow o
-  rows (text_ends p s) h k = (h, tt)
+  rows : {ending : Ending} {c : Context} {row : Row} {l : Units} {o : Outcome Row} → ReadsAtoms ending c row l o → IsAllowedPart row → AreAllowedUnits l → IsAllowedOutcome IsAllowedRow o
+  rows (text_ends {c = c} {row = row} p s) h k = (finished_allowed c.style row h, tt)
   rows (never_ended p s) h k = tt
   rows (atoms_stopped p) h k = tt
-  rows (atoms_end {l = l} p s) h k = (h, (next_allowed l p k).1)
+  rows (atoms_end {ending = ending} {c = c} {row = row} {l = l} {m = m} {u = u} p s) h k = (let next = next_allowed l p k in (finished_allowed c.style row h, left_allowed ending u m next.0 next.1))
   rows (atom_read {c = c} {row = row} {l = l} {x = x} p s d ds) h k =
       let next = next_allowed l p k in
       let read = atoms d next.0 next.1 in
-      rows ds (with_atom_allowed c.style row x h read.0) read.1
+      rows ds (record { elements = with_atom_allowed c.style row x h.elements read.0; before = h.before; upper = h.upper }) read.1
   rows (atom_refused p s d) h k = tt
+  rows (rest_read {c = c} {row = row} {change = change} {l = l} p s t e d) h k = rows d (subst IsAllowedRest e (rest_allowed change c row h)) (next_allowed l p k).1
+  rows (change_refused p s t e) h k = tt
+
+  tables : {end : TableEnd} {place : ℕ} {columns : Columns} {c : Context} {before cells : List Element} {l : Units} {o : Outcome Lines} → ReadsRows end place columns c before cells l o → AreAllowedElements before → AreAllowedElements cells → AreAllowedUnits l → IsAllowedOutcome AreAllowedLines o
+  tables (cell_read d ds) h i k = (let read = rows d (record { elements = tt; before = tt; upper = tt }) k in behind_cells ds h i read.0 read.1)
+  tables (cell_refused d) h i k = tt
+
+  behind_cells : {end : TableEnd} {place : ℕ} {columns : Columns} {c : Context} {before cells cell : List Element} {l : Units} {o : Outcome Lines} → ReadsBehindCell end place columns c before cells cell l o → AreAllowedElements before → AreAllowedElements cells → AreAllowedElements cell → AreAllowedUnits l → IsAllowedOutcome AreAllowedLines o
+  behind_cells (next_cell {cell = cell} {l = l} p s d) h i j k = tables d h (row_element_allowed cell j, i) (next_allowed l p k).1
+  behind_cells (next_row {cells = cells} {cell = cell} {l = l} {m = m} p s d) h i j k =
+      tables d (a_row_allowed (row_element cell ∷ cells) (row_element_allowed cell j, i), h) tt (past_break_allowed m (next_allowed l p k).1)
+  behind_cells (table_ends {rows = before} {cells = cells} {cell = cell} p s) h i j k = (with_last_allowed before cells cell h i j, k)
 
   words : {place : ℕ} {a : Option Alphabet} {ws : Words} {l : Units} {o : Outcome Words} → ReadsWord place a ws l o → AreAllowedWords ws → AreAllowedUnits l → IsAllowedOutcome AreAllowedWords o
   words (word_stands {a = a} {ws = ws} {u = u} {w = w} s) h k =
       (with_word_allowed ws w h (subst IsAllowedWordRule s (word_rule_allowed a u.piece k.0)), k.1)
   words (group_of_words s d) h k = word_lists d h k.1
   words (formula_read {ws = ws} {row = row} s d) h k =
-      let read = rows d tt k.1 in (with_word_allowed ws (Formula (row_element row.elements)) h (row_element_allowed row.elements read.0), read.1)
+      let read = rows d nothing_read k.1 in (with_word_allowed ws (Formula (row_element row.elements)) h (row_element_allowed row.elements read.0), read.1)
   words (formula_refused s d) h k = tt
   words (words_in_alphabet {l = l} s d) h k = words d h (past_allowed l k.1)
   words (no_word s) h k = tt
@@ -106,15 +140,16 @@ mutual
   word_lists (word_read s d ds) h k = (let read = words d h k in word_lists ds read.0 read.1)
   word_lists (word_refused s d) h k = tt
 
-pub reading_allowed : (text : List ℕ) (style : Style) (row : Row) → IsReading text style row → IsAllowedRow row
+pub reading_allowed : (definitions : List ℕ) (macros : Table) (text : List ℕ) (style : Style) (row : Row) → Defines definitions macros → IsReading macros text style row → IsAllowedRow row
 unfolding IsReading
-reading_allowed text style row (units, has, (end, d)) = (rows d tt (units_allowed has)).0
+reading_allowed definitions macros text style row h (units, own, (end, d)) =
+    (rows d nothing_read (expansion_allowed own.expands (macros_allowed h) (units_allowed own.spelled))).0
 
 -- the markup of a reading holds no character that XML forbids, and no dollar sign
-pub markup_allowed : (text : List ℕ) (style : Style) (row : Row) → IsReading text style row → IsAllowed (row_print style row) × IsDollarFree (row_print style row)
-markup_allowed text style row h =
+pub markup_allowed : (definitions : List ℕ) (macros : Table) (text : List ℕ) (style : Style) (row : Row) → Defines definitions macros → IsReading macros text style row → IsAllowed (row_print style row) × IsDollarFree (row_print style row)
+markup_allowed definitions macros text style row h reading =
     let xs = children (reverse row.elements) in
-    let each = row_children_allowed row.elements (reading_allowed text style row h) in
+    let each = row_children_allowed row.elements (reading_allowed definitions macros text style row h reading) in
     (allowed_print (is_display style) xs each, dollar_free (is_display style) xs)
 
 -- the law

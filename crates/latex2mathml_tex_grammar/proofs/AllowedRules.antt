@@ -1,21 +1,24 @@
 -- The rule of a unit without a character that XML forbids gives none, and so it is of marks and in words.
-use Rattle.std.proofs.Common.{◌≡◌, ℕ, pos, Bool, true, false, ◌==◌, List, [], ◌∷◌, ◌++◌, Option, Some, None, refl, sym, ap, subst, ◌∙◌, append-nil, codes}
-use Rattle.std.specs.{Bool.⊤, Char.is_ascii_digit, Str.byte, Str.bytes_eq}
-use Rattle.latex2mathml_elements.specs.{Element.Element, Element.token, Element.space, Element.container, Element.pair, Element.triple}
+use Rattle.std.proofs.Common.{◌≡◌, ℕ, pos, Bool, true, false, ◌==◌, List, [], ◌∷◌, ◌++◌, Option, Some, None, refl, sym, ap, subst, ◌∙◌, append-nil}
+use Rattle.std.specs.{Bool.⊤, Char.is_ascii_digit, Str.byte}
+use Rattle.latex2mathml_elements.specs.{Element.Element, Element.token, Element.space, Element.container, Element.pair, Element.triple, Element.table}
 use Rattle.latex2mathml_elements.specs.Characters.{is_forbidden, IsAllowed, HasAllowedTexts}
 use Rattle.latex2mathml_elements.proofs.{Characters.allowed_both, Characters.allowed_char, Characters.allowed_plain, Plain.IsPlain}
 use Rattle.latex2mathml_tex_grammar.specs.{Commands.meaning_of, Commands.symbol_of, Delimiters.negated_of, Delimiters.delimiter_of}
 use Rattle.latex2mathml_tex_grammar.specs.Makes.{Core, core, Scripts, letter, symbol, spacing, struck, text}
 use Rattle.latex2mathml_tex_grammar.specs.Refusal.{Refusal, OutsideTable, MisplacedCharacter, CharacterInWords, refusal_at}
-use Rattle.latex2mathml_tex_grammar.specs.Meaning.{Meaning, Shows, FunctionName, Spacing, Styled, Words as TakesWordsIn, Fraction, Root, Accent, Brace, Stack, StackedRelation, OperatorName, Negation, Slash, Sized, Left, Middle, Right, Limits, NoLimits, Classed}
+use Rattle.latex2mathml_tex_grammar.specs.Meaning.{Meaning, Shows, FunctionName, Spacing, Styled, Words as TakesWordsIn, Fraction, Root, Accent, Brace, Stack, StackedRelation, OperatorName, Negation, Slash, Sized, Left, Middle, Right, Limits, NoLimits, Classed, Changes, BeginTable, EndTable, LineBreak, Substack}
 use Rattle.latex2mathml_tex_grammar.specs.Rows.{Operand}
 use Rattle.latex2mathml_tex_grammar.specs.Rules.{Context, Rule, gives, refuses, takes_if, a_character, a_digit, decimal, after_digits, a_number, a_symbol, begins_none, character_rule, struck_atom, slashed, meaning_rule, command_rule, rule}
 use Rattle.latex2mathml_tex_grammar.specs.Starts.{OperandStart, NoStart, GroupStart, DigitStart, operand_start, start_of_digit, Mark, Prime, Below, Above as AboveMark, LimitsAt, step_of, step_of_mark}
-use Rattle.latex2mathml_tex_grammar.specs.Symbols.{InText, Relation, Alphabet, Symbol}
+use Rattle.latex2mathml_tex_grammar.specs.Symbols.{InText, InScript, Relation, Alphabet, Symbol}
 use Rattle.latex2mathml_tex_grammar.specs.Units.{Piece, Space, Open, Close, Command, Character}
 use Rattle.latex2mathml_tex_grammar.specs.Words.{Word, Shown, Formula, WordRule, IsWord, BeginsFormula, NoWord, Words, is_escape, word_space, word_character, with_text, with_word, words_element, word_rule, character_rule as word_of_character, meaning_rule as word_of_meaning}
 use Rattle.latex2mathml_tex_grammar.proofs.Allowed.{IsAllowedPiece, AreAllowedElements, IsAllowedElement, IsAllowedCore, IsAllowedOperand, AreAllowedScripts, AreAllowedWords, IsAllowedWord, IsAllowedWordRule, IsAllowedStep, IsAllowedRule, AreGiven}
 use Rattle.latex2mathml_tex_grammar.proofs.AllowedMakes.{letter_allowed, upright_letter_allowed, symbol_allowed, number_allowed, row_element_allowed, single_allowed, struck_allowed, as_base_allowed, classed_allowed, accent_allowed, brace_allowed, stack_allowed, fraction_allowed, between_allowed, behind_primes_allowed}
+use Rattle.latex2mathml_elements.specs.Columns.{Alike, Dense}
+use Rattle.latex2mathml_tex_grammar.specs.Environments.{environment_of}
+use Rattle.latex2mathml_tex_grammar.proofs.AllowedRows.{a_table_allowed, environment_allowed, environment_passes}
 use Rattle.latex2mathml_tex_grammar.proofs.AllowedTables.{IsAllowedText, Passes, allowed_text, in_alphabet_allowed, is_allowed_meaning, is_allowed_symbol, meaning_passes, negated_allowed, delimiter_allowed, not_forbidden, symbol_passes}
 use Rattle.latex2mathml_tex_grammar.proofs.AllowedUnits.{a_digit_plain, a_point_plain, digit_plain, plain_both, point_plain}
 use Rattle.latex2mathml_tex_grammar.proofs.Choices.{of_chosen, of_either}
@@ -118,9 +121,14 @@ meaning_rule_allowed place c Right h = tt
 meaning_rule_allowed place c Limits h = tt
 meaning_rule_allowed place c NoLimits h = tt
 meaning_rule_allowed place c (Classed class) h = λ x k. classed_allowed class _ (as_base_allowed c.style class x k)
+meaning_rule_allowed place c (Changes change) h = tt
+meaning_rule_allowed place c BeginTable h = λ name. environment_allowed place c name (environment_of name) (environment_passes name)
+meaning_rule_allowed place c EndTable h = tt
+meaning_rule_allowed place c LineBreak h = tt
+meaning_rule_allowed place c Substack h = λ brace lines at k. a_table_allowed None (Alike Dense) InScript c.style lines tt k
 
 command_allowed : (place : ℕ) (c : Context) (name : List ℕ) (meaning : Option Meaning) → Passes is_allowed_meaning meaning → IsAllowedRule (command_rule place c name meaning)
-command_allowed place c name None h = of_either IsAllowedRule (bytes_eq name (codes "\\")) tt tt
+command_allowed place c name None h = tt
 command_allowed place c name (Some meaning) h = meaning_rule_allowed place c meaning h
 
 -- the rule of a unit
@@ -180,7 +188,7 @@ word_of_character_allowed alphabet c h =
     of_word_character IsAllowedWordRule alphabet c tt word_space_allowed tt (allowed_char (word_character alphabet c) (word_character_allowed alphabet c h))
 
 word_of_meaning_allowed : (name : List ℕ) (meaning : Option Meaning) → Passes is_allowed_meaning meaning → IsAllowedWordRule (word_of_meaning name meaning)
-word_of_meaning_allowed name None h = of_either IsAllowedWordRule (bytes_eq name (codes "\\")) tt tt
+word_of_meaning_allowed name None h = tt
 word_of_meaning_allowed name (Some (Shows s)) h = single_allowed InText (symbol None s).atom (symbol_allowed None s h)
 word_of_meaning_allowed name (Some (FunctionName limits own)) h = tt
 word_of_meaning_allowed name (Some (Spacing width)) h = word_space_allowed
@@ -202,6 +210,11 @@ word_of_meaning_allowed name (Some Right) h = tt
 word_of_meaning_allowed name (Some Limits) h = tt
 word_of_meaning_allowed name (Some NoLimits) h = tt
 word_of_meaning_allowed name (Some (Classed class)) h = tt
+word_of_meaning_allowed name (Some (Changes change)) h = tt
+word_of_meaning_allowed name (Some BeginTable) h = tt
+word_of_meaning_allowed name (Some EndTable) h = tt
+word_of_meaning_allowed name (Some LineBreak) h = tt
+word_of_meaning_allowed name (Some Substack) h = tt
 
 pub word_rule_allowed : (alphabet : Option Alphabet) (piece : Piece) → IsAllowedPiece piece → IsAllowedWordRule (word_rule alphabet piece)
 word_rule_allowed alphabet Space h = word_space_allowed
@@ -218,6 +231,7 @@ with_text_allowed true more (space width ∷ xs) h k = (h, k)
 with_text_allowed true more (container c a ys ∷ xs) h k = (h, k)
 with_text_allowed true more (pair p a y z ∷ xs) h k = (h, k)
 with_text_allowed true more (triple t a x y z ∷ xs) h k = (h, k)
+with_text_allowed true more (table a rows ∷ xs) h k = (h, k)
 with_text_allowed false more xs h k = (h, k)
 
 pub with_word_allowed : (ws : Words) (w : Word) → AreAllowedWords ws → IsAllowedWord w → AreAllowedWords (with_word ws w)

@@ -1,15 +1,19 @@
 -- What units come to, units come to that are alike but for white space.
-use Rattle.std.proofs.Common.{◌≡◌, ℕ, true, [], ◌∷◌, Option, refl, sym, subst, ◌∙◌}
+use Rattle.std.proofs.Common.{◌≡◌, ℕ, List, true, [], ◌∷◌, Option, refl, sym, subst, ◌∙◌}
+use Rattle.latex2mathml_elements.specs.Columns.{Columns}
 use Rattle.latex2mathml_tex_grammar.specs.{Atoms.Atom, Delimiters.delimiter_of, Makes.Core, Makes.Scripts, Refusal.MissingDelimiter, Refusal.Refusal, Rows.Row, Rows.Operand, Symbols.Alphabet, Words.Words}
-use Rattle.latex2mathml_tex_grammar.specs.Next.{digits_next}
-use Rattle.latex2mathml_tex_grammar.specs.Reading.{Outcome, Read, Refused, ReadsRule, rule_gives, rule_refuses, operand_read, operand_refused, core_read, core_refused, core_missing, core_stopped, atoms_read, atoms_refused, words_read, words_refused, units_taken, units_missing, digits_taken, delimiter_taken, delimiter_missing, ReadsOperand, group_operand, group_refused, digit_operand, other_operand, other_refused, no_operand, operand_at_end, operand_stopped, ReadsScripts, scripts_end, mark_taken, script_read, script_refused, mark_refused, ReadsAtom, divider_read, divider_refused, on_empty_row, base_read, base_refused, ReadsAtoms, text_ends, never_ended, atoms_stopped, atoms_end, atom_read, atom_refused, ReadsWord, word_stands, group_of_words, formula_read, formula_refused, words_in_alphabet, no_word, word_missing, word_at_end, word_stopped, ReadsWords, words_end, words_never_ended, words_stopped, word_read, word_refused}
-use Rattle.latex2mathml_tex_grammar.specs.Rules.{Context, Ending, Rule}
+use Rattle.latex2mathml_tex_grammar.specs.Next.{digits_next, past_space}
+use Rattle.latex2mathml_tex_grammar.specs.Reading.{Outcome, Read, Refused, ReadsRule, rule_gives, rule_refuses, operand_read, operand_refused, core_read, core_refused, core_missing, core_stopped, atoms_read, atoms_refused, words_read, words_refused, units_taken, units_missing, digits_taken, delimiter_taken, delimiter_missing, ReadsOperand, group_operand, group_refused, digit_operand, other_operand, other_refused, no_operand, operand_at_end, operand_stopped, ReadsScripts, scripts_end, mark_taken, script_read, script_refused, mark_refused, ReadsAtom, divider_read, divider_refused, on_empty_row, base_read, base_refused, ReadsAtoms, text_ends, never_ended, atoms_stopped, atoms_end, atom_read, atom_refused, rest_read, change_refused, ReadsWord, word_stands, group_of_words, formula_read, formula_refused, words_in_alphabet, no_word, word_missing, word_at_end, word_stopped, ReadsWords, words_end, words_never_ended, words_stopped, word_read, word_refused, found_taken, found_refused, passed_over, rows_read, rows_refused, ReadsRows, cell_read, cell_refused, ReadsBehindCell, next_cell, next_row, table_ends}
+use Rattle.latex2mathml_tex_grammar.specs.Rules.{Context, Ending, Rule, TableEnd, InCell}
 use Rattle.latex2mathml_tex_grammar.specs.Spacing.{Standing, InWords, standing_behind, AreAlike, both_end, same_piece}
 use Rattle.latex2mathml_tex_grammar.specs.Starts.{is_close}
-use Rattle.latex2mathml_tex_grammar.specs.Units.{Piece, Space, Open, Close, Command, Character, Unit, unit, Units, End}
-use Rattle.latex2mathml_tex_grammar.proofs.AlikeRules.{AlikeEndings, both_braces, both_dollars, same_ends, same_start, unended_too, never_ended_too, inside, ended_behind, WordsStand, before_words, within_words, AlikeRules, gives_too, refuses_too, operand_too, core_too, atoms_too, words_too, if_too, digits_taken_too, delimiter_too, rules_too, delimiter_tests}
-use Rattle.latex2mathml_tex_grammar.proofs.Plain.{divider_plain, digit_start_plain, group_start_plain, step_plain}
-use Rattle.latex2mathml_tex_grammar.proofs.Spaces.{Front, both_next, both_ended, both_stopped, fronts, fronts_of_words, next_too, end_too, stop_too, refused_too, same_step, IsCalm, in_dollars, behind_plain, taken_too, missing_too, digits_too}
+use Rattle.latex2mathml_tex_grammar.specs.Units.{Piece, Space, Open, Close, Command, Character, Unit, unit, Units, End, Next}
+use Rattle.latex2mathml_tex_grammar.proofs.AlikeRules.{AlikeEndings, both_braces, both_dollars, same_ends, same_start, unended_too, never_ended_too, inside, WordsStand, before_words, within_words, AlikeRules, gives_too, refuses_too, operand_too, core_too, atoms_too, words_too, if_too, digits_taken_too, delimiter_too, rules_too, delimiter_tests, both_cells, cell_ends, left_too, scanned_too, passed_too, rows_too}
+use Rattle.latex2mathml_tex_grammar.proofs.Plain.{has_end, change_start_plain, divider_plain, digit_start_plain, group_start_plain, step_plain}
+use Rattle.latex2mathml_tex_grammar.proofs.Spaces.{Front, next_stays, both_next, both_ended, both_stopped, fronts, fronts_of_words, next_too, end_too, stop_too, refused_too, same_step, IsCalm, in_dollars, behind_plain, taken_too, missing_too, digits_too, IsPlain}
+use Rattle.latex2mathml_elements.specs.Element.{Element}
+use Rattle.latex2mathml_tex_grammar.specs.{Scanning.BeforeRow, Tables.Lines}
+use Rattle.latex2mathml_tex_grammar.proofs.{Scans.found_too, Scans.refused_too as found_refused_too, Scans.past_too, Scans.past_break_too}
 use Rattle.latex2mathml_tex_grammar.proofs.{WordPieces.word_ends, WordPieces.formula_begins, WordPieces.words_begin, WordPieces.words_follow}
 
 -- the same is read, and the units behind it are alike, or the refusal is for the same reason
@@ -39,6 +43,26 @@ closed at Space s h = cc
 closed at Open s h = cc
 closed at (Command name) s h = cc
 closed at (Character c) s h = cc
+
+-- what ends a cell is plain, and so is what ends a table
+
+abbrev EndsInCell : Units → Type 0
+EndsInCell l = (m : Units) (u : Unit) → past_space l ≡ Next u m → IsPlain u.piece
+
+left_ends : {end : TableEnd} {place : ℕ} {c : Context} {row other : Row} {l n : Units} → ReadsAtoms (InCell end place) c row l (Read other n) → EndsInCell n
+left_ends {end} {place} (text_ends p s) m v q = absurd (has_end end place s)
+left_ends {end} {place} (atoms_end {l = l} {m = k} {u = u} p s) m v q = (let stays : past_space (Next u k) ≡ Next u k = next_stays l u k p in let same : u ≡ v = cc in subst (λ u. IsPlain u.piece) same (cell_ends end place u.piece s))
+left_ends (atom_read p s d ds) m v q = left_ends ds m v q
+left_ends (rest_read p s t r d) m v q = left_ends d m v q
+
+mutual
+  rows_end : {end : TableEnd} {place : ℕ} {columns : Columns} {c : Context} {rows cells : List Element} {l n : Units} {lines : Lines} → ReadsRows end place columns c rows cells l (Read lines n) → EndsInCell n
+  rows_end (cell_read d ds) = cell_behind_ends ds (left_ends d)
+
+  cell_behind_ends : {end : TableEnd} {place : ℕ} {columns : Columns} {c : Context} {rows cells cell : List Element} {l n : Units} {lines : Lines} → ReadsBehindCell end place columns c rows cells cell l (Read lines n) → EndsInCell l → EndsInCell n
+  cell_behind_ends (next_cell p s d) ended = rows_end d
+  cell_behind_ends (next_row p s d) ended = rows_end d
+  cell_behind_ends (table_ends p s) ended = ended
 
 mutual
   -- Where units stand in a formula all is carried over, to rules that are alike.
@@ -73,6 +97,16 @@ mutual
   carry_rule (delimiter_taken {sign_text = sign_text} p d) (delimiter_too same) calm h =
       let taken = taken_too (delimiter_of ∷ []) delimiter_tests calm h p in also (carry_rule d (same sign_text) calm taken.alike) (λ p. delimiter_taken taken.is)
   carry_rule (delimiter_missing p) (delimiter_too same) calm h = also_refused _ (refused_too MissingDelimiter h) (delimiter_missing (missing_too (delimiter_of ∷ []) delimiter_tests calm h p))
+  carry_rule (found_taken {text = text} e d) (scanned_too {spot = spot} {p = p} {q = q} same) calm h =
+      let found = found_too p q spot calm h e in also (carry_rule d (same text) calm found.alike) (λ p. found_taken found.is)
+  carry_rule (found_refused e) (scanned_too {spot = spot} {p = p} {q = q} same) calm h = (let (r, kind, f) = found_refused_too p q spot calm h e in also_refused r kind (found_refused f))
+  carry_rule (passed_over {spot = spot} d) (passed_too same) calm h = also (carry_rule d same calm (past_too spot calm h)) (λ p. passed_over)
+  carry_rule (rows_read {u = u} {lines = lines} d p ds) (rows_too {q = q} same) calm h =
+      let (n, alike, e) = read_is (carry_rows q d calm (past_too BeforeRow calm h)) in
+      let next = next_too alike p in
+      let plain = behind_plain u.piece (rows_end d _ u p) calm next.alike in
+      also (carry_rule ds (same lines u.place next.place) calm plain) (λ p. rows_read e next.is)
+  carry_rule (rows_refused d) (rows_too {q = q} same) calm h = (let (r, kind, e) = refused_is (carry_rows q d calm (past_too BeforeRow calm h)) in also_refused r kind (rows_refused e))
 
   -- the places of what takes it are nothing
   carry_operand : {at : Standing} {place : ℕ} {c : Context} {l m : Units} {o : Outcome Operand} (other : ℕ) → ReadsOperand place c l o → IsCalm at → AreAlike at l m → Carried at (ReadsOperand other c m) o
@@ -138,7 +172,7 @@ mutual
       also_refused q kind (never_ended e t)
   carry_atoms at (atoms_stopped p) ending calm h = (let (q, kind, e) = stop_too h p in also_refused q kind (atoms_stopped e))
   carry_atoms {e = e} at (atoms_end {u = u} p s) ending calm h =
-      let next = next_too h p in also_read next.rest (stands (ended_behind e u.piece s calm) next.alike) (atoms_end next.is (sym (same_ends ending u.piece) ∙ s))
+      let next = next_too h p in also_read _ (left_too at ending u (unit u.piece next.place) refl s calm next.alike) (atoms_end next.is (sym (same_ends ending u.piece) ∙ s))
   carry_atoms {e = e} at (atom_read {u = u} p s d ds) ending calm h =
       let next = next_too h p in
       let (n, alike, x) = read_is (carry_atom next.place d ending calm next.alike) in
@@ -147,6 +181,27 @@ mutual
       let next = next_too h p in
       let (r, kind, x) = refused_is (carry_atom next.place d ending calm next.alike) in
       also_refused r kind (atom_refused next.is (sym (same_ends ending u.piece) ∙ s) x)
+  carry_atoms {e = e} at (rest_read {change = change} {u = u} p s t r d) ending calm h =
+      let next = next_too h p in
+      also (carry_atoms at d ending calm (behind_plain u.piece (change_start_plain e u.piece change t) calm next.alike))
+      (λ p. rest_read next.is (sym (same_ends ending u.piece) ∙ s) (sym (same_start ending u.piece) ∙ t) r)
+  carry_atoms at (change_refused {u = u} p s t r) ending calm h =
+      let next = next_too h p in
+      also_refused _ refl (change_refused next.is (sym (same_ends ending u.piece) ∙ s) (sym (same_start ending u.piece) ∙ t) r)
+
+  carry_rows : {at : Standing} {end : TableEnd} {place : ℕ} {columns : Columns} {c : Context} {rows cells : List Element} {l m : Units} {o : Outcome Lines} (other : ℕ) → ReadsRows end place columns c rows cells l o → IsCalm at → AreAlike at l m → Carried at (ReadsRows end other columns c rows cells m) o
+  carry_rows {at = at} {end = end} other (cell_read d ds) calm h =
+      let (n, alike, e) = read_is (carry_atoms at d (both_cells end) calm h) in also (carry_behind_cell other (left_ends d) ds calm alike) (λ p. cell_read e)
+  carry_rows {at = at} {end = end} other (cell_refused d) calm h = (let (r, kind, e) = refused_is (carry_atoms at d (both_cells end) calm h) in also_refused r kind (cell_refused e))
+
+  carry_behind_cell : {at : Standing} {end : TableEnd} {place : ℕ} {columns : Columns} {c : Context} {rows cells cell : List Element} {l m : Units} {o : Outcome Lines} (other : ℕ) → EndsInCell l → ReadsBehindCell end place columns c rows cells cell l o → IsCalm at → AreAlike at l m → Carried at (ReadsBehindCell end other columns c rows cells cell m) o
+  carry_behind_cell other ended (next_cell {u = u} p s d) calm h =
+      let next = next_too h p in
+      also (carry_rows other d calm (behind_plain u.piece (ended _ u p) calm next.alike)) (λ p. next_cell next.is s)
+  carry_behind_cell other ended (next_row {u = u} p s d) calm h =
+      let next = next_too h p in
+      also (carry_rows other d calm (past_break_too calm (behind_plain u.piece (ended _ u p) calm next.alike))) (λ p. next_row next.is s)
+  carry_behind_cell {m = m} other ended (table_ends p s) calm h = (let next = next_too h p in also_read m h (table_ends next.is s))
 
   -- one part of words, which is all of those before which it stands
   carry_word : {before at : Standing} {place : ℕ} {a : Option Alphabet} {ws : Words} {l m : Units} {o : Outcome Words} (other : ℕ) → ReadsWord place a ws l o → WordsStand before at → Front before l m → Carried at (ReadsWord other a ws m) o

@@ -6,8 +6,9 @@ use Rattle.latex2mathml_tex_grammar.specs.{Commands.command_entries, Commands.me
 use Rattle.latex2mathml_tex_grammar.specs.Delimiters.{delimiter_characters, delimiter_commands, delimiter_of, negated_characters, negated_commands, negated_of, entry_of_name, text_of}
 use Rattle.latex2mathml_tex_grammar.specs.{Rules.a_character, Rules.a_digit}
 use Rattle.latex2mathml_tex_grammar.specs.Spacing.{takes_words}
-use Rattle.latex2mathml_tex_grammar.specs.Starts.{Mark, Prime, Below, Above, LimitsAt, Step, atom_start, DividerStart, start_of_mark, OperandStart, DigitStart, GroupStart, NoStart, operand_start, is_no_operand, is_open, start_of_digit, mark_of, step_of_mark, is_command}
-use Rattle.latex2mathml_tex_grammar.specs.{Makes.Scripts, Rules.Ending, Rules.WholeText, Rules.InBraces, Rules.InBrackets, Rules.InDollars, Rules.InDelimiters}
+use Rattle.latex2mathml_tex_grammar.specs.Meaning.{Change, Changes, Meaning}
+use Rattle.latex2mathml_tex_grammar.specs.Starts.{unended, change_meant, change_by, ChangeStart, Mark, Prime, Below, Above, LimitsAt, Step, atom_start, DividerStart, start_of_mark, OperandStart, DigitStart, GroupStart, NoStart, operand_start, is_no_operand, is_open, start_of_digit, mark_of, step_of_mark, is_command}
+use Rattle.latex2mathml_tex_grammar.specs.{Makes.Scripts, Rules.Ending, Rules.WholeText, Rules.InBraces, Rules.InBrackets, Rules.InDollars, Rules.InDelimiters, Rules.InCell, Rules.TableEnd, Rules.ByName, Rules.ByBrace}
 use Rattle.latex2mathml_tex_grammar.specs.Units.{Piece, Space, Open, Close, Command, Character}
 use Rattle.latex2mathml_tex_grammar.proofs.Spaces.{in_formula, in_dollars, no_dollar, IsPlain, ArePlain, character_plain, digit_plain}
 
@@ -36,6 +37,22 @@ right_plain = refl
 pub middle_plain : TakesNone (codes "middle")
 unfolding meaning_of command_entries commands_up_to_l commands_from_m
 middle_plain = refl
+
+pub end_plain : TakesNone (codes "end")
+unfolding meaning_of command_entries commands_up_to_l commands_from_m
+end_plain = refl
+
+pub break_plain : TakesNone (codes "\\")
+unfolding meaning_of command_entries commands_up_to_l commands_from_m
+break_plain = refl
+
+pub cr_plain : TakesNone (codes "cr")
+unfolding meaning_of command_entries commands_up_to_l commands_from_m
+cr_plain = refl
+
+pub newline_plain : TakesNone (codes "newline")
+unfolding meaning_of command_entries commands_up_to_l commands_from_m
+newline_plain = refl
 
 limits_plain : TakesNone (codes "limits")
 unfolding meaning_of command_entries commands_up_to_l commands_from_m
@@ -130,19 +147,25 @@ step_plain piece scripts step e = step_of (mark_of piece) refl e
     step_of None p e = cc
     step_of (Some mark) p e = mark_plain piece mark p
 
--- no mark begins a divider
-none : (mark : Option Mark) → start_of_mark mark ≡ DividerStart → ⊥
-none None e = cc
-none (Some Prime) e = cc
-none (Some Below) e = cc
-none (Some Above) e = cc
-none (Some (LimitsAt place)) e = cc
+-- a cell does not end with the text
+pub has_end : (end : TableEnd) (place : ℕ) → unended (InCell end place) ≡ None → ⊥
+has_end ByName place e = cc
+has_end ByBrace place e = cc
+
+-- no mark begins a divider, and no change does
+none : (change : Option Change) (mark : Option Mark) → start_of_mark change mark ≡ DividerStart → ⊥
+none (Some change) None e = cc
+none None None e = cc
+none change (Some Prime) e = cc
+none change (Some Below) e = cc
+none change (Some Above) e = cc
+none change (Some (LimitsAt place)) e = cc
 
 -- so is what begins a divider
 pub divider_plain : (ending : Ending) (piece : Piece) → atom_start ending piece ≡ DividerStart → IsPlain piece
 divider_plain (InDelimiters place) piece e = elim (cases_Bool (is_command (codes "middle") piece)) [
   | inl s ↦ middle_is piece s
-  | inr s ↦ absurd (none (mark_of piece) (rw s at e))
+  | inr s ↦ absurd (none (change_by piece) (mark_of piece) (rw s at e))
 ]
   where
     middle_is : (piece : Piece) → is_command (codes "middle") piece ≡ true → IsPlain piece
@@ -151,10 +174,44 @@ divider_plain (InDelimiters place) piece e = elim (cases_Bool (is_command (codes
     middle_is Space s = cc
     middle_is Open s = cc
     middle_is Close s = cc
-divider_plain WholeText piece e = absurd (none (mark_of piece) e)
-divider_plain (InBraces place) piece e = absurd (none (mark_of piece) e)
-divider_plain (InBrackets place) piece e = absurd (none (mark_of piece) e)
-divider_plain (InDollars place) piece e = absurd (none (mark_of piece) e)
+divider_plain WholeText piece e = absurd (none (change_by piece) (mark_of piece) e)
+divider_plain (InBraces place) piece e = absurd (none (change_by piece) (mark_of piece) e)
+divider_plain (InBrackets place) piece e = absurd (none (change_by piece) (mark_of piece) e)
+divider_plain (InDollars place) piece e = absurd (none (change_by piece) (mark_of piece) e)
+divider_plain (InCell end place) piece e = absurd (none (change_by piece) (mark_of piece) e)
+
+-- and so is what changes the rest of its group
+
+no_words : {change : Change} (meaning : Option Meaning) → change_meant meaning ≡ Some change → takes_words meaning ≡ false
+no_words None e = cc
+no_words (Some (Changes change)) e = refl
+no_words (Some meaning) e = cc
+
+change_plain : {change : Change} (piece : Piece) → change_by piece ≡ Some change → IsPlain piece
+change_plain (Command name) e = takes_none name (no_words (meaning_of name) e)
+change_plain (Character c) e = cc
+change_plain Space e = cc
+change_plain Open e = cc
+change_plain Close e = cc
+
+is_change : {change : Change} (found : Option Change) (mark : Option Mark) → start_of_mark found mark ≡ ChangeStart change → found ≡ Some change
+is_change (Some other) None e = cc
+is_change None None e = cc
+is_change found (Some Prime) e = cc
+is_change found (Some Below) e = cc
+is_change found (Some Above) e = cc
+is_change found (Some (LimitsAt place)) e = cc
+
+pub change_start_plain : (ending : Ending) (piece : Piece) (change : Change) → atom_start ending piece ≡ ChangeStart change → IsPlain piece
+change_start_plain (InDelimiters place) piece change e = elim (cases_Bool (is_command (codes "middle") piece)) [
+  | inl s ↦ absurd (cc (rw s at e))
+  | inr s ↦ change_plain piece (is_change (change_by piece) (mark_of piece) (rw s at e))
+]
+change_start_plain WholeText piece change e = change_plain piece (is_change (change_by piece) (mark_of piece) e)
+change_start_plain (InBraces place) piece change e = change_plain piece (is_change (change_by piece) (mark_of piece) e)
+change_start_plain (InBrackets place) piece change e = change_plain piece (is_change (change_by piece) (mark_of piece) e)
+change_start_plain (InDollars place) piece change e = change_plain piece (is_change (change_by piece) (mark_of piece) e)
+change_start_plain (InCell end place) piece change e = change_plain piece (is_change (change_by piece) (mark_of piece) e)
 
 -- How operands begin
 

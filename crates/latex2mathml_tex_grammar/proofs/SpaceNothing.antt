@@ -1,13 +1,13 @@
 -- White space between the units of a formula is nothing.
 use Rattle.std.proofs.Common.{◌≡◌, ℕ, List, refl, sym, subst, ◌∙◌}
-use Rattle.latex2mathml_tex_grammar.specs.{Formulas.IsReading, Formulas.IsRefusal, Formulas.formula_context, Laws.IsSpaceNothing, Refusal.Refusal, Rows.Row, Rows.empty_row, Symbols.Style}
+use Rattle.latex2mathml_tex_grammar.specs.{Expansion.Stands, Expansion.role_of, ExpansionLaws.AllStand, Formulas.IsExpansion, Formulas.IsReading, Formulas.IsRefusal, Formulas.formula_context, Laws.HaveAlikeExpansions, Laws.IsSpaceNothing, Laws.StandsByItself, Macros.Table, Refusal.Refusal, Rows.Row, Rows.empty_row, Symbols.Style}
 use Rattle.latex2mathml_tex_grammar.specs.Reading.{Outcome, Read, Refused, ReadsAtoms}
 use Rattle.latex2mathml_tex_grammar.specs.Rules.{Context, WholeText}
-use Rattle.latex2mathml_tex_grammar.specs.Spacing.{Standing, InFormula, standing_behind, AreAlike, both_end, both_stop, same_piece, space_before, space_behind, Alike, AreAlikeOutcomes}
+use Rattle.latex2mathml_tex_grammar.specs.Spacing.{Standing, InFormula, standing_behind, AreAlike, both_end, both_stop, same_piece, space_before, space_behind, Alike, AreAlikeOutcomes, HaveAlikeUnits}
 use Rattle.latex2mathml_tex_grammar.specs.Units.{Units, Next, End, Stop, HasUnits}
 use Rattle.latex2mathml_tex_grammar.proofs.{AlikeRules.both_whole}
 use Rattle.latex2mathml_tex_grammar.proofs.Carrying.{Carried, also_read, also_refused, carry_atoms}
-use Rattle.latex2mathml_tex_grammar.proofs.{OneList.units_are, Readings.to_the_end, Spaces.in_formula, Unique.one_atoms}
+use Rattle.latex2mathml_tex_grammar.proofs.{Expanded.own, OneList.units_are, Readings.expanded_are, Readings.to_the_end, Spaces.in_formula, Unique.one_atoms}
 
 carried : {c : Context} {row : Row} {l m : Units} {o : Outcome Row} → Alike l m → ReadsAtoms WholeText c row l o → Carried InFormula (ReadsAtoms WholeText c row m) o
 carried h d = carry_atoms InFormula d both_whole in_formula h
@@ -29,18 +29,34 @@ alike_outcomes : {reads : Outcome Row → Type 0} {o : Outcome Row} (p : Outcome
 alike_outcomes p (also_read {x = x} {l = l} n h d) one = subst (AreAlikeOutcomes (Read x l)) (one (Read x n) d) refl
 alike_outcomes p (also_refused {r = r} q e d) one = subst (AreAlikeOutcomes (Refused r)) (one (Refused q) d) e
 
--- a text has one list of units
-with_units : {text : List ℕ} {l m : Units} (P : Units → Type 0) → HasUnits 0 text l → HasUnits 0 text m → P l → P m
-with_units {text} {l} {m} P h k p = subst P (sym (units_are 0 text l h) ∙ units_are 0 text m k) p
+-- a text has one expansion
+with_units : {macros : Table} {text : List ℕ} {l m : Units} (P : Units → Type 0) → IsExpansion macros text l → IsExpansion macros text m → P l → P m
+with_units P h k p = subst P (sym (expanded_are h) ∙ expanded_are k) p
 
-reading_there : {text : List ℕ} {style : Style} {row : Row} {end : ℕ} {m : Units} → HasUnits 0 text m → Carried InFormula (ReadsAtoms WholeText (formula_context style) empty_row m) (Read row (End end)) → IsReading text style row
+reading_there : {macros : Table} {text : List ℕ} {style : Style} {row : Row} {end : ℕ} {m : Units} → IsExpansion macros text m → Carried InFormula (ReadsAtoms WholeText (formula_context style) empty_row m) (Read row (End end)) → IsReading macros text style row
 unfolding IsReading
 reading_there {style = style} {row = row} {m = m} has (also_read n h d) =
     let (other, e) = to_the_end d in (m, has, (other, subst (λ k. ReadsAtoms WholeText (formula_context style) empty_row m (Read row k)) e d))
 
-refusal_there : {text : List ℕ} {style : Style} {r : Refusal} {m : Units} → HasUnits 0 text m → Carried InFormula (ReadsAtoms WholeText (formula_context style) empty_row m) (Refused r) → (q : Refusal) × (r.kind ≡ q.kind) × IsRefusal text style q
+refusal_there : {macros : Table} {text : List ℕ} {style : Style} {r : Refusal} {m : Units} → IsExpansion macros text m → Carried InFormula (ReadsAtoms WholeText (formula_context style) empty_row m) (Refused r) → (q : Refusal) × (r.kind ≡ q.kind) × IsRefusal macros text style q
 unfolding IsRefusal
 refusal_there {m = m} has (also_refused q e d) = (q, e, (m, has, d))
+
+-- where no macro is used and none defined among units, neither is among those that are alike
+stand_there : (macros : Table) {at : Standing} {l m : Units} → AreAlike at l m → AllStand macros l → AllStand macros m
+stand_there macros both_end h = tt
+stand_there macros (both_stop e) h = tt
+stand_there macros (same_piece e d) h = (subst (λ p. role_of macros p ≡ Stands) e h.0, stand_there macros d h.1)
+stand_there macros (space_before w e d) h = stand_there macros d h.1
+stand_there macros (space_behind w e d) h = (rw e refl, stand_there macros d h)
+
+stands_itself : (macros : Table) (text : List ℕ) (l : Units) → HasUnits 0 text l → AllStand macros l → IsExpansion macros text l
+stands_itself macros text l has h = record { units = l; spelled = has; expands = own macros _ _ l h }
+
+alike_there : (macros : Table) (text other : List ℕ) → HaveAlikeUnits text other → StandsByItself macros text → HaveAlikeExpansions macros text other
+alike_there macros text other (l, m, has, there, h) (units, also, stand) =
+    let stands : AllStand macros l = subst (AllStand macros) (sym (units_are 0 text units also) ∙ units_are 0 text l has) stand in
+    (l, m, stands_itself macros text l has stands, stands_itself macros other m there (stand_there macros h stands), h)
 
 -- the law
 pub is_space_nothing : IsSpaceNothing
@@ -49,8 +65,9 @@ is_space_nothing = record {
   itself = itself InFormula;
   turned = λ l m h. turned h;
   outcomes = λ c row l m o p h d e. alike_outcomes p (carried h d) (λ q k. one_atoms k e);
-  readings = λ text other style row (l, m, has, there, h) (k, own, (end, d)).
-      reading_there there (carried h (with_units (λ k. ReadsAtoms WholeText (formula_context style) empty_row k (Read row (End end))) own has d));
-  refusals = λ text other style r (l, m, has, there, h) (k, own, d).
-      refusal_there there (carried h (with_units (λ k. ReadsAtoms WholeText (formula_context style) empty_row k (Refused r)) own has d));
+  readings = λ macros text other style row (l, m, has, there, h) (k, here, (end, d)).
+      reading_there there (carried h (with_units (λ k. ReadsAtoms WholeText (formula_context style) empty_row k (Read row (End end))) here has d));
+  refusals = λ macros text other style r (l, m, has, there, h) (k, here, d).
+      refusal_there there (carried h (with_units (λ k. ReadsAtoms WholeText (formula_context style) empty_row k (Refused r)) here has d));
+  expansions = alike_there;
 }

@@ -29,6 +29,18 @@ with_piece {at} {u} v {l} {m} e s h =
     let same : unit u.piece v.place ≡ v = ap (λ p. unit p v.place) e in
     subst (λ w. Front at (Next u l) (Next w m)) same (both_next v.place s h)
 
+pub past_twice : (l : Units) → past_space (past_space l) ≡ past_space l
+past_twice (Next u us) = elim (cases_Bool (is_space_piece u.piece)) [
+  | inl h ↦ rw h (past_twice us)
+  | inr h ↦ rw h (rw h refl)
+]
+past_twice (End place) = refl
+past_twice (Stop r) = refl
+
+-- a unit that stands next is no white space
+pub next_stays : (l : Units) (u : Unit) (m : Units) → past_space l ≡ Next u m → past_space (Next u m) ≡ Next u m
+next_stays l u m p = ap past_space (sym p) ∙ past_twice l ∙ p
+
 -- white space does not change where the units behind it stand
 stays : (at : Standing) (u : Unit) {l m : Units} → u.piece ≡ Space → Front (standing_behind u.piece at) l m → Front at l m
 stays at u {l} {m} e h = subst (λ p. Front (standing_behind p at) l m) e h

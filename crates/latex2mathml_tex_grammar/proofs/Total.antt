@@ -1,16 +1,22 @@
 -- Units have an outcome, whatever they are.
-use Rattle.std.proofs.Common.{ℕ, zero, suc, ◌-◌, ◌<◌, ◌≤◌, ◌≡◌, Bool, true, false, inl, inr, List, [], ◌∷◌, ◌++◌, Option, Some, None, refl, ap, ◌∙◌, arith, codes}
+use Rattle.std.proofs.Common.{ℕ, zero, suc, ◌-◌, ◌<◌, ◌≤◌, ◌≡◌, Bool, true, false, inl, inr, List, [], ◌∷◌, ◌++◌, length, Option, Some, None, refl, ap, ◌∙◌, arith, codes}
+use Rattle.std.specs.Bool.{⊤}
+use Rattle.latex2mathml_elements.specs.Element.{Element}
 use Rattle.std.proofs.lemmas.Bool.{cases_Bool}
-use Rattle.latex2mathml_tex_grammar.specs.{Atoms.Atom, Rows.Row, Rows.Operand, Rows.empty_row, Rows.row_element, Rows.with_atom, Rows.operand_of, Rows.single, Delimiters.delimiter_of, Laws.HasOneOutcome, Makes.Core, Makes.core, Makes.divider, Makes.Scripts, Makes.no_scripts, Meaning.Beside}
+use Rattle.std.specs.Bool.{⊤}
+use Rattle.latex2mathml_tex_grammar.specs.{Atoms.Atom, Rows.Row, Rows.Operand, Rows.empty_row, Rows.row_element, Rows.with_atom, Rows.operand_of, Rows.single, Delimiters.delimiter_of, Laws.HasOneOutcome, Makes.Core, Makes.core, Makes.divider, Makes.Scripts, Makes.no_scripts, Meaning.Beside, Meaning.Change, Tables.Lines, Tables.begun_cell, Tables.a_row, Tables.with_last}
 use Rattle.latex2mathml_tex_grammar.specs.Next.{is_space_piece, past_space, next_are, digits_next, digits_here}
-use Rattle.latex2mathml_tex_grammar.specs.Reading.{Outcome, Read, Refused, ReadsRule, rule_gives, rule_refuses, operand_read, operand_refused, core_read, core_refused, core_missing, core_stopped, atoms_read, atoms_refused, words_read, words_refused, units_taken, units_missing, digits_taken, delimiter_taken, delimiter_missing, ReadsOperand, group_operand, group_refused, digit_operand, other_operand, other_refused, no_operand, operand_at_end, operand_stopped, ReadsScripts, scripts_end, mark_taken, script_read, script_refused, mark_refused, ReadsAtom, divider_read, divider_refused, on_empty_row, base_read, base_refused, ReadsAtoms, text_ends, never_ended, atoms_stopped, atoms_end, atom_read, atom_refused, ReadsWord, word_stands, group_of_words, formula_read, formula_refused, words_in_alphabet, no_word, word_missing, word_at_end, word_stopped, ReadsWords, words_end, words_never_ended, words_stopped, word_read, word_refused}
+use Rattle.latex2mathml_tex_grammar.specs.Reading.{Outcome, Read, Refused, ReadsRule, rule_gives, rule_refuses, operand_read, operand_refused, core_read, core_refused, core_missing, core_stopped, atoms_read, atoms_refused, words_read, words_refused, units_taken, units_missing, digits_taken, delimiter_taken, delimiter_missing, ReadsOperand, group_operand, group_refused, digit_operand, other_operand, other_refused, no_operand, operand_at_end, operand_stopped, ReadsScripts, scripts_end, mark_taken, script_read, script_refused, mark_refused, ReadsAtom, divider_read, divider_refused, on_empty_row, base_read, base_refused, ReadsAtoms, text_ends, never_ended, atoms_stopped, atoms_end, atom_read, atom_refused, rest_read, change_refused, ReadsWord, word_stands, group_of_words, formula_read, formula_refused, words_in_alphabet, no_word, word_missing, word_at_end, word_stopped, ReadsWords, words_end, words_never_ended, words_stopped, word_read, word_refused, found_taken, found_refused, passed_over, rows_read, rows_refused, ReadsRows, cell_read, cell_refused, ReadsBehindCell, next_cell, next_row, table_ends}
 use Rattle.latex2mathml_tex_grammar.specs.Refusal.{Refusal}
-use Rattle.latex2mathml_tex_grammar.specs.Rules.{Context, in_context, styled, Ending, WholeText, InBraces, InBrackets, InDollars, InDelimiters, Rule, gives, refuses, reads_operand, reads_core, reads_atoms, reads_words, takes_if, takes_digits, takes_delimiter, rule, a_digit}
-use Rattle.latex2mathml_tex_grammar.specs.Starts.{Mark, start_of_mark, is_command, step_of, AtomStart, DividerStart, ScriptStart, RuleStart, OperandStart, NoStart, GroupStart, DigitStart, OtherStart, atom_start, operand_start, mark_of, Step, GoesOn, TakesOperand, Forbidden, step_of_mark, step_next, empty_base, ends, unended, is_close}
+use Rattle.latex2mathml_tex_grammar.specs.Rests.{Rest, GoesOnIn, NoRest, finished, rest_of}
+use Rattle.latex2mathml_tex_grammar.specs.Rules.{Context, in_context, styled, Ending, WholeText, InBraces, InBrackets, InDollars, InDelimiters, Rule, gives, refuses, reads_operand, reads_core, reads_atoms, reads_words, takes_if, takes_digits, takes_delimiter, rule, a_digit, TableEnd, InCell, takes_found, passes_over, reads_rows}
+use Rattle.latex2mathml_tex_grammar.specs.Starts.{Mark, change_by, start_of_mark, is_command, step_of, AtomStart, DividerStart, ScriptStart, RuleStart, ChangeStart, OperandStart, NoStart, GroupStart, DigitStart, OtherStart, atom_start, operand_start, mark_of, Step, GoesOn, TakesOperand, Forbidden, step_of_mark, step_next, empty_base, ends, unended, is_close, left_behind, CellEnd, PartsCells, EndsRow, EndsTable, cell_end}
+use Rattle.latex2mathml_elements.specs.Columns.{Columns}
+use Rattle.latex2mathml_tex_grammar.specs.Scanning.{Spot, BeforeStar, BeforeLength, BeforeRow, Deed, Passes, Adds, Ends, Leaves, Misses, Refuses, deed, done, may_end, found_at_end, with_character, Found, Given, Missing, scan, behind_found, past, past_break}
 use Rattle.latex2mathml_tex_grammar.specs.Symbols.{InText, InScript, Alphabet}
 use Rattle.latex2mathml_tex_grammar.specs.Units.{Piece, Space, Open, Close, Command, Character, Unit, Units, Next, End, Stop}
 use Rattle.latex2mathml_tex_grammar.specs.Words.{Words, no_words, Formula, with_word, WordRule, IsWord, BeginsGroup, EndsGroup, BeginsFormula, TakesWords, NoWord, word_rule}
-use Rattle.latex2mathml_tex_grammar.proofs.Unique.{one_atoms}
+use Rattle.latex2mathml_tex_grammar.proofs.{Plain.has_end, Spaces.next_stays, Unique.one_atoms}
 
 -- how many units there are
 abbrev size : Units → ℕ
@@ -71,6 +77,50 @@ size-digits_next (Next u us) = digits_shorten (is_space_piece u.piece) (a_digit 
 size-digits_next (End place) = omega arith
 size-digits_next (Stop r) = omega arith
 
+-- what is found leaves at most k units
+abbrev FoundFits : ℕ → Found → Type 0
+FoundFits k (Given text m) = size m ≤ k
+FoundFits k (Missing r) = ⊤
+
+found_more : (k : ℕ) (found : Found) → FoundFits k found → FoundFits (suc k) found
+found_more k (Given text m) h = omega arith
+found_more k (Missing r) h = tt
+
+found_longer : (c k : ℕ) (found : Found) → FoundFits k found → FoundFits k (with_character c found)
+found_longer c k (Given text m) h = h
+found_longer c k (Missing r) h = tt
+
+done_fits : (place : ℕ) (spot : Spot) (d : Deed) (u : Unit) (l : Units) (behind : Spot → Found) → ((next : Spot) → FoundFits (size l) (behind next)) → FoundFits (suc (size l)) (done place spot d u l behind)
+done_fits place spot (Passes next) u l behind h = found_more (size l) (behind next) (h next)
+done_fits place spot (Adds c next) u l behind h = found_longer c (suc (size l)) (behind next) (found_more (size l) (behind next) (h next))
+done_fits place spot Ends u l behind h = omega arith
+done_fits place spot Leaves u l behind h = omega arith
+done_fits place spot Misses u l behind h = tt
+done_fits place spot (Refuses kind) u l behind h = tt
+
+end_fits : (b : Bool) (l : Units) (r : Refusal) → FoundFits (size l) (found_at_end b l r)
+end_fits true l r = omega arith
+end_fits false l r = tt
+
+scan_fits : (place : ℕ) (l : Units) (spot : Spot) → FoundFits (size l) (scan place l spot)
+scan_fits place (Next u us) spot = done_fits place spot (deed spot u.piece) u us (scan place us) (scan_fits place us)
+scan_fits place (End at) spot = end_fits (may_end spot) (End at) _
+scan_fits place (Stop r) spot = end_fits (may_end spot) (Stop r) _
+
+size-behind_found : (l : Units) (found : Found) → FoundFits (size l) found → size (behind_found l found) ≤ size l
+size-behind_found l (Given text m) h = h
+size-behind_found l (Missing r) h = omega arith
+
+size-past : (spot : Spot) (l : Units) → size (past spot l) ≤ size l
+size-past spot l = size-behind_found l (scan 0 l spot) (scan_fits 0 l spot)
+
+size-past_break : (l : Units) → size (past_break l) ≤ size l
+size-past_break l =
+    let star = size-past BeforeStar l in
+    let length = size-past BeforeLength (past BeforeStar l) in
+    let row = size-past BeforeRow (past BeforeLength (past BeforeStar l)) in
+    omega arith
+
 -- whether units stand next that pass these tests
 data Finds (tests : List (Piece → Option (List ℕ))) (l : Units) : Type 0 where
   finds : (texts : List ℕ) (m : Units) → next_are tests l ≡ Some (texts, m) → size m ≤ size l → Finds tests l
@@ -89,6 +139,15 @@ find_next (test ∷ tests) l = elim (sees l) [
   | sees_stop r p ↦ finds_none (rw p refl)
 ]
 
+-- the rows of a table have an outcome, which leaves the unit that ends it, and fewer than k units behind it
+data RowsCome (reads : Outcome Lines → Type 0) (k : ℕ) : Type 0 where
+  rows_come : (lines : Lines) (l m : Units) (u : Unit) → past_space l ≡ Next u m → size m < k → reads (Read lines l) → RowsCome reads k
+  rows_none : (r : Refusal) → reads (Refused r) → RowsCome reads k
+
+with_rows : {P Q : Outcome Lines → Type 0} {j k : ℕ} → RowsCome P j → j ≤ k → ((o : Outcome Lines) → P o → Q o) → RowsCome Q k
+with_rows (rows_come lines l m u p fits d) h f = rows_come lines l m u p (omega arith) (f (Read lines l) d)
+with_rows (rows_none r d) h f = rows_none r (f (Refused r) d)
+
 -- there is an outcome for fewer than k units
 record HasOutcomes (k : ℕ) : Type 0 where
   of_rule : (r : Rule) (l : Units) → size l < k → Comes Core (ReadsRule r l) (size l)
@@ -96,6 +155,7 @@ record HasOutcomes (k : ℕ) : Type 0 where
   of_scripts : (c : Context) (base : Atom) (scripts : Scripts) (l : Units) → size l < k → Comes Atom (ReadsScripts c base scripts l) (size l)
   of_atoms : (ending : Ending) (c : Context) (row : Row) (l : Units) → size l < k → Comes Row (ReadsAtoms ending c row l) (size l)
   -- what is a part of words is taken
+  of_rows : (end : TableEnd) (place : ℕ) (columns : Columns) (c : Context) (rows cells : List Element) (l : Units) → size l < k → RowsCome (ReadsRows end place columns c rows cells l) (size l)
   of_word : (place : ℕ) (a : Option Alphabet) (ws : Words) (l : Units) → size l < k → Comes Words (ReadsWord place a ws l) (size l - 1)
   of_words : (place : ℕ) (a : Option Alphabet) (ws : Words) (l : Units) → size l < k → Comes Words (ReadsWords place a ws l) (size l)
 
@@ -140,19 +200,21 @@ scripts_total k has c base scripts l h = elim (sees l) [
 
 -- what begins with a script begins with a mark, which is no white space
 
-has_mark : (mark : Option Mark) → start_of_mark mark ≡ ScriptStart → (found : Mark) × (mark ≡ Some found)
-has_mark None e = cc
-has_mark (Some mark) e = (mark, refl)
+has_mark : (change : Option Change) (mark : Option Mark) → start_of_mark change mark ≡ ScriptStart → (found : Mark) × (mark ≡ Some found)
+has_mark (Some change) None e = cc
+has_mark None None e = cc
+has_mark change (Some mark) e = (mark, refl)
 
 script_mark : (ending : Ending) (piece : Piece) → atom_start ending piece ≡ ScriptStart → (found : Mark) × (mark_of piece ≡ Some found)
 script_mark (InDelimiters place) piece e = elim (cases_Bool (is_command (codes "middle") piece)) [
   | inl h ↦ absurd (cc (rw h at e))
-  | inr h ↦ has_mark (mark_of piece) (rw h at e)
+  | inr h ↦ has_mark (change_by piece) (mark_of piece) (rw h at e)
 ]
-script_mark WholeText piece e = has_mark (mark_of piece) e
-script_mark (InBraces place) piece e = has_mark (mark_of piece) e
-script_mark (InBrackets place) piece e = has_mark (mark_of piece) e
-script_mark (InDollars place) piece e = has_mark (mark_of piece) e
+script_mark WholeText piece e = has_mark (change_by piece) (mark_of piece) e
+script_mark (InBraces place) piece e = has_mark (change_by piece) (mark_of piece) e
+script_mark (InBrackets place) piece e = has_mark (change_by piece) (mark_of piece) e
+script_mark (InDollars place) piece e = has_mark (change_by piece) (mark_of piece) e
+script_mark (InCell end place) piece e = has_mark (change_by piece) (mark_of piece) e
 
 mark_no_space : (piece : Piece) (mark : Mark) → mark_of piece ≡ Some mark → is_space_piece piece ≡ false
 mark_no_space Space mark e = cc
@@ -161,38 +223,93 @@ mark_no_space Close mark e = refl
 mark_no_space (Command name) mark e = refl
 mark_no_space (Character c) mark e = refl
 
-begun_atom : (k : ℕ) → HasOutcomes k → (ending : Ending) (c : Context) (u : Unit) (l : Units) → size l < k → (start : AtomStart) → atom_start ending u.piece ≡ start → Comes Atom (ReadsAtom ending c u l) (size l)
-begun_atom k has ending c u l h DividerStart s = elim (has.of_rule (takes_delimiter (λ sign_text. gives (core (divider sign_text)))) l h) [
+-- no atom begins with a change
+abbrev BeginsAtom : AtomStart → Type 0
+BeginsAtom (ChangeStart change) = ⊥
+BeginsAtom start = ⊤
+
+begun_atom : (k : ℕ) → HasOutcomes k → (ending : Ending) (c : Context) (u : Unit) (l : Units) → size l < k → (start : AtomStart) → BeginsAtom start → atom_start ending u.piece ≡ start → Comes Atom (ReadsAtom ending c u l) (size l)
+begun_atom k has ending c u l h (ChangeStart change) none s = absurd none
+begun_atom k has ending c u l h DividerStart some s = elim (has.of_rule (takes_delimiter (λ sign_text. gives (core (divider sign_text)))) l h) [
   | comes_to x n fits d ↦ comes_to x.atom n fits (divider_read s d)
   | is_refused r d ↦ is_refused r (divider_refused s d)
 ]
-begun_atom k has ending c u l h RuleStart s =
+begun_atom k has ending c u l h RuleStart some s =
     after (λ x n. ReadsScripts c x.atom (no_scripts x.atom.kind x.limits) n) (has.of_rule (rule u.place c u.piece) l h) (omega arith) (λ x n fits. has.of_scripts c x.atom (no_scripts x.atom.kind x.limits) n (omega arith)) (λ x n o. base_read s) (λ r. base_refused s)
-begun_atom k has ending c u l h ScriptStart s =
+begun_atom k has ending c u l h ScriptStart some s =
     let (mark, e) = script_mark ending u.piece s in
     let stays : past_space (Next u l) ≡ Next u l = rw (mark_no_space u.piece mark e) refl in
     let step : step_of_mark (no_scripts empty_base.kind Beside) (mark_of u.piece) ≡ Some (step_of (no_scripts empty_base.kind Beside) None None mark) = rw e refl in
     with_outcome (stepped k has c empty_base (no_scripts empty_base.kind Beside) (Next u l) l u stays h _ step) (omega arith) (λ o. on_empty_row s)
 
 -- an atom that has an outcome, and then the atoms after it
-atom_total : (k : ℕ) → HasOutcomes k → (ending : Ending) (c : Context) (row : Row) (l m : Units) (u : Unit) → past_space l ≡ Next u m → size m < size l → size l < suc k → ends ending u.piece ≡ false → Comes Row (ReadsAtoms ending c row l) (size l)
-atom_total k has ending c row l m u p less h s = elim (begun_atom k has ending c u m (omega arith) (atom_start ending u.piece) refl) [
+atom_total : (k : ℕ) → HasOutcomes k → (ending : Ending) (c : Context) (row : Row) (l m : Units) (u : Unit) → past_space l ≡ Next u m → size m < size l → size l < suc k → ends ending u.piece ≡ false → (start : AtomStart) → BeginsAtom start → atom_start ending u.piece ≡ start → Comes Row (ReadsAtoms ending c row l) (size l)
+atom_total k has ending c row l m u p less h s start some t = elim (begun_atom k has ending c u m (omega arith) start some t) [
   | is_refused r d ↦ is_refused r (atom_refused p s d)
   | comes_to x n fits d ↦ with_outcome (has.of_atoms ending c (with_atom c.style row x) n (omega arith)) (omega arith) (λ o. atom_read p s d)
 ]
 
+-- .. or a change, and then what stands after it
+unit_total : (k : ℕ) → HasOutcomes k → (ending : Ending) (c : Context) (row : Row) (l m : Units) (u : Unit) → past_space l ≡ Next u m → size m < size l → size l < suc k → ends ending u.piece ≡ false → (start : AtomStart) → atom_start ending u.piece ≡ start → Comes Row (ReadsAtoms ending c row l) (size l)
+unit_total k has ending c row l m u p less h s (ChangeStart change) t = rest_total (rest_of change c row) refl
+  where
+    rest_total : (rest : Rest) → rest_of change c row ≡ rest → Comes Row (ReadsAtoms ending c row l) (size l)
+    rest_total (GoesOnIn d xs) e = with_outcome (has.of_atoms ending d xs m (omega arith)) (omega arith) (λ o. rest_read p s t e)
+    rest_total (NoRest kind) e = is_refused _ (change_refused p s t e)
+unit_total k has ending c row l m u p less h s DividerStart t = atom_total k has ending c row l m u p less h s DividerStart tt t
+unit_total k has ending c row l m u p less h s ScriptStart t = atom_total k has ending c row l m u p less h s ScriptStart tt t
+unit_total k has ending c row l m u p less h s RuleStart t = atom_total k has ending c row l m u p less h s RuleStart tt t
+
 ended_total : (ending : Ending) (c : Context) (row : Row) (l : Units) (at : ℕ) → past_space l ≡ End at → (refusal : Option Refusal) → unended ending ≡ refusal → Comes Row (ReadsAtoms ending c row l) (size l)
-ended_total ending c row l at p None e = comes_to row (End at) (omega arith) (text_ends p e)
+ended_total ending c row l at p None e = comes_to (finished c.style row) (End at) (omega arith) (text_ends p e)
 ended_total ending c row l at p (Some r) e = is_refused r (never_ended p e)
+
+size-left : (ending : Ending) (l m : Units) (u : Unit) → size m < size l → size (left_behind ending u m) ≤ size l
+size-left WholeText l m u h = omega arith
+size-left (InBraces place) l m u h = omega arith
+size-left (InBrackets place) l m u h = omega arith
+size-left (InDollars place) l m u h = omega arith
+size-left (InDelimiters place) l m u h = omega arith
+size-left (InCell end place) l m u h = omega arith
 
 atoms_total : (k : ℕ) → HasOutcomes k → (ending : Ending) (c : Context) (row : Row) (l : Units) → size l < suc k → Comes Row (ReadsAtoms ending c row l) (size l)
 atoms_total k has ending c row l h = elim (sees l) [
   | sees_end at p ↦ ended_total ending c row l at p (unended ending) refl
   | sees_stop r p ↦ is_refused r (atoms_stopped p)
   | sees_unit u m p less ↦ elim (cases_Bool (ends ending u.piece)) [
-    | inl s ↦ comes_to row m (omega arith) (atoms_end p s)
-    | inr s ↦ atom_total k has ending c row l m u p less h s
+    | inl s ↦ comes_to (finished c.style row) (left_behind ending u m) (size-left ending l m u less) (atoms_end p s)
+    | inr s ↦ unit_total k has ending c row l m u p less h s (atom_start ending u.piece) refl
   ]
+]
+
+-- atoms of a cell leave the unit that ends it
+left_in_cell : {end : TableEnd} {place : ℕ} {c : Context} {row other : Row} {l n : Units} → ReadsAtoms (InCell end place) c row l (Read other n) → (u : Unit) × ((m : Units) × (past_space n ≡ Next u m))
+left_in_cell {end} {place} (text_ends p s) = absurd (has_end end place s)
+left_in_cell (atoms_end {l = l} {m = m} {u = u} p s) = (u, (m, next_stays l u m p))
+left_in_cell (atom_read p s d ds) = left_in_cell ds
+left_in_cell (rest_read p s t r d) = left_in_cell d
+
+-- rows
+
+behind_cell_total : (k : ℕ) → HasOutcomes k → (end : TableEnd) (place : ℕ) (columns : Columns) (c : Context) (rows cells cell : List Element) (l m : Units) (u : Unit) → past_space l ≡ Next u m → size m < size l → size m < k → (ends : CellEnd) → cell_end u.piece ≡ ends → RowsCome (ReadsBehindCell end place columns c rows cells cell l) (size l)
+behind_cell_total k has end place columns c rows cells cell l m u p less h PartsCells s =
+    with_rows (has.of_rows end place columns c rows (row_element cell ∷ cells) m h) (omega arith) (λ o. next_cell p s)
+behind_cell_total k has end place columns c rows cells cell l m u p less h EndsRow s =
+    let short = size-past_break m in
+    with_rows (has.of_rows end place columns c (a_row (row_element cell ∷ cells) ∷ rows) [] (past_break m) (omega arith)) (omega arith) (λ o. next_row p s)
+behind_cell_total k has end place columns c rows cells cell l m u p less h EndsTable s =
+    rows_come (with_last rows cells cell) l m u p less (table_ends p s)
+
+-- fewer units stand behind the next one
+size-next : (l m : Units) (u : Unit) → past_space l ≡ Next u m → size m < size l
+size-next l m u p = (let fewer = size-past_space l in let same : size (past_space l) ≡ suc (size m) = ap size p in omega arith)
+
+rows_total : (k : ℕ) → HasOutcomes k → (end : TableEnd) (place : ℕ) (columns : Columns) (c : Context) (rows cells : List Element) (l : Units) → size l < suc k → RowsCome (ReadsRows end place columns c rows cells l) (size l)
+rows_total k has end place columns c rows cells l h = elim (atoms_total k has (InCell end place) c (begun_cell columns (length cells)) l h) [
+  | comes_to row n fits d ↦ (let (u, (m, p)) = left_in_cell d in
+      let less = size-next n m u p in
+      with_rows (behind_cell_total k has end place columns c rows cells row.elements n m u p less (omega arith) (cell_end u.piece) refl) fits (λ o. cell_read d))
+  | is_refused r d ↦ rows_none r (cell_refused d)
 ]
 
 begun_word : (k : ℕ) → HasOutcomes k → (place : ℕ) (a : Option Alphabet) (ws : Words) (u : Unit) (l : Units) → size l < k → (r : WordRule) → word_rule a u.piece ≡ r → Comes Words (ReadsWord place a ws (Next u l)) (size l)
@@ -242,6 +359,14 @@ after_core k has place c then l h follow = elim (sees l) [
   | sees_stop r p ↦ is_refused r (core_stopped p)
 ]
 
+after_found : (spot : Spot) (place : ℕ) (then : List ℕ → Rule) (l : Units) (found : Found) → scan place l spot ≡ found → FoundFits (size l) found → ((text : List ℕ) (m : Units) → size m ≤ size l → Comes Core (ReadsRule (then text) m) (size m)) → Comes Core (ReadsRule (takes_found spot place then) l) (size l)
+after_found spot place then l (Given text m) e fits follow = with_outcome (follow text m fits) fits (λ o. found_taken e)
+after_found spot place then l (Missing r) e fits follow = is_refused r (found_refused e)
+
+after_rows : {end : TableEnd} {place : ℕ} {columns : Columns} {c : Context} (then : Lines → ℕ → Rule) (l : Units) → RowsCome (ReadsRows end place columns c [] [] (past BeforeRow l)) (size l) → ((lines : Lines) (at : ℕ) (m : Units) → size m < size l → Comes Core (ReadsRule (then lines at) m) (size m)) → Comes Core (ReadsRule (reads_rows end place columns c then) l) (size l)
+after_rows then l (rows_come lines j m u p fits d) follow = with_outcome (follow lines u.place m fits) (omega arith) (λ o. rows_read d p)
+after_rows then l (rows_none r d) follow = is_refused r (rows_refused d)
+
 rule_total : (k : ℕ) → HasOutcomes k → (r : Rule) (l : Units) → size l < suc k → Comes Core (ReadsRule r l) (size l)
 rule_total k has (gives x) l h = comes_to x l (omega arith) rule_gives
 rule_total k has (refuses r) l h = is_refused r rule_refuses
@@ -256,6 +381,13 @@ rule_total k has (takes_if tests then otherwise) l h =
     after_tests l tests then otherwise (find_next tests l) (λ texts m fits. rule_total k has (then texts) m (omega arith)) (rule_total k has otherwise l h)
 rule_total k has (takes_digits then) l h =
     let less = size-digits_next l in with_outcome (rule_total k has (then (digits_next l).0) (digits_next l).1 (omega arith)) (omega arith) (λ o. digits_taken)
+rule_total k has (takes_found spot place then) l h =
+    after_found spot place then l (scan place l spot) refl (scan_fits place l spot) (λ text m fits. rule_total k has (then text) m (omega arith))
+rule_total k has (passes_over spot then) l h =
+    let less = size-past spot l in with_outcome (rule_total k has then (past spot l) (omega arith)) less (λ o. passed_over)
+rule_total k has (reads_rows end place columns c then) l h =
+    let less = size-past BeforeRow l in
+    after_rows then l (with_rows (rows_total k has end place columns c [] [] (past BeforeRow l) (omega arith)) less (λ o d. d)) (λ lines at m fits. rule_total k has (then lines at) m (omega arith))
 rule_total k has (takes_delimiter then) l h = after_delimiter l then (find_next (delimiter_of ∷ []) l) (λ texts m fits. rule_total k has (then texts) m (omega arith))
 
 -- so there is an outcome, however many units there are
@@ -265,6 +397,7 @@ outcomes zero = record {
   of_operand = λ place c l h. absurd (omega arith);
   of_scripts = λ c base scripts l h. absurd (omega arith);
   of_atoms = λ ending c row l h. absurd (omega arith);
+  of_rows = λ end place columns c rows cells l h. absurd (omega arith);
   of_word = λ place a ws l h. absurd (omega arith);
   of_words = λ place a ws l h. absurd (omega arith);
 }
@@ -273,6 +406,7 @@ outcomes (suc k) = record {
   of_operand = operand_total k (outcomes k);
   of_scripts = scripts_total k (outcomes k);
   of_atoms = atoms_total k (outcomes k);
+  of_rows = rows_total k (outcomes k);
   of_word = word_total k (outcomes k);
   of_words = words_total k (outcomes k);
 }

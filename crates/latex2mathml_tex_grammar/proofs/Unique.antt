@@ -1,10 +1,12 @@
 -- Two outcomes of the same units are one.
-use Rattle.std.proofs.Common.{◌≡◌, ℕ, Option, Some, None, refl, ap, subst}
+use Rattle.std.proofs.Common.{◌≡◌, ℕ, Option, Some, None, refl, sym, ap, subst, List}
 use Rattle.latex2mathml_elements.specs.Element.{Element}
+use Rattle.latex2mathml_elements.specs.Columns.{Columns}
 use Rattle.latex2mathml_tex_grammar.specs.{Atoms.Atom, Makes.Core, Makes.Scripts, Makes.no_scripts, Rows.Row, Rows.Operand, Rows.empty_row, Rows.with_atom}
-use Rattle.latex2mathml_tex_grammar.specs.Reading.{Outcome, Read, Refused, ReadsRule, rule_gives, rule_refuses, operand_read, operand_refused, core_read, core_refused, core_missing, core_stopped, atoms_read, atoms_refused, words_read, words_refused, units_taken, units_missing, digits_taken, delimiter_taken, delimiter_missing, ReadsOperand, group_operand, group_refused, digit_operand, other_operand, other_refused, no_operand, operand_at_end, operand_stopped, ReadsScripts, scripts_end, mark_taken, script_read, script_refused, mark_refused, ReadsAtom, divider_read, divider_refused, on_empty_row, base_read, base_refused, ReadsAtoms, text_ends, never_ended, atoms_stopped, atoms_end, atom_read, atom_refused, ReadsWord, word_stands, group_of_words, formula_read, formula_refused, words_in_alphabet, no_word, word_missing, word_at_end, word_stopped, ReadsWords, words_end, words_never_ended, words_stopped, word_read, word_refused}
-use Rattle.latex2mathml_tex_grammar.specs.Rules.{Context, Ending, InBraces, Rule, rule}
-use Rattle.latex2mathml_tex_grammar.specs.{Starts.step_next, Starts.step_of_mark, Starts.mark_of, Starts.Step, Starts.GoesOn, Starts.TakesOperand, Starts.Forbidden, Refusal.Kind, Refusal.refusal_at, Symbols.Alphabet, Words.Words, Words.WordRule, Words.TakesWords}
+use Rattle.latex2mathml_tex_grammar.specs.Reading.{Outcome, Read, Refused, ReadsRule, rule_gives, rule_refuses, operand_read, operand_refused, core_read, core_refused, core_missing, core_stopped, atoms_read, atoms_refused, words_read, words_refused, units_taken, units_missing, digits_taken, delimiter_taken, delimiter_missing, ReadsOperand, group_operand, group_refused, digit_operand, other_operand, other_refused, no_operand, operand_at_end, operand_stopped, ReadsScripts, scripts_end, mark_taken, script_read, script_refused, mark_refused, ReadsAtom, divider_read, divider_refused, on_empty_row, base_read, base_refused, ReadsAtoms, text_ends, never_ended, atoms_stopped, atoms_end, atom_read, atom_refused, rest_read, change_refused, ReadsWord, word_stands, group_of_words, formula_read, formula_refused, words_in_alphabet, no_word, word_missing, word_at_end, word_stopped, ReadsWords, words_end, words_never_ended, words_stopped, word_read, word_refused, found_taken, found_refused, passed_over, rows_read, rows_refused, ReadsRows, cell_read, cell_refused, ReadsBehindCell, next_cell, next_row, table_ends}
+use Rattle.latex2mathml_tex_grammar.specs.Rests.{Rest, GoesOnIn, NoRest, rest_of}
+use Rattle.latex2mathml_tex_grammar.specs.Rules.{Context, Ending, InBraces, Rule, rule, TableEnd}
+use Rattle.latex2mathml_tex_grammar.specs.{Meaning.Change, Starts.atom_start, Starts.ChangeStart, Starts.step_next, Starts.step_of_mark, Starts.mark_of, Starts.Step, Starts.GoesOn, Starts.TakesOperand, Starts.Forbidden, Refusal.Kind, Refusal.refusal_at, Symbols.Alphabet, Words.Words, Words.WordRule, Words.TakesWords, Scanning.Found, Scanning.Given, Scanning.past_break, Starts.CellEnd, Starts.cell_end, Next.past_space, Tables.Lines}
 use Rattle.latex2mathml_tex_grammar.specs.Units.{Unit, Units, Next}
 
 -- what holds of the unit that stands next, and of the units after it, holds whichever way it was found
@@ -13,6 +15,43 @@ next_is P {w} {m} {n} {u} {v} p q e =
     let same : v ≡ u = cc in
     let rest : n ≡ m = cc in
     subst (λ x. P x m) same (subst (λ k. P v k) rest e)
+
+-- and so it is of what follows a change
+
+one_rest : (ending : Ending) (c : Context) (row : Row) {w m n : Units} {u v : Unit} {a b : Change} {x y : Rest} → w ≡ Next u m → w ≡ Next v n → atom_start ending u.piece ≡ ChangeStart a → atom_start ending v.piece ≡ ChangeStart b → rest_of a c row ≡ x → rest_of b c row ≡ y → x ≡ y
+one_rest ending c row {u = u} {v = v} {a = a} {b = b} p q s t d e =
+    let unit : u ≡ v = cc in
+    let same : a ≡ b = cc in
+    cc
+
+abbrev ReadsRest : Ending → Outcome Row → Rest → Units → Type 0
+ReadsRest ending o (GoesOnIn c row) l = ReadsAtoms ending c row l o
+ReadsRest ending o (NoRest kind) l = ⊥
+
+rest_is : {ending : Ending} {w m n : Units} {u v : Unit} {c d : Context} {xs ys : Row} {o : Outcome Row} → w ≡ Next u m → w ≡ Next v n → GoesOnIn c xs ≡ GoesOnIn d ys → ReadsAtoms ending d ys n o → ReadsAtoms ending c xs m o
+rest_is {ending} {m = m} {n = n} {d = d} {ys = ys} {o = o} p q e r =
+    let rest : n ≡ m = cc in
+    subst (λ x. ReadsRest ending o x m) (sym e) (subst (λ k. ReadsAtoms ending d ys k o) rest r)
+
+refused_alike : {w m n : Units} {u v : Unit} {a b : Kind} → w ≡ Next u m → w ≡ Next v n → NoRest a ≡ NoRest b → refusal_at a u.place ≡ refusal_at b v.place
+refused_alike {u = u} {v = v} {a = a} {b = b} p q e =
+    let same : u ≡ v = cc in
+    let kind : a ≡ b = cc in
+    rw (same, kind) refl
+
+-- with which no atom begins
+
+no_atom : {ending : Ending} {c : Context} {u : Unit} {l : Units} {change : Change} {o : Outcome Atom} → ReadsAtom ending c u l o → atom_start ending u.piece ≡ ChangeStart change → ⊥
+no_atom (divider_read s d) t = cc
+no_atom (divider_refused s d) t = cc
+no_atom (on_empty_row s d) t = cc
+no_atom (base_read s d ds) t = cc
+no_atom (base_refused s d) t = cc
+
+atom_or_change : {ending : Ending} {c : Context} {w m n : Units} {u v : Unit} {change : Change} {o : Outcome Atom} → w ≡ Next u m → w ≡ Next v n → ReadsAtom ending c u m o → atom_start ending v.piece ≡ ChangeStart change → ⊥
+atom_or_change {ending} {u = u} {v = v} {change = change} p q d t =
+    let same : v ≡ u = cc in
+    no_atom d (subst (λ x. atom_start ending x.piece ≡ ChangeStart change) same t)
 
 -- what follows one outcome also follows the other, which is the same
 moved : {A : Type 0} (P : A → Units → Type 0) {x y : A} {m n : Units} → Read x m ≡ Read y n → P y n → P x m
@@ -49,6 +88,28 @@ rule_moved then {o = o} e d = moved (λ x m. ReadsRule (then x) m o) e d
 
 taken_moved : {A : Type 0} (then : A → Rule) {found : Option (A × Units)} {x y : A} {m n : Units} {o : Outcome Core} → found ≡ Some (x, m) → found ≡ Some (y, n) → ReadsRule (then y) n o → ReadsRule (then x) m o
 taken_moved then {o = o} p q d = moved_some (λ x m. ReadsRule (then x) m o) p q d
+
+found_moved : (then : List ℕ → Rule) {found : Found} {x y : List ℕ} {m n : Units} {o : Outcome Core} → found ≡ Given x m → found ≡ Given y n → ReadsRule (then y) n o → ReadsRule (then x) m o
+found_moved then {x = x} {y = y} {m = m} {n = n} {o = o} p q d =
+    let same : y ≡ x = cc in
+    let rest : n ≡ m = cc in
+    subst (λ z. ReadsRule (then z) m o) same (subst (λ k. ReadsRule (then y) k o) rest d)
+
+rows_moved : (then : Lines → ℕ → Rule) {x y : Lines} {u v : Unit} {j k m n : Units} {o : Outcome Core} → Read x j ≡ Read y k → past_space j ≡ Next u m → past_space k ≡ Next v n → ReadsRule (then y v.place) n o → ReadsRule (then x u.place) m o
+rows_moved then {x} {y} {u} {v} {j} {k} {m} {n} {o} e p q d =
+    let same : y ≡ x = cc in
+    let left : k ≡ j = cc in
+    subst (λ z. ReadsRule (then z u.place) m o) same (next_is (λ v n. ReadsRule (then y v.place) n o) p (subst (λ k. past_space k ≡ Next v n) left q) d)
+
+rows_next : {end : TableEnd} {place : ℕ} {columns : Columns} {c : Context} {rows cells : List Element} (behind : Units → Units) {w m n : Units} {u v : Unit} {o : Outcome Lines} → w ≡ Next u m → w ≡ Next v n → ReadsRows end place columns c rows cells (behind n) o → ReadsRows end place columns c rows cells (behind m) o
+rows_next {end} {place} {columns} {c} {rows} {cells} behind {o = o} p q d = next_is (λ u m. ReadsRows end place columns c rows cells (behind m) o) p q d
+
+-- what ends a cell does one thing
+one_end : (end : Unit → CellEnd) {w m n : Units} {u v : Unit} {a b : CellEnd} → w ≡ Next u m → w ≡ Next v n → end u ≡ a → end v ≡ b → a ≡ b
+one_end end {u = u} {v = v} p q s t = (let same : u ≡ v = cc in cc)
+
+cell_moved : {end : TableEnd} {place : ℕ} {columns : Columns} {c : Context} {rows cells : List Element} {x y : Row} {m n : Units} {o : Outcome Lines} → Read x m ≡ Read y n → ReadsBehindCell end place columns c rows cells y.elements n o → ReadsBehindCell end place columns c rows cells x.elements m o
+cell_moved {end} {place} {columns} {c} {rows} {cells} {o = o} e d = moved (λ x m. ReadsBehindCell end place columns c rows cells x.elements m o) e d
 
 base_moved : {c : Context} {x y : Core} {m n : Units} {o : Outcome Atom} → Read x m ≡ Read y n → ReadsScripts c y.atom (no_scripts y.atom.kind y.limits) n o → ReadsScripts c x.atom (no_scripts x.atom.kind x.limits) m o
 base_moved {c} {o = o} e d = moved (λ x m. ReadsScripts c x.atom (no_scripts x.atom.kind x.limits) m o) e d
@@ -138,6 +199,15 @@ mutual
   one_rule (delimiter_taken p ds) (delimiter_missing q) = cc
   one_rule (delimiter_missing p) (delimiter_taken q es) = cc
   one_rule (delimiter_missing p) (delimiter_missing q) = refl
+  one_rule (found_taken {then = then} p ds) (found_taken q es) = one_rule ds (found_moved then p q es)
+  one_rule (found_taken p ds) (found_refused q) = cc
+  one_rule (found_refused p) (found_taken q es) = cc
+  one_rule (found_refused p) (found_refused q) = cc
+  one_rule (passed_over d) (passed_over e) = one_rule d e
+  one_rule (rows_read {then = then} d p ds) (rows_read e q es) = one_rule ds (rows_moved then (one_rows d e) p q es)
+  one_rule (rows_read d p ds) (rows_refused e) = cc (one_rows d e)
+  one_rule (rows_refused d) (rows_read e q es) = cc (one_rows d e)
+  one_rule (rows_refused d) (rows_refused e) = cc (one_rows d e)
 
   -- an operand comes to one outcome
   pub one_operand : {place : ℕ} {c : Context} {l : Units} {o p : Outcome Operand} → ReadsOperand place c l o → ReadsOperand place c l p → o ≡ p
@@ -300,6 +370,52 @@ mutual
   one_atoms (atom_refused p s d) (never_ended q t) = cc
   one_atoms (atom_refused p s d) (atoms_stopped q) = cc
   one_atoms (atom_refused p s d) (atoms_end q t) = cc
+  one_atoms (rest_read {ending = ending} {c = c} {row = row} p s t r d) (rest_read q z k f e) = one_atoms d (rest_is p q (one_rest ending c row p q t k r f) e)
+  one_atoms (rest_read {ending = ending} {c = c} {row = row} p s t r d) (change_refused q z k f) = cc (one_rest ending c row p q t k r f)
+  one_atoms (change_refused {ending = ending} {c = c} {row = row} p s t r) (rest_read q z k f e) = cc (one_rest ending c row p q t k r f)
+  one_atoms (change_refused {ending = ending} {c = c} {row = row} p s t r) (change_refused q z k f) = ap Refused (refused_alike p q (one_rest ending c row p q t k r f))
+  one_atoms (rest_read p s t r d) (text_ends q k) = cc
+  one_atoms (rest_read p s t r d) (never_ended q k) = cc
+  one_atoms (rest_read p s t r d) (atoms_stopped q) = cc
+  one_atoms (rest_read p s t r d) (atoms_end q k) = cc
+  one_atoms (rest_read p s t r d) (atom_read q k e es) = absurd (atom_or_change q p e t)
+  one_atoms (rest_read p s t r d) (atom_refused q k e) = absurd (atom_or_change q p e t)
+  one_atoms (change_refused p s t r) (text_ends q k) = cc
+  one_atoms (change_refused p s t r) (never_ended q k) = cc
+  one_atoms (change_refused p s t r) (atoms_stopped q) = cc
+  one_atoms (change_refused p s t r) (atoms_end q k) = cc
+  one_atoms (change_refused p s t r) (atom_read q k e es) = absurd (atom_or_change q p e t)
+  one_atoms (change_refused p s t r) (atom_refused q k e) = absurd (atom_or_change q p e t)
+  one_atoms (text_ends p s) (rest_read q t k f e) = cc
+  one_atoms (never_ended p s) (rest_read q t k f e) = cc
+  one_atoms (atoms_stopped p) (rest_read q t k f e) = cc
+  one_atoms (atoms_end p s) (rest_read q t k f e) = cc
+  one_atoms (atom_read p s d ds) (rest_read q t k f e) = absurd (atom_or_change p q d k)
+  one_atoms (atom_refused p s d) (rest_read q t k f e) = absurd (atom_or_change p q d k)
+  one_atoms (text_ends p s) (change_refused q t k f) = cc
+  one_atoms (never_ended p s) (change_refused q t k f) = cc
+  one_atoms (atoms_stopped p) (change_refused q t k f) = cc
+  one_atoms (atoms_end p s) (change_refused q t k f) = cc
+  one_atoms (atom_read p s d ds) (change_refused q t k f) = absurd (atom_or_change p q d k)
+  one_atoms (atom_refused p s d) (change_refused q t k f) = absurd (atom_or_change p q d k)
+
+  -- rows of a table come to one outcome
+  one_rows : {end : TableEnd} {place : ℕ} {columns : Columns} {c : Context} {rows cells : List Element} {l : Units} {o p : Outcome Lines} → ReadsRows end place columns c rows cells l o → ReadsRows end place columns c rows cells l p → o ≡ p
+  one_rows (cell_read d ds) (cell_read e es) = one_behind_cell ds (cell_moved (one_atoms d e) es)
+  one_rows (cell_read d ds) (cell_refused e) = cc (one_atoms d e)
+  one_rows (cell_refused d) (cell_read e es) = cc (one_atoms d e)
+  one_rows (cell_refused d) (cell_refused e) = cc (one_atoms d e)
+
+  one_behind_cell : {end : TableEnd} {place : ℕ} {columns : Columns} {c : Context} {rows cells cell : List Element} {l : Units} {o p : Outcome Lines} → ReadsBehindCell end place columns c rows cells cell l o → ReadsBehindCell end place columns c rows cells cell l p → o ≡ p
+  one_behind_cell (next_cell p s d) (next_cell q t e) = one_rows d (rows_next (λ m. m) p q e)
+  one_behind_cell (next_row p s d) (next_row q t e) = one_rows d (rows_next past_break p q e)
+  one_behind_cell (table_ends p s) (table_ends q t) = refl
+  one_behind_cell (next_cell p s d) (next_row q t e) = cc (one_end (λ u. cell_end u.piece) p q s t)
+  one_behind_cell (next_cell p s d) (table_ends q t) = cc (one_end (λ u. cell_end u.piece) p q s t)
+  one_behind_cell (next_row p s d) (next_cell q t e) = cc (one_end (λ u. cell_end u.piece) p q s t)
+  one_behind_cell (next_row p s d) (table_ends q t) = cc (one_end (λ u. cell_end u.piece) p q s t)
+  one_behind_cell (table_ends p s) (next_cell q t e) = cc (one_end (λ u. cell_end u.piece) p q s t)
+  one_behind_cell (table_ends p s) (next_row q t e) = cc (one_end (λ u. cell_end u.piece) p q s t)
 
   -- a part of words comes to one outcome
   one_word : {place : ℕ} {a : Option Alphabet} {ws : Words} {l : Units} {o p : Outcome Words} → ReadsWord place a ws l o → ReadsWord place a ws l p → o ≡ p

@@ -3,7 +3,7 @@ use Rattle.std.proofs.Common.{◌≡◌, ℕ, Bool, true, false, inl, inr, List,
 use Rattle.std.proofs.lemmas.Bool.{cases_Bool}
 use Rattle.std.specs.Str.{byte, bytes_eq}
 use Rattle.latex2mathml_tex_grammar.specs.{Commands.command_entries, Commands.meaning_of, CommandsFromM.commands_from_m, CommandsUpToL.commands_up_to_l}
-use Rattle.latex2mathml_tex_grammar.specs.Meaning.{Meaning, Shows, FunctionName, Spacing, Styled, Words as TakesWordsIn, Fraction, Root, Accent, Brace, Stack, StackedRelation, OperatorName, Negation, Slash, Sized, Left, Middle, Right, Limits, NoLimits, Classed}
+use Rattle.latex2mathml_tex_grammar.specs.Meaning.{Meaning, Shows, FunctionName, Spacing, Styled, Words as TakesWordsIn, Fraction, Root, Accent, Brace, Stack, StackedRelation, OperatorName, Negation, Slash, Sized, Left, Middle, Right, Limits, NoLimits, Classed, Changes, BeginTable, EndTable, LineBreak, Substack}
 use Rattle.latex2mathml_tex_grammar.specs.{Next.is_space_piece, Refusal.Kind, Symbols.Alphabet}
 use Rattle.latex2mathml_tex_grammar.specs.Spacing.{Standing, BeforeWords, InWords, BetweenDollars, standing_behind, is_in_words, takes_words}
 use Rattle.latex2mathml_tex_grammar.specs.Units.{Piece, Space, Open, Close, Command, Character}
@@ -66,12 +66,8 @@ escape_plain name h = elim (cases_Bool (bytes_eq name (codes "%"))) [
   ]
 ]
 
-unknown : {name : List ℕ} (kind other : Kind) (b : Bool) → InAWord (Command name) (if b then NoWord kind else NoWord other)
-unknown kind other true = no_word_here
-unknown kind other false = no_word_here
-
 by_meaning : (name : List ℕ) (meaning : Option Meaning) → meaning_of name ≡ meaning → InAWord (Command name) (meaning_rule name meaning)
-by_meaning name None e = unknown _ _ (bytes_eq name (codes "\\"))
+by_meaning name None e = no_word_here
 by_meaning name (Some (Shows s)) e = a_word (command_ends name (rw e refl))
 by_meaning name (Some (FunctionName limits own)) e = no_word_here
 by_meaning name (Some (Spacing width)) e = a_word (command_ends name (rw e refl))
@@ -93,6 +89,11 @@ by_meaning name (Some Right) e = no_word_here
 by_meaning name (Some Limits) e = no_word_here
 by_meaning name (Some NoLimits) e = no_word_here
 by_meaning name (Some (Classed class)) e = no_word_here
+by_meaning name (Some (Changes change)) e = no_word_here
+by_meaning name (Some BeginTable) e = no_word_here
+by_meaning name (Some EndTable) e = no_word_here
+by_meaning name (Some LineBreak) e = no_word_here
+by_meaning name (Some Substack) e = no_word_here
 
 -- one or the other
 either : {piece : Piece} {r s : WordRule} (b : Bool) → (b ≡ true → InAWord piece r) → (b ≡ false → InAWord piece s) → InAWord piece (if b then r else s)

@@ -1,8 +1,8 @@
 -- The commands from those that begin with m, in the order of their names' bytes. A name is its bytes, without the
 -- backslash; a character is its code point, and stands after its line as well.
 use Rattle.std.specs.Prelude.{ℕ, pos, negsuc, List, [], ◌∷◌, Some, None, codes}
-use Rattle.latex2mathml_tex_grammar.specs.Meaning.{Meaning, Shows, FunctionName, Spacing, Styled, Words, Fraction, Root, Accent, Brace, Stack, StackedRelation, OperatorName, Negation, Slash, Middle, Right, NoLimits, Classed, words_apart}
-use Rattle.latex2mathml_tex_grammar.specs.Symbols.{Letter, UprightLetter, Sign, BigOperator, Integral, Ordinary, Operator, Binary, Relation, Opening, Closing, Punctuation, Inner, Upright, Italic, Bold, BoldItalic, DoubleStruck, Fraktur, Calligraphic, SansSerif, Monospace, InText}
+use Rattle.latex2mathml_tex_grammar.specs.Meaning.{Meaning, Shows, FunctionName, Spacing, Styled, Words, Fraction, Root, Accent, Brace, Stack, StackedRelation, OperatorName, Negation, Slash, Middle, Right, NoLimits, Classed, Changes, ToAlphabet, ToStyle, Divides, words_apart, LineBreak, Substack}
+use Rattle.latex2mathml_tex_grammar.specs.Symbols.{Letter, UprightLetter, Sign, BigOperator, Integral, Ordinary, Operator, Binary, Relation, Opening, Closing, Punctuation, Inner, Upright, Italic, Bold, BoldItalic, DoubleStruck, Fraktur, Calligraphic, SansSerif, Monospace, InText, InScript}
 use Rattle.latex2mathml_elements.specs.Attributes.{Above, Below, Stretching, Rigid}
 use Rattle.latex2mathml_tex_grammar.specs.Meaning.{Beside, ByStyle, Bar, NoBar}
 
@@ -44,6 +44,7 @@ commands_from_m =
     (codes "mid", Shows (Sign Relation 0x2223)) ∷  -- ∣
     (codes "middle", Middle) ∷
     (codes "min", FunctionName ByStyle (codes "min")) ∷
+    (codes "mit", Changes (ToAlphabet Italic)) ∷
     (codes "models", Shows (Sign Relation 0x22A8)) ∷  -- ⊨
     (codes "mp", Shows (Sign Binary 0x2213)) ∷  -- ∓
     (codes "mu", Shows (Letter 0x03BC)) ∷  -- μ
@@ -65,6 +66,7 @@ commands_from_m =
     (codes "neptune", Shows (Sign Ordinary 0x2646)) ∷  -- ♆
     (codes "neq", Shows (Sign Relation 0x2260)) ∷  -- ≠
     (codes "nequiv", Shows (Sign Relation 0x2262)) ∷  -- ≢
+    (codes "newline", LineBreak) ∷
     (codes "nexists", Shows (Sign Ordinary 0x2204)) ∷  -- ∄
     (codes "ng", Shows (UprightLetter 0x014B)) ∷  -- ŋ
     (codes "ngeq", Shows (Sign Relation 0x2271)) ∷  -- ≱
@@ -110,6 +112,7 @@ commands_from_m =
     (codes "origof", Shows (Sign Relation 0x22B6)) ∷  -- ⊶
     (codes "oslash", Shows (Sign Binary 0x2298)) ∷  -- ⊘
     (codes "otimes", Shows (Sign Binary 0x2297)) ∷  -- ⊗
+    (codes "over", Changes (Divides Bar)) ∷
     (codes "overbrace", Brace Above 0x23DE) ∷  -- ⏞
     (codes "overbracket", Brace Above 0x23B4) ∷  -- ⎴
     (codes "overleftarrow", Accent Above 0x2190 Stretching) ∷  -- ←
@@ -164,6 +167,7 @@ commands_from_m =
     (codes "rightsquigarrow", Shows (Sign Relation 0x21DD)) ∷  -- ⇝
     (codes "rightthreetimes", Shows (Sign Binary 0x22CC)) ∷  -- ⋌
     (codes "risingdotseq", Shows (Sign Relation 0x2253)) ∷  -- ≓
+    (codes "rm", Changes (ToAlphabet Upright)) ∷
     (codes "rmoustache", Shows (Sign Closing 0x23B1)) ∷  -- ⎱
     (codes "rparen", Shows (Sign Closing 0x29)) ∷  -- )
     (codes "rrbracket", Shows (Sign Closing 0x27E7)) ∷  -- ⟧
@@ -171,10 +175,13 @@ commands_from_m =
     (codes "rupee", Shows (Sign Ordinary 0x20B9)) ∷  -- ₹
     (codes "rvert", Shows (Sign Closing 0x2223)) ∷  -- ∣
     (codes "saturn", Shows (Sign Ordinary 0x2644)) ∷  -- ♄
+    (codes "scriptscriptstyle", Changes (ToStyle InScript)) ∷
+    (codes "scriptstyle", Changes (ToStyle InScript)) ∷
     (codes "searrow", Shows (Sign Relation 0x2198)) ∷  -- ↘
     (codes "sec", FunctionName Beside (codes "sec")) ∷
     (codes "sech", FunctionName Beside (codes "sech")) ∷
     (codes "setminus", Shows (Sign Binary 0x2216)) ∷  -- ∖
+    (codes "sf", Changes (ToAlphabet SansSerif)) ∷
     (codes "sh", FunctionName Beside (codes "sh")) ∷
     (codes "sharp", Shows (Sign Ordinary 0x266F)) ∷  -- ♯
     (codes "shortmid", Shows (Sign Relation 0x2223)) ∷  -- ∣
@@ -209,6 +216,7 @@ commands_from_m =
     (codes "subseteqq", Shows (Sign Relation 0x2AC5)) ∷  -- ⫅
     (codes "subsetneq", Shows (Sign Relation 0x228A)) ∷  -- ⊊
     (codes "subsetneqq", Shows (Sign Relation 0x2ACB)) ∷  -- ⫋
+    (codes "substack", Substack) ∷
     (codes "succ", Shows (Sign Relation 0x227B)) ∷  -- ≻
     (codes "succapprox", Shows (Sign Relation 0x2AB8)) ∷  -- ⪸
     (codes "succcurlyeq", Shows (Sign Relation 0x227D)) ∷  -- ≽
@@ -240,6 +248,7 @@ commands_from_m =
     (codes "textrm", Words None) ∷
     (codes "textsc", Words None) ∷
     (codes "textsf", Words (Some SansSerif)) ∷
+    (codes "textstyle", Changes (ToStyle InText)) ∷
     (codes "texttt", Words (Some Monospace)) ∷
     (codes "textup", Words None) ∷
     (codes "textyen", Shows (Sign Ordinary 0xA5)) ∷  -- ¥
@@ -263,6 +272,7 @@ commands_from_m =
     (codes "triangleq", Shows (Sign Relation 0x225C)) ∷  -- ≜
     (codes "triangleright", Shows (Sign Binary 0x25B7)) ∷  -- ▷
     (codes "trianglerighteq", Shows (Sign Relation 0x22B5)) ∷  -- ⊵
+    (codes "tt", Changes (ToAlphabet Monospace)) ∷
     (codes "twoheadleftarrow", Shows (Sign Relation 0x219E)) ∷  -- ↞
     (codes "twoheadrightarrow", Shows (Sign Relation 0x21A0)) ∷  -- ↠
     (codes "ulcorner", Shows (Sign Opening 0x231C)) ∷  -- ⌜

@@ -1,10 +1,10 @@
 -- The commands up to those that begin with l, in the order of their names' bytes. A name is its bytes, without the
 -- backslash; a character is its code point, and stands after its line as well.
 use Rattle.std.specs.Prelude.{ℕ, pos, negsuc, List, [], ◌∷◌, Some, None, codes}
-use Rattle.latex2mathml_tex_grammar.specs.Meaning.{Meaning, Shows, FunctionName, Spacing, Styled, Words, Fraction, Accent, Sized, Left, Limits, words_apart}
-use Rattle.latex2mathml_tex_grammar.specs.Symbols.{Letter, UprightLetter, Sign, BigOperator, Integral, Ordinary, Binary, Relation, Opening, Closing, Punctuation, Inner, Italic, Bold, BoldItalic, DoubleStruck, Fraktur, InDisplay}
+use Rattle.latex2mathml_tex_grammar.specs.Meaning.{Meaning, Shows, FunctionName, Spacing, Styled, Words, Fraction, Accent, Sized, Left, Limits, Changes, ToAlphabet, ToStyle, Divides, words_apart, BeginTable, EndTable, LineBreak}
+use Rattle.latex2mathml_tex_grammar.specs.Symbols.{Letter, UprightLetter, Sign, BigOperator, Integral, Ordinary, Binary, Relation, Opening, Closing, Punctuation, Inner, Italic, Bold, BoldItalic, DoubleStruck, Fraktur, Calligraphic, InDisplay}
 use Rattle.latex2mathml_elements.specs.Attributes.{Above, Rigid, Big, Bigger, VeryBig, Biggest}
-use Rattle.latex2mathml_tex_grammar.specs.Meaning.{Beside, ByStyle, Bar, NoBar}
+use Rattle.latex2mathml_tex_grammar.specs.Meaning.{Beside, ByStyle, Bar, NoBar, Braced, Bracketed, Bare}
 
 unfoldable pub commands_up_to_l : List (List ℕ × Meaning)
 commands_up_to_l =
@@ -95,6 +95,7 @@ commands_up_to_l =
     (codes "Yleft", Shows (Sign Relation 0x2919)) ∷  -- ⤙
     (codes "Yright", Shows (Sign Relation 0x291A)) ∷  -- ⤚
     (codes "Zeta", Shows (UprightLetter 0x0396)) ∷  -- Ζ
+    (codes "\\", LineBreak) ∷
     (codes "_", Shows (Sign Ordinary 0x5F)) ∷  -- _
     (codes "a", Shows (UprightLetter 0xE5)) ∷  -- å
     (codes "acute", Accent Above 0xB4 Rigid) ∷  -- ´
@@ -117,6 +118,7 @@ commands_up_to_l =
     (codes "ast", Shows (Sign Binary 0x2217)) ∷  -- ∗
     (codes "astrosun", Shows (Sign Ordinary 0x2609)) ∷  -- ☉
     (codes "asymp", Shows (Sign Relation 0x224D)) ∷  -- ≍
+    (codes "atop", Changes (Divides Bare)) ∷
     (codes "backepsilon", Shows (Sign Relation 0x220D)) ∷  -- ∍
     (codes "backprime", Shows (Sign Ordinary 0x2035)) ∷  -- ‵
     (codes "backsim", Shows (Sign Relation 0x223D)) ∷  -- ∽
@@ -125,9 +127,11 @@ commands_up_to_l =
     (codes "bar", Accent Above 0xAF Rigid) ∷  -- ¯
     (codes "barwedge", Shows (Sign Binary 0x22BC)) ∷  -- ⊼
     (codes "because", Shows (Sign Relation 0x2235)) ∷  -- ∵
+    (codes "begin", BeginTable) ∷
     (codes "beta", Shows (Letter 0x03B2)) ∷  -- β
     (codes "beth", Shows (UprightLetter 0x2136)) ∷  -- ℶ
     (codes "between", Shows (Sign Relation 0x226C)) ∷  -- ≬
+    (codes "bf", Changes (ToAlphabet Bold)) ∷
     (codes "big", Sized Big Ordinary) ∷
     (codes "bigcap", Shows (BigOperator 0x22C2)) ∷  -- ⋂
     (codes "bigcirc", Shows (Sign Binary 0x25EF)) ∷  -- ◯
@@ -169,9 +173,12 @@ commands_up_to_l =
     (codes "boxplus", Shows (Sign Binary 0x229E)) ∷  -- ⊞
     (codes "boxslash", Shows (Sign Relation 0x29C4)) ∷  -- ⧄
     (codes "boxtimes", Shows (Sign Binary 0x22A0)) ∷  -- ⊠
+    (codes "brace", Changes (Divides Braced)) ∷
+    (codes "brack", Changes (Divides Bracketed)) ∷
     (codes "breve", Accent Above 0x02D8 Rigid) ∷  -- ˘
     (codes "bullet", Shows (Sign Binary 0x2219)) ∷  -- ∙
     (codes "bumpeq", Shows (Sign Relation 0x224F)) ∷  -- ≏
+    (codes "cal", Changes (ToAlphabet Calligraphic)) ∷
     (codes "cap", Shows (Sign Binary 0x2229)) ∷  -- ∩
     (codes "cdot", Shows (Sign Binary 0x22C5)) ∷  -- ⋅
     (codes "cdotp", Shows (Sign Punctuation 0x22C5)) ∷  -- ⋅
@@ -182,6 +189,7 @@ commands_up_to_l =
     (codes "check", Accent Above 0x02C7 Rigid) ∷  -- ˇ
     (codes "checkmark", Shows (Sign Ordinary 0x2713)) ∷  -- ✓
     (codes "chi", Shows (Letter 0x03C7)) ∷  -- χ
+    (codes "choose", Changes (Divides NoBar)) ∷
     (codes "circ", Shows (Sign Binary 0x2218)) ∷  -- ∘
     (codes "circeq", Shows (Sign Relation 0x2257)) ∷  -- ≗
     (codes "circlearrowleft", Shows (Sign Relation 0x21BA)) ∷  -- ↺
@@ -203,6 +211,7 @@ commands_up_to_l =
     (codes "cot", FunctionName Beside (codes "cot")) ∷
     (codes "cotg", FunctionName Beside (codes "cotg")) ∷
     (codes "coth", FunctionName Beside (codes "coth")) ∷
+    (codes "cr", LineBreak) ∷
     (codes "csc", FunctionName Beside (codes "csc")) ∷
     (codes "csch", FunctionName Beside (codes "csch")) ∷
     (codes "ctg", FunctionName Beside (codes "ctg")) ∷
@@ -238,6 +247,7 @@ commands_up_to_l =
     (codes "diamondsuit", Shows (Sign Ordinary 0x2662)) ∷  -- ♢
     (codes "digamma", Shows (Letter 0x03DD)) ∷  -- ϝ
     (codes "dim", FunctionName Beside (codes "dim")) ∷
+    (codes "displaystyle", Changes (ToStyle InDisplay)) ∷
     (codes "div", Shows (Sign Binary 0xF7)) ∷  -- ÷
     (codes "divideontimes", Shows (Sign Binary 0x22C7)) ∷  -- ⋇
     (codes "dj", Shows (UprightLetter 0x0111)) ∷  -- đ
@@ -256,6 +266,7 @@ commands_up_to_l =
     (codes "ell", Shows (Letter 0x2113)) ∷  -- ℓ
     (codes "emph", Words (Some Italic)) ∷
     (codes "emptyset", Shows (Sign Ordinary 0x2205)) ∷  -- ∅
+    (codes "end", EndTable) ∷
     (codes "enskip", Spacing (pos 9)) ∷
     (codes "enspace", Spacing (pos 9)) ∷
     (codes "epsilon", Shows (Letter 0x03F5)) ∷  -- ϵ
@@ -325,6 +336,7 @@ commands_up_to_l =
     (codes "intercal", Shows (Sign Binary 0x22BA)) ∷  -- ⊺
     (codes "intop", Shows (BigOperator 0x222B)) ∷  -- ∫
     (codes "iota", Shows (Letter 0x03B9)) ∷  -- ι
+    (codes "it", Changes (ToAlphabet Italic)) ∷
     (codes "jmath", Shows (Letter 0x0237)) ∷  -- ȷ
     (codes "jupiter", Shows (Sign Ordinary 0x2643)) ∷  -- ♃
     (codes "kappa", Shows (Letter 0x03BA)) ∷  -- κ

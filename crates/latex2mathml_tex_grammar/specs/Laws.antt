@@ -2,8 +2,9 @@
 use Rattle.std.specs.Prelude.{◌≡◌, ◌⊎◌, ℕ, List, IsTrue}
 use Rattle.std.specs.List.{AllByRecursion}
 use Rattle.latex2mathml_elements.specs.{Characters.HasAllowedTexts, Characters.IsAllowed, Dollars.IsDollarFree}
-use Rattle.latex2mathml_tex_grammar.specs.{Commands.command_entries, Signs.sign_entries, Sorted.ascending, Sorted.ascending_numbers}
-use Rattle.latex2mathml_tex_grammar.specs.{Formulas.IsReading, Formulas.IsRefusal, Formulas.row_print, Refusal.Refusal, Symbols.Style}
+use Rattle.latex2mathml_tex_grammar.specs.{Commands.command_entries, Environments.environments, Signs.sign_entries, Sorted.ascending, Sorted.ascending_numbers}
+use Rattle.latex2mathml_tex_grammar.specs.{DefinitionTexts.Defines, ExpansionLaws.AllStand, Macros.SameMacros, Macros.Table}
+use Rattle.latex2mathml_tex_grammar.specs.{Formulas.IsExpansion, Formulas.IsReading, Formulas.IsRefusal, Formulas.row_print, Refusal.Refusal, Symbols.Style}
 use Rattle.latex2mathml_tex_grammar.specs.{Reading.Outcome, Reading.ReadsAtoms, Rows.Row, Rules.Context, Rules.Ending, Rules.WholeText}
 use Rattle.latex2mathml_tex_grammar.specs.Spacing.{Alike, AreAlikeOutcomes, HaveAlikeUnits}
 use Rattle.latex2mathml_tex_grammar.specs.Units.{Units, HasUnits}
@@ -17,6 +18,7 @@ pub record HasOneListOfUnits (text : List ℕ) : Type 0 where
 pub record AreTablesSorted : Type 0 where
   pub commands : IsTrue (ascending command_entries)
   pub signs : IsTrue (ascending_numbers sign_entries)
+  pub environments : IsTrue (ascending environments)
 
 -- units in a context come to exactly one outcome behind a row: a longer row, or a refusal
 pub record HasOneOutcome (ending : Ending) (c : Context) (row : Row) (l : Units) : Type 0 where
@@ -26,26 +28,52 @@ pub record HasOneOutcome (ending : Ending) (c : Context) (row : Row) (l : Units)
 abbrev pub HaveOneOutcome : Type 0
 HaveOneOutcome = (ending : Ending) (c : Context) (row : Row) (l : Units) → HasOneOutcome ending c row l
 
--- the text has exactly one reading in this style, or exactly one refusal
-pub record HasOneReading (text : List ℕ) (style : Style) : Type 0 where
+-- where these macros hold, the text has exactly one reading in this style, or exactly one refusal
+pub record HasOneReading (macros : Table) (text : List ℕ) (style : Style) : Type 0 where
   -- it has a reading or a refusal
-  pub some : ((row : Row) × IsReading text style row) ⊎ ((r : Refusal) × IsRefusal text style r)
+  pub some : ((row : Row) × IsReading macros text style row) ⊎ ((r : Refusal) × IsRefusal macros text style r)
   -- two readings are the same row
-  pub one_reading : (row other : Row) → IsReading text style row → IsReading text style other → row ≡ other
+  pub one_reading : (row other : Row) → IsReading macros text style row → IsReading macros text style other → row ≡ other
   -- two refusals are the same refusal
-  pub one_refusal : (r q : Refusal) → IsRefusal text style r → IsRefusal text style q → r ≡ q
+  pub one_refusal : (r q : Refusal) → IsRefusal macros text style r → IsRefusal macros text style q → r ≡ q
   -- what has a reading is not refused
-  pub never_both : (row : Row) (r : Refusal) → IsReading text style row → IsRefusal text style r → ⊥
+  pub never_both : (row : Row) (r : Refusal) → IsReading macros text style row → IsRefusal macros text style r → ⊥
 
 abbrev pub HaveOneReading : Type 0
-HaveOneReading = (text : List ℕ) (style : Style) → HasOneReading text style
+HaveOneReading = (macros : Table) (text : List ℕ) (style : Style) → HasOneReading macros text style
 
--- what a text is read as holds no character that XML forbids
+-- what macros are is what each name stands for
+pub record AreMacrosTheirNames : Type 0 where
+  pub readings : (macros others : Table) (text : List ℕ) (style : Style) (row : Row)
+      → SameMacros macros others
+      → IsReading macros text style row
+      → IsReading others text style row
+  pub refusals : (macros others : Table) (text : List ℕ) (style : Style) (r : Refusal)
+      → SameMacros macros others
+      → IsRefusal macros text style r
+      → IsRefusal others text style r
+
+-- what a text is read as holds no character that XML forbids, whatever text defines the macros
 pub record ReadingsAreAllowed : Type 0 where
   -- no text of an element does
-  pub elements : (text : List ℕ) (style : Style) (row : Row) → IsReading text style row → AllByRecursion HasAllowedTexts row.elements
+  pub elements : (definitions : List ℕ) (macros : Table) (text : List ℕ) (style : Style) (row : Row)
+      → Defines definitions macros
+      → IsReading macros text style row
+      → AllByRecursion HasAllowedTexts row.elements
   -- and so the markup does not, nor does it hold a dollar sign
-  pub markup : (text : List ℕ) (style : Style) (row : Row) → IsReading text style row → IsAllowed (row_print style row) × IsDollarFree (row_print style row)
+  pub markup : (definitions : List ℕ) (macros : Table) (text : List ℕ) (style : Style) (row : Row)
+      → Defines definitions macros
+      → IsReading macros text style row
+      → IsAllowed (row_print style row) × IsDollarFree (row_print style row)
+
+-- no macro is used in the text, and none defined
+abbrev pub StandsByItself : Table → List ℕ → Type 0
+StandsByItself macros text = (units : Units) × HasUnits 0 text units × AllStand macros units
+
+-- the texts expand to units that are alike
+abbrev pub HaveAlikeExpansions : Table → List ℕ → List ℕ → Type 0
+HaveAlikeExpansions macros text other =
+    (l : Units) × (m : Units) × IsExpansion macros text l × IsExpansion macros other m × Alike l m
 
 -- White space between the units of a formula is nothing.
 pub record IsSpaceNothing : Type 0 where
@@ -58,13 +86,19 @@ pub record IsSpaceNothing : Type 0 where
       → ReadsAtoms WholeText c row l o
       → ReadsAtoms WholeText c row m p
       → AreAlikeOutcomes o p
-  -- and texts of alike units have the same reading, in each style
-  pub readings : (text other : List ℕ) (style : Style) (row : Row)
-      → HaveAlikeUnits text other
-      → IsReading text style row
-      → IsReading other style row
+  -- and texts that expand to alike units have the same reading, in each style
+  pub readings : (macros : Table) (text other : List ℕ) (style : Style) (row : Row)
+      → HaveAlikeExpansions macros text other
+      → IsReading macros text style row
+      → IsReading macros other style row
   -- or are both refused, for the same reason
-  pub refusals : (text other : List ℕ) (style : Style) (r : Refusal)
+  pub refusals : (macros : Table) (text other : List ℕ) (style : Style) (r : Refusal)
+      → HaveAlikeExpansions macros text other
+      → IsRefusal macros text style r
+      → (q : Refusal) × (r.kind ≡ q.kind) × IsRefusal macros other style q
+  -- So do texts of alike units, where no macro is used and none defined. An argument of a macro may come to stand in words,
+  -- where white space counts.
+  pub expansions : (macros : Table) (text other : List ℕ)
       → HaveAlikeUnits text other
-      → IsRefusal text style r
-      → (q : Refusal) × (r.kind ≡ q.kind) × IsRefusal other style q
+      → StandsByItself macros text
+      → HaveAlikeExpansions macros text other

@@ -1,12 +1,12 @@
 -- The atoms of each construct.
 use Rattle.std.specs.Prelude.{ℕ, zero, suc, ◌==◌, ◌||◌, ℤ, Bool, true, false, List, [], ◌∷◌, ◌++◌, map, Option, Some, None, codes, if◌then◌else◌}
 use Rattle.std.specs.{Char.encode_utf8, Str.encode_utf8_all}
-use Rattle.latex2mathml_elements.specs.Attributes.{Attributes, Side, Above, Below, Form, Prefix, Postfix, Stretch, Stretching, Rigid, NoSpace, Narrow, Size, plain}
+use Rattle.latex2mathml_elements.specs.Attributes.{Attributes, Side, Above, Below, Form, Prefix, Postfix, Stretch, Stretching, Rigid, NoSpace, Narrow, Size, MathStyle, DisplayStyle, TextStyle, ScriptStyle, plain}
 use Rattle.latex2mathml_elements.specs.Element.{Mi, Mn, Mo, Mrow, Msqrt, Mstyle, Mfrac, Mroot, Msub, Msup, Munder, Mover, Msubsup, Munderover, Element, token, space, container, pair, triple, children}
 use Rattle.latex2mathml_tex_grammar.specs.{Alphabets.in_alphabet, Rows.Row, Rows.Operand, Rows.row_element}
 use Rattle.latex2mathml_tex_grammar.specs.Atoms.{Atom, Kind, SignOf, PlusOrMinus, Plain, UprightLetters, FunctionWord, Blank, Divider, atom}
-use Rattle.latex2mathml_tex_grammar.specs.Meaning.{FractionRule, Bar, NoBar, LimitPlace, Beside, ByStyle, Movable, Stacked}
-use Rattle.latex2mathml_tex_grammar.specs.Symbols.{Class, Ordinary, Operator, Binary, Relation, Opening, Closing, Punctuation, Inner, Style, InDisplay, Alphabet, Upright, Symbol, Letter, UprightLetter, Sign, BigOperator, Integral}
+use Rattle.latex2mathml_tex_grammar.specs.Meaning.{FractionRule, Bar, NoBar, Braced, Bracketed, Bare, LimitPlace, Beside, ByStyle, Movable, Stacked}
+use Rattle.latex2mathml_tex_grammar.specs.Symbols.{Class, Ordinary, Operator, Binary, Relation, Opening, Closing, Punctuation, Inner, Style, InDisplay, InText, InScript, Alphabet, Upright, Symbol, Letter, UprightLetter, Sign, BigOperator, Integral}
 
 -- an atom, and where its limits stand
 pub record Core : Type 0 where
@@ -137,10 +137,18 @@ abbrev pub is_display : Style → Bool
 is_display InDisplay = true
 is_display style = false
 
+abbrev pub math_style : Style → MathStyle
+math_style InDisplay = DisplayStyle
+math_style InText = TextStyle
+math_style InScript = ScriptStyle
+
+abbrev pub style_attributes : Style → Attributes
+style_attributes own = record plain { style = Some (math_style own) }
+
 -- an element in a style of its own, where it has one
 abbrev pub in_style : Option Style → Element → Element
 in_style None x = x
-in_style (Some style) x = container Mstyle (record plain { display = Some (is_display style) }) (children (x ∷ []))
+in_style (Some style) x = container Mstyle (style_attributes style) (children (x ∷ []))
 
 abbrev pub stretch_if : Bool → Stretch
 stretch_if true = Stretching
@@ -154,10 +162,15 @@ abbrev pub fenced : Bool → List ℕ → List ℕ → Element → Element
 fenced high opening closing inside =
     container Mrow plain (children (delimiter high Prefix opening ∷ inside ∷ delimiter high Postfix closing ∷ []))
 
+abbrev pub without_bar : Element → Element → Element
+without_bar above below = pair Mfrac (record plain { no_line = true }) above below
+
 abbrev pub fraction_element : FractionRule → Element → Element → Element
 fraction_element Bar above below = pair Mfrac plain above below
-fraction_element NoBar above below =
-    fenced true (codes "(") (codes ")") (pair Mfrac (record plain { no_line = true }) above below)
+fraction_element NoBar above below = fenced true (codes "(") (codes ")") (without_bar above below)
+fraction_element Braced above below = fenced true (codes "{") (codes "}") (without_bar above below)
+fraction_element Bracketed above below = fenced true (codes "[") (codes "]") (without_bar above below)
+fraction_element Bare above below = without_bar above below
 
 abbrev pub fraction : FractionRule → Option Style → Element → Element → Core
 fraction rule own above below = core (atom (Plain Inner) true (in_style own (fraction_element rule above below)))

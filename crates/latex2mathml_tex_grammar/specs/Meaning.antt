@@ -3,10 +3,13 @@ use Rattle.std.specs.Prelude.{ℕ, ℤ, List, ◌∷◌, ◌++◌, Option}
 use Rattle.latex2mathml_elements.specs.Attributes.{Side, Stretch, Size}
 use Rattle.latex2mathml_tex_grammar.specs.Symbols.{Class, Style, Alphabet, Symbol}
 
--- whether a fraction has its bar, or parentheses around it
+-- whether a fraction has its bar, or has none: then parentheses, braces, brackets or nothing stand around it
 pub data FractionRule : Type 0 where
   Bar : FractionRule
   NoBar : FractionRule
+  Braced : FractionRule
+  Bracketed : FractionRule
+  Bare : FractionRule
 
 -- where the limits of an operator stand: beside it; in display style above and below it; above and below it, where the
 -- browser moves them beside it in text; always above and below it
@@ -15,6 +18,15 @@ pub data LimitPlace : Type 0 where
   ByStyle : LimitPlace
   Movable : LimitPlace
   Stacked : LimitPlace
+
+-- what a command changes up to the end of its group
+pub data Change : Type 0 where
+  -- letters and digits are in an alphabet
+  ToAlphabet : Alphabet → Change
+  -- all is in a style
+  ToStyle : Style → Change
+  -- all is the lower part of a fraction, and what stands before it the upper one
+  Divides : FractionRule → Change
 
 pub data Meaning : Type 0 where
   -- a character
@@ -53,6 +65,15 @@ pub data Meaning : Type 0 where
   NoLimits : Meaning
   -- its operand as an atom of this class
   Classed : Class → Meaning
+  -- a change of what stands after it in its group
+  Changes : Change → Meaning
+  -- a table, and its end
+  BeginTable : Meaning
+  EndTable : Meaning
+  -- what ends a row of a table
+  LineBreak : Meaning
+  -- rows in braces
+  Substack : Meaning
 
 -- two words with a thin space between them, U+2009
 abbrev pub words_apart : List ℕ → List ℕ → List ℕ

@@ -1,14 +1,17 @@
 -- Reading: what units come to, atoms or a refusal. The table of rules says what each unit begins; the relations here say
 -- how rules are read, and they are the same for every rule. White space in formulas is nothing.
-use Rattle.std.specs.Prelude.{◌≡◌, ℕ, IsTrue, IsFalse, List, [], ◌∷◌, Option, Some, None}
-use Rattle.latex2mathml_elements.specs.Element.{Element}
+use Rattle.std.specs.Prelude.{◌≡◌, ℕ, IsTrue, IsFalse, List, [], ◌∷◌, length, Option, Some, None}
+use Rattle.latex2mathml_elements.specs.{Columns.Columns, Element.Element}
 use Rattle.latex2mathml_tex_grammar.specs.{Atoms.Atom, Delimiters.delimiter_of, Rows.Row, Rows.empty_row, Rows.row_element, Rows.with_atom, Rows.Operand, Rows.operand_of, Rows.single}
 use Rattle.latex2mathml_tex_grammar.specs.Makes.{Core, core, number, divider, Scripts, no_scripts, scripted}
-use Rattle.latex2mathml_tex_grammar.specs.{Meaning.Beside, Next.past_space, Next.next_are, Next.digits_next, Next.refusal_here}
+use Rattle.latex2mathml_tex_grammar.specs.{Meaning.Beside, Meaning.Change, Next.past_space, Next.next_are, Next.digits_next, Next.refusal_here}
 use Rattle.latex2mathml_tex_grammar.specs.Refusal.{Kind, MissingArgument, UnclosedBrace, MissingDelimiter, Refusal, refusal_at}
-use Rattle.latex2mathml_tex_grammar.specs.Rules.{Context, in_context, styled, Ending, InBraces, InDollars, Rule, gives, refuses, reads_operand, reads_core, reads_atoms, reads_words, takes_if, takes_digits, takes_delimiter, rule}
-use Rattle.latex2mathml_tex_grammar.specs.Starts.{DividerStart, ScriptStart, RuleStart, NoStart, GroupStart, DigitStart, OtherStart, atom_start, operand_start, mark_of, GoesOn, TakesOperand, Forbidden, step_of_mark, step_next, empty_base, ends, unended, is_close}
+use Rattle.latex2mathml_tex_grammar.specs.Rests.{GoesOnIn, NoRest, finished, rest_of}
+use Rattle.latex2mathml_tex_grammar.specs.Rules.{Context, in_context, styled, Ending, InBraces, InDollars, Rule, gives, refuses, reads_operand, reads_core, reads_atoms, reads_words, takes_if, takes_digits, takes_delimiter, rule, TableEnd, InCell, takes_found, passes_over, reads_rows}
+use Rattle.latex2mathml_tex_grammar.specs.Starts.{DividerStart, ScriptStart, RuleStart, ChangeStart, NoStart, GroupStart, DigitStart, OtherStart, atom_start, operand_start, mark_of, GoesOn, TakesOperand, Forbidden, step_of_mark, step_next, empty_base, ends, unended, is_close, left_behind, PartsCells, EndsRow, EndsTable, cell_end}
+use Rattle.latex2mathml_tex_grammar.specs.Scanning.{Spot, BeforeRow, Given, Missing, scan, past, past_break}
 use Rattle.latex2mathml_tex_grammar.specs.Symbols.{InText, InScript, Alphabet}
+use Rattle.latex2mathml_tex_grammar.specs.{Tables.Lines, Tables.begun_cell, Tables.a_row, Tables.with_last}
 use Rattle.latex2mathml_tex_grammar.specs.Units.{Piece, Unit, Units, Next, End, Stop}
 use Rattle.latex2mathml_tex_grammar.specs.Words.{Word, Formula, Words, no_words, with_word, IsWord, BeginsGroup, EndsGroup, BeginsFormula, TakesWords, NoWord, word_rule}
 
@@ -88,6 +91,27 @@ mutual
     delimiter_missing : {then : List ℕ → Rule} {l : Units}
         → next_are (delimiter_of ∷ []) l ≡ None
         → ReadsRule (takes_delimiter then) l (Refused (refusal_here MissingDelimiter (past_space l)))
+    -- what is found stands next, and is taken
+    found_taken : {spot : Spot} {place : ℕ} {then : List ℕ → Rule} {l m : Units} {text : List ℕ} {o : Outcome Core}
+        → scan place l spot ≡ Given text m
+        → ReadsRule (then text) m o
+        → ReadsRule (takes_found spot place then) l o
+    found_refused : {spot : Spot} {place : ℕ} {then : List ℕ → Rule} {l : Units} {r : Refusal}
+        → scan place l spot ≡ Missing r
+        → ReadsRule (takes_found spot place then) l (Refused r)
+    -- what is found is nothing, and the rule goes on behind it
+    passed_over : {spot : Spot} {then : Rule} {l : Units} {o : Outcome Core}
+        → ReadsRule then (past spot l) o
+        → ReadsRule (passes_over spot then) l o
+    -- the rows are read up to their end, which is taken, and what follows it stands after
+    rows_read : {end : TableEnd} {place : ℕ} {columns : Columns} {c : Context} {then : Lines → ℕ → Rule} {l m n : Units} {u : Unit} {lines : Lines} {o : Outcome Core}
+        → ReadsRows end place columns c [] [] (past BeforeRow l) (Read lines m)
+        → past_space m ≡ Next u n
+        → ReadsRule (then lines u.place) n o
+        → ReadsRule (reads_rows end place columns c then) l o
+    rows_refused : {end : TableEnd} {place : ℕ} {columns : Columns} {c : Context} {then : Lines → ℕ → Rule} {l : Units} {r : Refusal}
+        → ReadsRows end place columns c [] [] (past BeforeRow l) (Refused r)
+        → ReadsRule (reads_rows end place columns c then) l (Refused r)
 
   -- what an operand comes to, where this place takes it: a group, one digit, or an atom without scripts
   pub data ReadsOperand : ℕ → Context → Units → Outcome Operand → Type 0 where
@@ -180,13 +204,13 @@ mutual
         → ReadsRule (rule u.place c u.piece) l (Refused r)
         → ReadsAtom ending c u l (Refused r)
 
-  -- what a row comes to with the atoms that stand here, up to their ending, which is taken
+  -- what a row comes to with the atoms that stand here, up to their ending, which is taken, unless it ends a cell
   pub data ReadsAtoms : Ending → Context → Row → Units → Outcome Row → Type 0 where
     -- a formula that is the whole text ends with it
     text_ends : {ending : Ending} {c : Context} {row : Row} {l : Units} {at : ℕ}
         → past_space l ≡ End at
         → unended ending ≡ None
-        → ReadsAtoms ending c row l (Read row (End at))
+        → ReadsAtoms ending c row l (Read (finished c.style row) (End at))
     never_ended : {ending : Ending} {c : Context} {row : Row} {l : Units} {at : ℕ} {r : Refusal}
         → past_space l ≡ End at
         → unended ending ≡ Some r
@@ -197,7 +221,7 @@ mutual
     atoms_end : {ending : Ending} {c : Context} {row : Row} {l m : Units} {u : Unit}
         → past_space l ≡ Next u m
         → IsTrue (ends ending u.piece)
-        → ReadsAtoms ending c row l (Read row m)
+        → ReadsAtoms ending c row l (Read (finished c.style row) (left_behind ending u m))
     -- an atom, and the atoms after it
     atom_read : {ending : Ending} {c : Context} {row : Row} {l m n : Units} {u : Unit} {x : Atom} {o : Outcome Row}
         → past_space l ≡ Next u m
@@ -210,6 +234,50 @@ mutual
         → IsFalse (ends ending u.piece)
         → ReadsAtom ending c u m (Refused r)
         → ReadsAtoms ending c row l (Refused r)
+    -- a change, and what stands after it
+    rest_read : {ending : Ending} {c d : Context} {row xs : Row} {change : Change} {l m : Units} {u : Unit} {o : Outcome Row}
+        → past_space l ≡ Next u m
+        → IsFalse (ends ending u.piece)
+        → atom_start ending u.piece ≡ ChangeStart change
+        → rest_of change c row ≡ GoesOnIn d xs
+        → ReadsAtoms ending d xs m o
+        → ReadsAtoms ending c row l o
+    change_refused : {ending : Ending} {c : Context} {row : Row} {change : Change} {kind : Kind} {l m : Units} {u : Unit}
+        → past_space l ≡ Next u m
+        → IsFalse (ends ending u.piece)
+        → atom_start ending u.piece ≡ ChangeStart change
+        → rest_of change c row ≡ NoRest kind
+        → ReadsAtoms ending c row l (Refused (refusal_at kind u.place))
+
+  -- what a table comes to with these rows and these cells of the next one, and those that stand here, up to its end, which
+  -- is left
+  pub data ReadsRows : TableEnd → ℕ → Columns → Context → List Element → List Element → Units → Outcome Lines → Type 0 where
+    cell_read : {end : TableEnd} {place : ℕ} {columns : Columns} {c : Context} {rows cells : List Element} {l m : Units} {row : Row} {o : Outcome Lines}
+        → ReadsAtoms (InCell end place) c (begun_cell columns (length cells)) l (Read row m)
+        → ReadsBehindCell end place columns c rows cells row.elements m o
+        → ReadsRows end place columns c rows cells l o
+    cell_refused : {end : TableEnd} {place : ℕ} {columns : Columns} {c : Context} {rows cells : List Element} {l : Units} {r : Refusal}
+        → ReadsAtoms (InCell end place) c (begun_cell columns (length cells)) l (Refused r)
+        → ReadsRows end place columns c rows cells l (Refused r)
+
+  -- what it comes to behind one more cell, of these elements
+  pub data ReadsBehindCell : TableEnd → ℕ → Columns → Context → List Element → List Element → List Element → Units → Outcome Lines → Type 0 where
+    next_cell : {end : TableEnd} {place : ℕ} {columns : Columns} {c : Context} {rows cells cell : List Element} {l m : Units} {u : Unit} {o : Outcome Lines}
+        → past_space l ≡ Next u m
+        → cell_end u.piece ≡ PartsCells
+        → ReadsRows end place columns c rows (row_element cell ∷ cells) m o
+        → ReadsBehindCell end place columns c rows cells cell l o
+    -- a row of these cells, and those after it
+    next_row : {end : TableEnd} {place : ℕ} {columns : Columns} {c : Context} {rows cells cell : List Element} {l m : Units} {u : Unit} {o : Outcome Lines}
+        → past_space l ≡ Next u m
+        → cell_end u.piece ≡ EndsRow
+        → ReadsRows end place columns c (a_row (row_element cell ∷ cells) ∷ rows) [] (past_break m) o
+        → ReadsBehindCell end place columns c rows cells cell l o
+    -- the end of the table is left
+    table_ends : {end : TableEnd} {place : ℕ} {columns : Columns} {c : Context} {rows cells cell : List Element} {l m : Units} {u : Unit}
+        → past_space l ≡ Next u m
+        → cell_end u.piece ≡ EndsTable
+        → ReadsBehindCell end place columns c rows cells cell l (Read (with_last rows cells cell) l)
 
   -- what words come to with one part after them, in an alphabet, where this place takes it. White space counts.
   pub data ReadsWord : ℕ → Option Alphabet → Words → Units → Outcome Words → Type 0 where

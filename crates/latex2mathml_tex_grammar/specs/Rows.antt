@@ -1,10 +1,24 @@
 -- Rows: the elements of atoms side by side. Here the elements stand the last one first.
-use Rattle.std.specs.Prelude.{pos, Bool, true, false, ◌&&◌, ◌||◌, List, [], ◌∷◌, ◌++◌, reverse}
+use Rattle.std.specs.Prelude.{pos, Bool, true, false, ◌&&◌, ◌||◌, List, [], ◌∷◌, ◌++◌, reverse, Option, None}
 use Rattle.latex2mathml_elements.specs.{Attributes.plain, Element.Element, Element.Mrow, Element.token, Element.space, Element.container, Element.children}
 use Rattle.latex2mathml_tex_grammar.specs.Atoms.{Atom, Kind, SignOf, PlusOrMinus, Plain, Before, Nothing, is_letters, is_parted, past, element_there, element_as}
+use Rattle.latex2mathml_tex_grammar.specs.{Meaning.FractionRule}
 use Rattle.latex2mathml_tex_grammar.specs.Symbols.{Class, Ordinary, Binary, Relation, Style}
 
+-- a change of style in a row
+pub record Restyled : Type 0 where
+  -- the elements before it
+  pub before : List Element
+  -- the style of the group
+  pub group : Style
+
+-- the upper part of a fraction
+pub record Upper : Type 0 where
+  pub rule : FractionRule
+  pub element : Element
+
 pub record Row : Type 0 where
+  -- those since the last change of style
   pub elements : List Element
   -- what the next atom stands behind
   pub before : Before
@@ -14,9 +28,13 @@ pub record Row : Type 0 where
   pub high : Bool
   -- its class as the base of a mark
   pub class : Class
+  -- that change of style, where there was one
+  pub restyled : Option Restyled
+  -- the upper part of the fraction whose lower part it is, where it is one
+  pub under : Option Upper
 
 abbrev pub empty_row : Row
-empty_row = record { elements = []; before = Nothing; ends_in_word = false; high = false; class = Ordinary }
+empty_row = record { elements = []; before = Nothing; ends_in_word = false; high = false; class = Ordinary; restyled = None; under = None }
 
 abbrev pub thin_space : Element
 thin_space = space (pos 3)
@@ -55,6 +73,8 @@ with_atom style row x = record {
   ends_in_word = is_letters x.kind;
   high = row.high || x.high;
   class = class_after row.elements x.kind;
+  restyled = row.restyled;
+  under = row.under;
 }
 
 -- elements side by side as one

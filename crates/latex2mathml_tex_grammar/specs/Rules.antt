@@ -1,13 +1,16 @@
 -- The rules of formulas: what a unit begins, as one table. A rule says what is read from left to right, and at its end
 -- an atom or a refusal.
-use Rattle.std.specs.Prelude.{ℕ, pos, ◌==◌, ◌||◌, Bool, true, false, List, [], ◌∷◌, ◌++◌, codes, Option, Some, None, if◌then◌else◌}
+use Rattle.std.specs.Prelude.{ℕ, pos, ◌==◌, ◌||◌, Bool, nat_le, length, true, false, List, [], ◌∷◌, ◌++◌, Option, Some, None, if◌then◌else◌}
 use Rattle.std.specs.{Char.is_ascii_alphabetic, Char.is_ascii_digit, Str.byte, Str.bytes_eq}
-use Rattle.latex2mathml_elements.specs.{Attributes.Above, Element.Element}
+use Rattle.latex2mathml_elements.specs.{Attributes.Above, Columns.Columns, Columns.Dense, Columns.Alike, Columns.Listed, Element.Element}
 use Rattle.latex2mathml_tex_grammar.specs.{Atoms.Plain, Atoms.atom, Commands.meaning_of, Commands.symbol_of, Delimiters.negated_of, Rows.Row, Rows.Operand, Rows.as_base, Rows.operand_of, Rows.row_element}
+use Rattle.latex2mathml_tex_grammar.specs.Environments.{Environment, columns_of, environment_of}
 use Rattle.latex2mathml_tex_grammar.specs.Makes.{Core, core, letter, upright_letter, number, relation, symbol, function_name, spacing, group, classed, no_letters, operator_name, accent, brace, stack, fraction, square_root, root, between_delimiters, sized, struck}
-use Rattle.latex2mathml_tex_grammar.specs.Meaning.{Meaning, Shows, FunctionName, Spacing, Styled, Words as TakesWordsIn, Fraction, Root, Accent, Brace, Stack, StackedRelation, OperatorName, Negation, Slash, Sized, Left, Middle, Right, Limits, NoLimits, Classed, Beside, ByStyle, FractionRule}
-use Rattle.latex2mathml_tex_grammar.specs.Refusal.{UnknownCommand, MissingArgument, UnopenedBrace, RightWithoutLeft, MiddleWithoutLeft, LimitsWithoutOperator, NothingToNegate, OutsideTable, MisplacedCharacter, Refusal, refusal_at}
+use Rattle.latex2mathml_tex_grammar.specs.Meaning.{Meaning, Shows, FunctionName, Spacing, Styled, Words as TakesWordsIn, Fraction, Root, Accent, Brace, Stack, StackedRelation, OperatorName, Negation, Slash, Sized, Left, Middle, Right, Limits, NoLimits, Classed, Changes, Beside, ByStyle, FractionRule, BeginTable, EndTable, LineBreak, Substack}
+use Rattle.latex2mathml_tex_grammar.specs.Refusal.{UnknownCommand, MissingArgument, ChangeAsArgument, UnopenedBrace, RightWithoutLeft, MiddleWithoutLeft, LimitsWithoutOperator, NothingToNegate, OutsideTable, MisplacedCharacter, Refusal, refusal_at, UnknownEnvironment, EndWithoutBegin, OtherName, TooManyColumns}
+use Rattle.latex2mathml_tex_grammar.specs.Scanning.{Spot, Argument, Name, ColumnList, Number, BeforeArgument, BeforeBrace, BeforePosition}
 use Rattle.latex2mathml_tex_grammar.specs.Symbols.{Style, InScript, smaller, Alphabet, Upright, Ordinary, Relation, Symbol}
+use Rattle.latex2mathml_tex_grammar.specs.Tables.{Lines, a_table}
 use Rattle.latex2mathml_tex_grammar.specs.Units.{Piece, Space, Open, Close, Command, Character}
 use Rattle.latex2mathml_tex_grammar.specs.Words.{Words, words_atom}
 
@@ -22,6 +25,11 @@ in_context style alphabet = record { style = style; alphabet = alphabet }
 abbrev pub styled : Context → Style → Context
 styled c style = in_context style c.alphabet
 
+-- how a table ends: an environment by `\end`, rows in braces, each of one cell, by their brace
+pub data TableEnd : Type 0 where
+  ByName : TableEnd
+  ByBrace : TableEnd
+
 -- up to what atoms stand side by side, with the place where it begins
 pub data Ending : Type 0 where
   WholeText : Ending
@@ -30,6 +38,8 @@ pub data Ending : Type 0 where
   InDollars : ℕ → Ending
   -- up to the `\right` of a `\left`
   InDelimiters : ℕ → Ending
+  -- in a cell of a table: up to what ends the cell
+  InCell : TableEnd → ℕ → Ending
 
 pub data Rule : Type 0 where
   -- nothing more is read, and this is the atom
@@ -50,6 +60,13 @@ pub data Rule : Type 0 where
   takes_digits : (List ℕ → Rule) → Rule
   -- a delimiter, which must stand next, is taken
   takes_delimiter : (List ℕ → Rule) → Rule
+  -- what is found from this spot on is taken; it must stand next. The place is of what takes it.
+  takes_found : Spot → ℕ → (List ℕ → Rule) → Rule
+  -- what is found from this spot on is passed over
+  passes_over : Spot → Rule → Rule
+  -- rows of a table that begins at this place, in these columns, up to its end, which is taken, and what follows it; the
+  -- number is the place of the end
+  reads_rows : TableEnd → ℕ → Columns → Context → (Lines → ℕ → Rule) → Rule
 
 -- the tests of units, which answer with a text
 
@@ -140,6 +157,44 @@ abbrev pub slashed : Operand → Option Element → Core
 slashed x None = core (group x)
 slashed x (Some element) = core (atom (Plain Ordinary) false element)
 
+-- a table of rows that were read, where its end has the same name as its beginning
+abbrev pub ended_table : ℕ → Context → Environment → Columns → Lines → Bool → Rule
+ended_table place c e columns lines true = gives (a_table e.delimiters columns e.style c.style lines)
+ended_table place c e columns lines false = refuses (refusal_at OtherName place)
+
+-- the rows of an environment of this name, in these columns
+abbrev pub rows_rule : ℕ → Context → List ℕ → Environment → Columns → Rule
+rows_rule place c name e columns =
+    reads_rows ByName place columns (styled c e.style)
+    (λ lines end. takes_found (BeforeArgument Name) end (λ other. ended_table end c e columns lines (bytes_eq other name)))
+
+-- so many columns an author may say
+abbrev pub most_columns : ℕ
+most_columns = 16
+
+abbrev pub listed_rule : ℕ → Context → List ℕ → Environment → List ℕ → Rule
+listed_rule place c name e letters =
+    if nat_le (length letters) most_columns then rows_rule place c name e (Listed (columns_of letters)) else refuses (refusal_at TooManyColumns place)
+
+abbrev pub argument_rule : ℕ → Context → List ℕ → Environment → Option Argument → Rule
+argument_rule place c name e None = rows_rule place c name e e.columns
+argument_rule place c name e (Some ColumnList) = takes_found (BeforeArgument ColumnList) place (λ letters. listed_rule place c name e letters)
+argument_rule place c name e (Some Number) = takes_found (BeforeArgument Number) place (λ number. rows_rule place c name e e.columns)
+argument_rule place c name e (Some Name) = rows_rule place c name e e.columns
+
+abbrev pub position_rule : Bool → Rule → Rule
+position_rule true rest = passes_over BeforePosition rest
+position_rule false rest = rest
+
+abbrev pub environment_rule : ℕ → Context → List ℕ → Option Environment → Rule
+environment_rule place c name None = refuses (refusal_at (UnknownEnvironment name) place)
+environment_rule place c name (Some e) = position_rule e.may_have_position (argument_rule place c name e e.argument)
+
+-- rows in braces, each of one cell, as small as a script
+abbrev pub a_substack : ℕ → Context → Rule
+a_substack place c =
+    takes_found BeforeBrace place (λ brace. reads_rows ByBrace place (Alike Dense) (styled c InScript) (λ lines end. gives (a_table None (Alike Dense) InScript c.style lines)))
+
 -- the rule of a command with this meaning, at this place
 abbrev pub meaning_rule : ℕ → Context → Meaning → Rule
 meaning_rule place c (Shows s) = gives (symbol c.alphabet s)
@@ -163,10 +218,16 @@ meaning_rule place c Right = refuses (refusal_at RightWithoutLeft place)
 meaning_rule place c Limits = refuses (refusal_at LimitsWithoutOperator place)
 meaning_rule place c NoLimits = refuses (refusal_at LimitsWithoutOperator place)
 meaning_rule place c (Classed class) = of_one place c (λ x. classed class (as_base c.style class x))
+-- among atoms it is no atom, and changes what stands after it
+meaning_rule place c (Changes change) = refuses (refusal_at ChangeAsArgument place)
+meaning_rule place c BeginTable = takes_found (BeforeArgument Name) place (λ name. environment_rule place c name (environment_of name))
+meaning_rule place c EndTable = refuses (refusal_at EndWithoutBegin place)
+meaning_rule place c LineBreak = refuses (refusal_at OutsideTable place)
+meaning_rule place c Substack = a_substack place c
 
 abbrev pub command_rule : ℕ → Context → List ℕ → Option Meaning → Rule
 command_rule place c name (Some meaning) = meaning_rule place c meaning
-command_rule place c name None = if bytes_eq name (codes "\\") then refuses (refusal_at OutsideTable place) else refuses (refusal_at (UnknownCommand name) place)
+command_rule place c name None = refuses (refusal_at (UnknownCommand name) place)
 
 -- the rule of a unit that begins an atom
 abbrev pub rule : ℕ → Context → Piece → Rule

@@ -2,12 +2,12 @@
 use Rattle.std.specs.Prelude.{ℕ, suc, ◌==◌, ◌||◌, Bool, true, false, List, [], codes, Option, Some, None, if◌then◌else◌}
 use Rattle.std.specs.{Str.byte, Str.bytes_eq}
 use Rattle.latex2mathml_elements.specs.Element.{Element}
-use Rattle.latex2mathml_tex_grammar.specs.{Atoms.Atom, Atoms.Plain, Atoms.atom, Makes.Scripts, Makes.behind_primes, Rows.row_element, Rules.a_digit}
-use Rattle.latex2mathml_tex_grammar.specs.Meaning.{LimitPlace, Beside, Stacked}
-use Rattle.latex2mathml_tex_grammar.specs.Refusal.{Kind, UnclosedBrace, UnclosedBracket, UnclosedDollar, LeftWithoutRight, LimitsWithoutOperator, SecondSubscript, SecondSuperscript, Refusal, refusal_at}
-use Rattle.latex2mathml_tex_grammar.specs.Rules.{Ending, WholeText, InBraces, InBrackets, InDollars, InDelimiters}
+use Rattle.latex2mathml_tex_grammar.specs.{Atoms.Atom, Atoms.Plain, Atoms.atom, Commands.meaning_of, Makes.Scripts, Makes.behind_primes, Rows.row_element, Rules.a_digit}
+use Rattle.latex2mathml_tex_grammar.specs.Meaning.{Change, Changes, Meaning, LimitPlace, Beside, Stacked}
+use Rattle.latex2mathml_tex_grammar.specs.Refusal.{Kind, UnclosedBrace, UnclosedBracket, UnclosedDollar, LeftWithoutRight, LimitsWithoutOperator, SecondSubscript, SecondSuperscript, Refusal, refusal_at, BeginWithoutEnd}
+use Rattle.latex2mathml_tex_grammar.specs.Rules.{Ending, WholeText, InBraces, InBrackets, InDollars, InDelimiters, InCell, ByName, ByBrace}
 use Rattle.latex2mathml_tex_grammar.specs.Symbols.{Ordinary}
-use Rattle.latex2mathml_tex_grammar.specs.Units.{Piece, Open, Close, Command, Character, Units, Next, End, Stop}
+use Rattle.latex2mathml_tex_grammar.specs.Units.{Piece, Open, Close, Command, Character, Unit, Units, Next, End, Stop}
 
 -- What ends atoms side by side
 
@@ -23,6 +23,19 @@ abbrev pub is_close : Piece → Bool
 is_close Close = true
 is_close piece = false
 
+-- what ends a row of a table
+abbrev pub is_break : Piece → Bool
+is_break piece = is_command (codes "\\") piece || is_command (codes "cr") piece || is_command (codes "newline") piece
+
+-- what ends a cell: it parts it from the next cell, or ends its row, or ends the table
+pub data CellEnd : Type 0 where
+  PartsCells : CellEnd
+  EndsRow : CellEnd
+  EndsTable : CellEnd
+
+abbrev pub cell_end : Piece → CellEnd
+cell_end piece = if is_character (byte "&") piece then PartsCells else if is_break piece then EndsRow else EndsTable
+
 -- whether the unit is the ending
 abbrev pub ends : Ending → Piece → Bool
 ends WholeText piece = false
@@ -30,6 +43,14 @@ ends (InBraces place) piece = is_close piece
 ends (InBrackets place) piece = is_character (byte "]") piece
 ends (InDollars place) piece = is_character (byte "$") piece
 ends (InDelimiters place) piece = is_command (codes "right") piece
+ends (InCell ByName place) piece = is_command (codes "end") piece || is_character (byte "&") piece || is_break piece
+ends (InCell ByBrace place) piece = is_close piece || is_break piece
+
+-- what is left of units behind atoms that they begin with, where m stands behind the ending: what ends a cell says how the
+-- table goes on, and is not taken with the cell
+abbrev pub left_behind : Ending → Unit → Units → Units
+left_behind (InCell end place) u l = Next u l
+left_behind ending u l = l
 
 -- why atoms are refused whose ending does not come, where there is to be one
 abbrev pub unended : Ending → Option Refusal
@@ -38,6 +59,8 @@ unended (InBraces place) = Some (refusal_at UnclosedBrace place)
 unended (InBrackets place) = Some (refusal_at UnclosedBracket place)
 unended (InDollars place) = Some (refusal_at UnclosedDollar place)
 unended (InDelimiters place) = Some (refusal_at LeftWithoutRight place)
+unended (InCell ByName place) = Some (refusal_at BeginWithoutEnd place)
+unended (InCell ByBrace place) = Some (refusal_at UnclosedBrace place)
 
 -- Atoms and operands begin with a unit
 
@@ -49,6 +72,8 @@ pub data AtomStart : Type 0 where
   ScriptStart : AtomStart
   -- with what has a rule
   RuleStart : AtomStart
+  -- no atom begins: what stands after it in the group is changed
+  ChangeStart : Change → AtomStart
 
 -- how an operand begins
 pub data OperandStart : Type 0 where
@@ -78,23 +103,36 @@ mark_of (Command name) =
     else None
 mark_of piece = None
 
-abbrev pub start_of_mark : Option Mark → AtomStart
-start_of_mark (Some Prime) = ScriptStart
-start_of_mark (Some Below) = ScriptStart
-start_of_mark (Some Above) = ScriptStart
-start_of_mark (Some (LimitsAt place)) = RuleStart
-start_of_mark None = RuleStart
+-- the change that a command makes, where it makes one
+abbrev pub change_meant : Option Meaning → Option Change
+change_meant (Some (Changes change)) = Some change
+change_meant meaning = None
+
+abbrev pub change_by : Piece → Option Change
+change_by (Command name) = change_meant (meaning_of name)
+change_by piece = None
+
+abbrev pub start_of_change : Option Change → AtomStart
+start_of_change (Some change) = ChangeStart change
+start_of_change None = RuleStart
+
+abbrev pub start_of_mark : Option Change → Option Mark → AtomStart
+start_of_mark change (Some Prime) = ScriptStart
+start_of_mark change (Some Below) = ScriptStart
+start_of_mark change (Some Above) = ScriptStart
+start_of_mark change (Some (LimitsAt place)) = RuleStart
+start_of_mark change None = start_of_change change
 
 -- how the atom begins that this unit begins, among atoms with this ending
 abbrev pub atom_start : Ending → Piece → AtomStart
-atom_start (InDelimiters place) piece = if is_command (codes "middle") piece then DividerStart else start_of_mark (mark_of piece)
-atom_start ending piece = start_of_mark (mark_of piece)
+atom_start (InDelimiters place) piece = if is_command (codes "middle") piece then DividerStart else start_of_mark (change_by piece) (mark_of piece)
+atom_start ending piece = start_of_mark (change_by piece) (mark_of piece)
 
 -- what ends atoms, or goes on with one, is no operand
 abbrev pub is_no_operand : Piece → Bool
 is_no_operand piece =
     is_close piece || is_character (byte "&") piece || is_character (byte "_") piece || is_character (byte "^") piece || is_character (byte "'") piece
-    || is_command (codes "\\") piece || is_command (codes "right") piece || is_command (codes "middle") piece || is_command (codes "limits") piece || is_command (codes "nolimits") piece
+    || is_break piece || is_command (codes "end") piece || is_command (codes "right") piece || is_command (codes "middle") piece || is_command (codes "limits") piece || is_command (codes "nolimits") piece
 
 abbrev pub is_open : Piece → Bool
 is_open Open = true

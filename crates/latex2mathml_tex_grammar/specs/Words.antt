@@ -52,7 +52,7 @@ meaning_rule name (Some (Spacing width)) = IsWord word_space
 meaning_rule name (Some (Shows sign)) = IsWord (Formula (single InText (symbol None sign).atom).element)
 meaning_rule name (Some (TakesWordsIn alphabet)) = TakesWords alphabet
 meaning_rule name (Some meaning) = NoWord (CommandInWords name)
-meaning_rule name None = if bytes_eq name (codes "\\") then NoWord (CommandInWords name) else NoWord (UnknownCommand name)
+meaning_rule name None = NoWord (UnknownCommand name)
 
 -- what a unit is in words of this alphabet
 abbrev pub word_rule : Option Alphabet → Piece → WordRule

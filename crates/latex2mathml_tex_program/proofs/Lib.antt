@@ -1,3 +1,4 @@
 pub mod Formulas
 pub mod Lines
 pub mod Reading
+pub mod Refusals

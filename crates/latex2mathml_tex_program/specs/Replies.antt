@@ -1,31 +1,31 @@
--- What the program makes of formulas. A text is its bytes here.
+-- What the program makes of formulas, where some macros hold. A text is its bytes here.
 use Rattle.std.specs.Prelude.{◌≡◌, ◌≢◌, ℕ, List, [], ◌∷◌, ◌++◌, IfSome, codes}
 use Rattle.latex2mathml_tex.specs.{ErrorTexts.error_text, Answers.IsAnswer, Answers.IsRefusal, Errors.refusal_of, declared.error.TexError.TexError}
-use Rattle.latex2mathml_tex_grammar.specs.Symbols.{Style}
+use Rattle.latex2mathml_tex_grammar.specs.{Macros.Table, Symbols.Style}
 
 -- the markup of a formula, as a line
-abbrev pub IsLine : List ℕ → Style → List ℕ → Type 0
-IsLine tex style line = (markup : List ℕ) × IsAnswer [] tex style markup × (line ≡ markup ++ codes "\n")
+abbrev pub IsLine : Table → List ℕ → Style → List ℕ → Type 0
+IsLine macros tex style line = (markup : List ℕ) × IsAnswer macros tex style markup × (line ≡ markup ++ codes "\n")
 
 -- the reply to one of many formulas; a NUL ends it
-pub data IsReply (tex : List ℕ) (style : Style) (reply : List ℕ) : Type 0 where
+pub data IsReply (macros : Table) (tex : List ℕ) (style : Style) (reply : List ℕ) : Type 0 where
   answered : (markup : List ℕ)
-      → IsAnswer [] tex style markup
+      → IsAnswer macros tex style markup
       → reply ≡ codes "mathml\n" ++ (markup ++ 0 ∷ [])
-      → IsReply tex style reply
+      → IsReply macros tex style reply
   -- by an error that is out of memory, or reports why the formula is refused
   refused : (error : TexError)
-      → IfSome (refusal_of error) (IsRefusal [] tex style)
+      → IfSome (refusal_of error) (IsRefusal macros tex style)
       → reply ≡ codes "error\n" ++ (error_text error ++ 0 ∷ [])
-      → IsReply tex style reply
+      → IsReply macros tex style reply
 
 -- the replies to formulas, in turn
-pub data AreReplies : List (List ℕ) → Style → List ℕ → Type 0 where
-  no_reply : {style : Style} → AreReplies [] style []
+pub data AreReplies (macros : Table) : List (List ℕ) → Style → List ℕ → Type 0 where
+  no_reply : {style : Style} → AreReplies macros [] style []
   one_more : {tex : List ℕ} {texts : List (List ℕ)} {style : Style} {reply replies : List ℕ}
-      → IsReply tex style reply
-      → AreReplies texts style replies
-      → AreReplies (tex ∷ texts) style (reply ++ replies)
+      → IsReply macros tex style reply
+      → AreReplies macros texts style replies
+      → AreReplies macros (tex ∷ texts) style (reply ++ replies)
 
 -- the text holds no NUL
 pub record IsWithoutNul (text : List ℕ) : Type 0 where

@@ -1,9 +1,9 @@
 //! What is put out for formulas.
 ghost use Rattle.std.specs.Prelude.{◌≡◌, ℕ, ◌++◌, ◌∷◌, [], codes, IfErr, IfOk, IfSome, List, OnOk, string_bytes};
-ghost use Rattle.latex2mathml_tex.specs.{ErrorTexts.error_text, Answers.IsRefusal, Answers.style_in, Errors.refusal_of};
+ghost use Rattle.latex2mathml_tex.specs.{ErrorTexts.error_text, Answers.IsRefusal, Answers.style_in, Errors.refusal_of, MacroTables.Holding};
 ghost use Rattle.latex2mathml_tex_program.specs.Replies.{AreFormulas, AreReplies, IsLine, IsReply};
 
-use latex2mathml_tex::{Converter, DisplayStyle, TexError, tex_to_mathml};
+use latex2mathml_tex::{Converter, DisplayStyle, Macros, TexError, tex_to_mathml};
 use std::alloc::{AllocError, Global};
 use std::fmt::Write;
 
@@ -12,11 +12,18 @@ use std::fmt::Write;
 /// # Errors
 ///
 /// As those of [`tex_to_mathml`].
-pub fn line(alloc: Global, tex: &str, display: DisplayStyle) -> Result<String, TexError>
-    ensures line { IfOk result (λ line. IsLine tex.now (style_in display) (string_bytes line)) }
-    ensures refusal { IfErr result (λ error. IfSome (refusal_of error) (IsRefusal [] tex.now (style_in display))) }
+pub fn line<'a>(
+    alloc: Global,
+    macros: &Macros<'a>,
+    tex: &'a str,
+    display: DisplayStyle,
+) -> Result<String, TexError>
+    ensures line { Holding macros.now (λ table. IfOk result (λ line.
+        IsLine table tex.now (style_in display) (string_bytes line))) }
+    ensures refusal { Holding macros.now (λ table. IfErr result (λ error.
+        IfSome (refusal_of error) (IsRefusal table tex.now (style_in display)))) }
 {
-    let mut line = tex_to_mathml(alloc, "", tex, display)?;
+    let mut line = tex_to_mathml(alloc, macros, tex, display)?;
     line.push('\n')?;
     Ok(line)
 }
@@ -25,37 +32,59 @@ pub fn line(alloc: Global, tex: &str, display: DisplayStyle) -> Result<String, T
 /// missing. A reply is a line that says `mathml` or `error`, then the markup, or why the formula is refused, and a NUL.
 ///
 /// The only `Err` is out of memory.
-pub fn replies(alloc: Global, texts: &str, display: DisplayStyle) -> Result<String, AllocError>
-    ensures { IfOk result (λ replies. (formulas : List (List ℕ)) × AreFormulas texts.now formulas
-        × AreReplies formulas (style_in display) (string_bytes replies)) }
+pub fn replies<'a>(
+    alloc: Global,
+    macros: &Macros<'a>,
+    texts: &'a str,
+    display: DisplayStyle,
+) -> Result<String, AllocError>
+    ensures { Holding macros.now (λ table. IfOk result (λ replies.
+        (formulas : List (List ℕ)) × AreFormulas texts.now formulas
+        × AreReplies table formulas (style_in display) (string_bytes replies))) }
 {
     let mut converter = Converter::new(alloc);
     let mut room = String::new(alloc);
     let mut replies = String::new(alloc);
     let mut rest = texts;
     while let Some((tex, more)) = rest.split_once('\0') {
-        append_reply(&mut converter, &mut room, tex, display, &mut replies)?;
+        append_reply(
+            &mut converter,
+            &mut room,
+            macros,
+            tex,
+            display,
+            &mut replies,
+        )?;
         rest = more;
     }
     if !rest.is_empty() {
-        append_reply(&mut converter, &mut room, rest, display, &mut replies)?;
+        append_reply(
+            &mut converter,
+            &mut room,
+            macros,
+            rest,
+            display,
+            &mut replies,
+        )?;
     }
     Ok(replies)
 }
 
 /// Appends the reply to a formula. What it says is first put into `room`.
-fn append_reply(
-    converter: &mut Converter,
+fn append_reply<'a>(
+    converter: &mut Converter<'a>,
     room: &mut String,
-    tex: &str,
+    macros: &Macros<'a>,
+    tex: &'a str,
     display: DisplayStyle,
     replies: &mut String,
 ) -> Result<(), AllocError>
-    ensures { OnOk result ((reply : List ℕ) × IsReply tex.now (style_in display) reply
-        × (string_bytes replies.new ≡ string_bytes replies.old ++ reply)) }
+    ensures { Holding macros.now (λ table. OnOk result ((reply : List ℕ)
+        × IsReply table tex.now (style_in display) reply
+        × (string_bytes replies.new ≡ string_bytes replies.old ++ reply))) }
 {
     room.clear();
-    match converter.append(room, "", tex, display) {
+    match converter.append(room, macros, tex, display) {
         Ok(()) => append_said(replies, "mathml\n", room.as_str()),
         Err(error) => append_refusal(replies, &error, room),
     }

@@ -2,7 +2,8 @@
 ghost use Rattle.std.specs.Prelude.{◌≡◌, ◌++◌, ℕ, [], IfErr, IfOk, IfSome, IsTrue, List, codes, string_bytes};
 ghost use Rattle.std.specs.Io.KnownBytes.{IsAtEnd};
 ghost use Rattle.latex2mathml.specs.Streams.{CanGoOn};
-ghost use Rattle.latex2mathml_tex.specs.Errors.{refusal_of};
+ghost use Rattle.latex2mathml_tex.specs.{Errors.refusal_of, MacroTables.Holding};
+ghost use Rattle.latex2mathml_tex_grammar.specs.UsualMacros.{usual_macros};
 ghost use Rattle.latex2mathml_tex_program.specs.{Exits.IsServed, Exits.LinePrinted, Faults.fault_line};
 ghost use Rattle.latex2mathml_tex_program.specs.Runs.{IsMade, IsNotMade, IsRun};
 
@@ -10,7 +11,7 @@ use crate::fault::Fault;
 use crate::reply::{line, replies};
 use crate::request::Request;
 use latex2mathml::{Sink, Source, read_text, write_text};
-use latex2mathml_tex::TexError;
+use latex2mathml_tex::{Macros, TexError};
 use std::alloc::{AllocError, Global};
 
 const DONE: u8 = 0;
@@ -78,13 +79,31 @@ pub fn run<R: Source, W: Sink>(
 
 /// Returns what is to be put out for a text.
 fn product(alloc: Global, request: Request, text: &str) -> Result<String, TexError>
-    ensures made { IfOk result (λ product. IsMade request text.now (string_bytes product)) }
-    ensures refusal { IfErr result (λ error. IfSome (refusal_of error) (IsNotMade request text.now)) }
+    ensures made { IfOk result (λ product.
+        IsMade usual_macros request text.now (string_bytes product)) }
+    ensures refusal { IfErr result (λ error.
+        IfSome (refusal_of error) (IsNotMade usual_macros request text.now)) }
+{
+    let macros = Macros::new(alloc);
+    product_with(alloc, &macros, request, text)
+}
+
+/// Returns what is to be put out for a text whose formulas may use these macros.
+fn product_with<'a>(
+    alloc: Global,
+    macros: &Macros<'a>,
+    request: Request,
+    text: &'a str,
+) -> Result<String, TexError>
+    ensures made { Holding macros.now (λ table. IfOk result (λ product.
+        IsMade table request text.now (string_bytes product))) }
+    ensures refusal { Holding macros.now (λ table. IfErr result (λ error.
+        IfSome (refusal_of error) (IsNotMade table request text.now))) }
 {
     if request.is_many {
-        return Ok(replies(alloc, text, request.display)?);
+        return Ok(replies(alloc, macros, text, request.display)?);
     }
-    line(alloc, text, request.display)
+    line(alloc, macros, text, request.display)
 }
 
 /// Writes the line that reports the fault, if there is memory for it.

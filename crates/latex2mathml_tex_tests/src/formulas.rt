@@ -1,6 +1,6 @@
 //! Formulas that are read, and refusals as their readers see them.
 
-use latex2mathml_tex::{Converter, DisplayStyle, Position, TexError, tex_to_mathml};
+use latex2mathml_tex::{Converter, DisplayStyle, Macros, Position, TexError, tex_to_mathml};
 use std::alloc::{AllocError, Global};
 use std::test::Fail;
 
@@ -8,8 +8,9 @@ const X: &str =
     "<math xmlns=\"http://www.w3.org/1998/Math/MathML\" display=\"inline\"><mi>x</mi></math>";
 
 /// The text of the error for a formula in a line of text, and its position.
-fn refusal(alloc: Global, definitions: &str, tex: &str) -> Result<(String, Position), Fail> {
-    match tex_to_mathml(alloc, definitions, tex, DisplayStyle::Inline) {
+fn refusal(alloc: Global, tex: &str) -> Result<(String, Position), Fail> {
+    let macros = Macros::new(alloc);
+    match tex_to_mathml(alloc, &macros, tex, DisplayStyle::Inline) {
         Ok(markup) => Err(Fail::new(markup)),
         Err(error) => Ok((format!(in alloc; "{error}")?, error.position(tex))),
     }
@@ -17,7 +18,8 @@ fn refusal(alloc: Global, definitions: &str, tex: &str) -> Result<(String, Posit
 
 #[test]
 fn scripts_in_a_line(rt: HostRuntime) -> Result<(), Fail> {
-    let markup = tex_to_mathml(rt.alloc(), "", "x_i^2", DisplayStyle::Inline)?;
+    let macros = Macros::new(rt.alloc());
+    let markup = tex_to_mathml(rt.alloc(), &macros, "x_i^2", DisplayStyle::Inline)?;
     assert!(rt;
         markup.as_str()
             == "<math xmlns=\"http://www.w3.org/1998/Math/MathML\" display=\"inline\"><msubsup><mi>x</mi><mi>i</mi><mn>2</mn></msubsup></math>",
@@ -28,7 +30,8 @@ fn scripts_in_a_line(rt: HostRuntime) -> Result<(), Fail> {
 
 #[test]
 fn fraction_on_a_line_of_its_own(rt: HostRuntime) -> Result<(), Fail> {
-    let markup = tex_to_mathml(rt.alloc(), "", "\\frac1{y}", DisplayStyle::Block)?;
+    let macros = Macros::new(rt.alloc());
+    let markup = tex_to_mathml(rt.alloc(), &macros, "\\frac1{y}", DisplayStyle::Block)?;
     assert!(rt;
         markup.as_str()
             == "<math xmlns=\"http://www.w3.org/1998/Math/MathML\" display=\"block\"><mfrac><mn>1</mn><mi>y</mi></mfrac></math>",
@@ -39,7 +42,7 @@ fn fraction_on_a_line_of_its_own(rt: HostRuntime) -> Result<(), Fail> {
 
 #[test]
 fn unknown_command(rt: HostRuntime) -> Result<(), Fail> {
-    let (text, position) = refusal(rt.alloc(), "", "\\foo")?;
+    let (text, position) = refusal(rt.alloc(), "\\foo")?;
     assert!(rt; text.as_str() == "unknown command \\foo at 0", "{text}");
     assert!(rt; position == Position { line: 1, column: 1 }, "{position:?}");
     Ok(())
@@ -47,7 +50,7 @@ fn unknown_command(rt: HostRuntime) -> Result<(), Fail> {
 
 #[test]
 fn unknown_command_on_the_second_line(rt: HostRuntime) -> Result<(), Fail> {
-    let (text, position) = refusal(rt.alloc(), "", "x^2\n+ \\foo")?;
+    let (text, position) = refusal(rt.alloc(), "x^2\n+ \\foo")?;
     assert!(rt; text.as_str() == "unknown command \\foo at 6", "{text}");
     assert!(rt; position == Position { line: 2, column: 3 }, "{position:?}");
     Ok(())
@@ -55,20 +58,12 @@ fn unknown_command_on_the_second_line(rt: HostRuntime) -> Result<(), Fail> {
 
 #[test]
 fn columns_count_characters(rt: HostRuntime) -> Result<(), Fail> {
-    let (text, position) = refusal(rt.alloc(), "", "α\nβ𝑥\u{7}")?;
+    let (text, position) = refusal(rt.alloc(), "α\nβ𝑥\u{7}")?;
     assert!(rt;
         text.as_str() == "forbidden character U+0007 at 9",
         "{text}"
     );
     assert!(rt; position == Position { line: 2, column: 3 }, "{position:?}");
-    Ok(())
-}
-
-#[test]
-fn definitions_are_refused(rt: HostRuntime) -> Result<(), Fail> {
-    let (text, position) = refusal(rt.alloc(), "\\def\\R{\\mathbb R}", "x")?;
-    assert!(rt; text.as_str() == "definitions are not read yet", "{text}");
-    assert!(rt; position == Position { line: 1, column: 1 }, "{position:?}");
     Ok(())
 }
 
@@ -82,14 +77,15 @@ fn out_of_memory_is_about_no_place(rt: HostRuntime) -> Result<(), Fail> {
 
 #[test]
 fn formulas_in_turn(rt: HostRuntime) -> Result<(), Fail> {
+    let macros = Macros::new(rt.alloc());
     let mut converter = Converter::new(rt.alloc());
     let mut text = String::from_str(rt.alloc(), "a: ")?;
-    converter.append(&mut text, "", "x", DisplayStyle::Inline)?;
+    converter.append(&mut text, &macros, "x", DisplayStyle::Inline)?;
     let length = text.len();
-    let refused = converter.append(&mut text, "", "{\\frac{x}{", DisplayStyle::Inline);
+    let refused = converter.append(&mut text, &macros, "{\\frac{x}{", DisplayStyle::Inline);
     assert!(rt; refused.is_err() && text.len() == length, "{text}");
     text.push_str(", b: ")?;
-    converter.append(&mut text, "", "x", DisplayStyle::Inline)?;
+    converter.append(&mut text, &macros, "x", DisplayStyle::Inline)?;
     let expected = format!(in rt.alloc(); "a: {X}, b: {X}")?;
     assert!(rt; text == expected, "{text}");
     Ok(())

@@ -1,5 +1,7 @@
-//! Tests of `tex_to_mathml` and of a converter, beside those that the program shows.
+//! Tests of `tex_to_mathml`, of a converter and of macros, beside those that the program shows.
 #![tactic(auto)]
 
 #[cfg(test)]
 mod formulas;
+#[cfg(test)]
+mod macros;

@@ -35,6 +35,8 @@ holding_table =
     (codes "msqrt", elements) ∷
     (codes "mstyle", elements) ∷
     (codes "mrow", elements) ∷
+    (codes "mpadded", elements) ∷
+    (codes "mphantom", elements) ∷
     (codes "mtd", elements) ∷
     (codes "math", elements) ∷
     (codes "mtable", all_of (codes "mtr")) ∷

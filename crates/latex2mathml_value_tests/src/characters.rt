@@ -1,7 +1,7 @@
 //! Each ASCII character, and others of each length, through each text that is printed.
 
-use crate::samples::Words;
 use latex2mathml_nodes::ast::Node;
+use latex2mathml_samples::samples::Words;
 use latex2mathml_tokens::LatexError;
 use latex2mathml_tokens::attribute::Variant;
 use latex2mathml_tokens::token::Token;

@@ -1,7 +1,7 @@
 //! Copies and equality of nodes of each kind.
 
-use crate::samples::{Frame, Pair, Sample, Triple, Words};
 use latex2mathml_nodes::ast::Node;
+use latex2mathml_samples::samples::{Frame, Pair, Sample, Triple, Words};
 use latex2mathml_tokens::DisplayStyle;
 use latex2mathml_tokens::attribute::{Accent, ColumnAlign, LineThickness, Variant};
 use std::alloc::{AllocError, Global};

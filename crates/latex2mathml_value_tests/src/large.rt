@@ -1,10 +1,11 @@
 //! Large values: deeply nested nodes, nodes with many members, and each call that allocates, at small and at large sizes. Each call
 //! succeeds if there is memory.
 
-use crate::samples::{Frame, Pair, Triple, Words, apply, leaf};
 use latex2mathml_nodes::ast::Node;
+use latex2mathml_samples::places::{PLACES, Place, nested};
+use latex2mathml_samples::samples::{Words, leaf};
 use latex2mathml_tokens::LatexError;
-use latex2mathml_tokens::attribute::{Accent, ColumnAlign, LineThickness, Variant};
+use latex2mathml_tokens::attribute::{ColumnAlign, Variant};
 use latex2mathml_tokens::token::Token;
 use std::alloc::{AllocError, Global};
 use std::test::Fail;
@@ -16,134 +17,6 @@ fn repeat(alloc: Global, c: char, count: usize) -> Result<String, AllocError> {
         text.push(c)?;
     }
     Ok(text)
-}
-
-/// A place of a node in another one. In lists, others may be before and after it.
-#[derive(Clone, Copy)]
-enum Place {
-    Argument,
-    Framed(Frame),
-    First(Pair),
-    Second(Pair),
-    Target(Triple),
-    Below(Triple),
-    Above(Triple),
-    Row(Option<bool>, Option<bool>),
-    Matrix(Option<bool>, Option<bool>),
-}
-
-impl Place {
-    /// A node that has the given one in this place.
-    fn around(self, alloc: Global, x: Node) -> Result<Node, AllocError> {
-        match self {
-            Place::Argument => apply(alloc, "sin", x),
-            Place::Framed(frame) => frame.around(alloc, x),
-            Place::First(pair) => pair.of(alloc, x, leaf('a')),
-            Place::Second(pair) => pair.of(alloc, leaf('a'), x),
-            Place::Target(triple) => triple.of(alloc, x, leaf('a'), leaf('b')),
-            Place::Below(triple) => triple.of(alloc, leaf('a'), x, leaf('b')),
-            Place::Above(triple) => triple.of(alloc, leaf('a'), leaf('b'), x),
-            Place::Row(before, after) => Ok(Node::Row(between(alloc, before, x, after)?)),
-            Place::Matrix(before, after) => {
-                let cells = between(alloc, before, x, after)?;
-                Ok(Node::Matrix(cells, ColumnAlign::Center))
-            }
-        }
-    }
-}
-
-/// The place of each kind that holds one node.
-static ONE: [Place; 7] = [
-    Place::Argument,
-    Place::Framed(Frame::Over('^', Accent::True)),
-    Place::Framed(Frame::Under('_', Accent::False)),
-    Place::Framed(Frame::Root),
-    Place::Framed(Frame::Fence("(", ")")),
-    Place::Framed(Frame::Slash),
-    Place::Framed(Frame::Style(None)),
-];
-
-/// Both places of each kind that holds two nodes.
-static TWO: [Place; 14] = [
-    Place::First(Pair::Subscript),
-    Place::Second(Pair::Subscript),
-    Place::First(Pair::Superscript),
-    Place::Second(Pair::Superscript),
-    Place::First(Pair::Overset),
-    Place::Second(Pair::Overset),
-    Place::First(Pair::Underset),
-    Place::Second(Pair::Underset),
-    Place::First(Pair::Under),
-    Place::Second(Pair::Under),
-    Place::First(Pair::Root),
-    Place::Second(Pair::Root),
-    Place::First(Pair::Fraction(LineThickness::Medium)),
-    Place::Second(Pair::Fraction(LineThickness::Medium)),
-];
-
-/// The places of each kind that holds three nodes.
-static THREE: [Place; 6] = [
-    Place::Target(Triple::SubSup),
-    Place::Below(Triple::SubSup),
-    Place::Above(Triple::SubSup),
-    Place::Target(Triple::UnderOver),
-    Place::Below(Triple::UnderOver),
-    Place::Above(Triple::UnderOver),
-];
-
-/// The places of each kind that holds a list.
-static LISTS: [Place; 7] = [
-    Place::Row(None, None),
-    Place::Row(None, Some(false)),
-    Place::Row(Some(false), None),
-    Place::Row(None, Some(true)),
-    Place::Row(Some(true), None),
-    Place::Matrix(None, Some(false)),
-    Place::Matrix(Some(true), Some(true)),
-];
-
-/// A letter inside so many nodes, each of which has the one before in this place.
-fn nested(alloc: Global, place: Place, levels: usize, letter: char) -> Result<Node, AllocError> {
-    let mut x = leaf(letter);
-    for _ in 0..levels {
-        x = place.around(alloc, x)?;
-    }
-    Ok(x)
-}
-
-/// What may be before and after a node in a list: nodes that hold none, and nodes that hold one.
-fn beside(alloc: Global, is_compound: bool) -> Result<Node, AllocError> {
-    if is_compound {
-        Frame::Slash.around(alloc, leaf('a'))
-    } else {
-        Ok(leaf('a'))
-    }
-}
-
-/// Adds what may be beside a node, if something is.
-fn push_beside(
-    alloc: Global,
-    nodes: &mut Vec<Node>,
-    is_compound: Option<bool>,
-) -> Result<(), AllocError> {
-    if let Some(is_compound) = is_compound {
-        nodes.push(beside(alloc, is_compound)?)?;
-    }
-    Ok(())
-}
-
-/// The node between others of the list, which may be missing.
-fn between(
-    alloc: Global,
-    before: Option<bool>,
-    x: Node,
-    after: Option<bool>,
-) -> Result<Vec<Node>, AllocError> {
-    let mut nodes = Vec::new(alloc);
-    push_beside(alloc, &mut nodes, before)?;
-    nodes.push(x)?;
-    push_beside(alloc, &mut nodes, after)?;
-    Ok(nodes)
 }
 
 /// How deep a node is inside others of its kind, where each kind is copied and compared.
@@ -162,59 +35,9 @@ fn is_whole(alloc: Global, place: Place) -> Result<bool, AllocError> {
 
 #[test]
 fn each_kind_in_itself(rt: HostRuntime) -> Result<(), Fail> {
-    for places in [&ONE[..], &TWO[..], &THREE[..], &LISTS[..]] {
-        for (number, place) in places.iter().enumerate() {
-            assert!(rt; is_whole(rt.alloc(), *place)?, "{number}");
-        }
+    for (name, place) in &PLACES {
+        assert!(rt; is_whole(rt.alloc(), *place)?, "{name}");
     }
-    Ok(())
-}
-
-/// How deep a node is inside others of its kind, where each kind is dropped. A call for each level would have 83 bytes of a stack
-/// of 8 MiB, and one that holds a node and its parts needs more.
-const LEVELS: usize = 100_000;
-
-/// How often a node is inside each of these places in turn.
-const ROUNDS: usize = 10_000;
-
-/// Drops nodes nested in each of these places, and then nodes in all of them in turn. Returns whether there were such nodes.
-fn are_dropped(alloc: Global, places: &[Place]) -> Result<bool, AllocError> {
-    for place in places {
-        let node = nested(alloc, *place, LEVELS, 'x')?;
-        if matches!(&node, Node::Letter(..)) {
-            return Ok(false);
-        }
-    }
-    let mut x = leaf('x');
-    for _ in 0..ROUNDS {
-        for place in places {
-            x = place.around(alloc, x)?;
-        }
-    }
-    Ok(!matches!(&x, Node::Letter(..)))
-}
-
-#[test]
-fn deep_frames_are_dropped(rt: HostRuntime) -> Result<(), Fail> {
-    assert!(rt; are_dropped(rt.alloc(), &ONE)?);
-    Ok(())
-}
-
-#[test]
-fn deep_pairs_are_dropped(rt: HostRuntime) -> Result<(), Fail> {
-    assert!(rt; are_dropped(rt.alloc(), &TWO)?);
-    Ok(())
-}
-
-#[test]
-fn deep_scripts_are_dropped(rt: HostRuntime) -> Result<(), Fail> {
-    assert!(rt; are_dropped(rt.alloc(), &THREE)?);
-    Ok(())
-}
-
-#[test]
-fn deep_lists_are_dropped(rt: HostRuntime) -> Result<(), Fail> {
-    assert!(rt; are_dropped(rt.alloc(), &LISTS)?);
     Ok(())
 }
 

@@ -1,8 +1,8 @@
 //! Each law of nodes, called. A law returns nothing, and its statement is proved, so the call only has to return.
 
-use crate::samples::{Words, apply};
 use latex2mathml_nodes::ast::Node;
 use latex2mathml_nodes::laws;
+use latex2mathml_samples::samples::{Words, apply};
 use std::test::Fail;
 
 #[test]

@@ -18,6 +18,4 @@ mod nodes;
 #[cfg(test)]
 mod refusals;
 #[cfg(test)]
-mod samples;
-#[cfg(test)]
 mod tokens;

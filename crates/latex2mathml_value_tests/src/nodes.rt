@@ -1,7 +1,9 @@
 //! Nodes made by hand, of each kind: their markup.
 
-use crate::samples::{Frame, Pair, Sample, Triple, Words, apply, leaf, leaves as leaves_of};
 use latex2mathml_nodes::ast::Node;
+use latex2mathml_samples::samples::{
+    Frame, Pair, Sample, Triple, Words, apply, leaf, leaves as leaves_of,
+};
 use latex2mathml_tokens::DisplayStyle;
 use latex2mathml_tokens::attribute::{Accent, ColumnAlign, LineThickness, Variant};
 use std::alloc::{AllocError, Global};

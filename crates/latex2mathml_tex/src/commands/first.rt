@@ -3,7 +3,9 @@ ghost use Rattle.std.specs.Prelude.{◌≡◌, map};
 ghost use Rattle.latex2mathml_tex_grammar.specs.CommandsUpToL.{commands_up_to_l};
 ghost use Rattle.latex2mathml_tex.specs.Meanings.{entry_of};
 
-use crate::meaning::{Alphabet, Class, Entry, FractionRule, LimitPlace, Meaning, Style, Symbol};
+use crate::meaning::{
+    Alphabet, Change, Class, Entry, FractionRule, LimitPlace, Meaning, Style, Symbol,
+};
 use latex2mathml_builder::attributes::{Side, Size, Stretch};
 
 /// The entries.
@@ -16,7 +18,7 @@ pub(crate) fn entries() -> &'static [Entry]
 
 /// An entry for each command, in the order of their names' bytes.
 #[rattlefmt::skip]
-static ENTRIES: [Entry; 388] = [
+static ENTRIES: [Entry; 400] = [
     Entry { name: " ", meaning: Meaning::Spacing(6) },
     Entry { name: "!", meaning: Meaning::Spacing(-3) },
     Entry { name: "#", meaning: Meaning::Shows(Symbol::Sign(Class::Ordinary, '#')) },
@@ -104,6 +106,7 @@ static ENTRIES: [Entry; 388] = [
     Entry { name: "Yleft", meaning: Meaning::Shows(Symbol::Sign(Class::Relation, '⤙')) },
     Entry { name: "Yright", meaning: Meaning::Shows(Symbol::Sign(Class::Relation, '⤚')) },
     Entry { name: "Zeta", meaning: Meaning::Shows(Symbol::UprightLetter('Ζ')) },
+    Entry { name: "\\", meaning: Meaning::LineBreak },
     Entry { name: "_", meaning: Meaning::Shows(Symbol::Sign(Class::Ordinary, '_')) },
     Entry { name: "a", meaning: Meaning::Shows(Symbol::UprightLetter('å')) },
     Entry { name: "acute", meaning: Meaning::Accent(Side::Above, '´', Stretch::Rigid) },
@@ -126,6 +129,7 @@ static ENTRIES: [Entry; 388] = [
     Entry { name: "ast", meaning: Meaning::Shows(Symbol::Sign(Class::Binary, '∗')) },
     Entry { name: "astrosun", meaning: Meaning::Shows(Symbol::Sign(Class::Ordinary, '☉')) },
     Entry { name: "asymp", meaning: Meaning::Shows(Symbol::Sign(Class::Relation, '≍')) },
+    Entry { name: "atop", meaning: Meaning::Changes(Change::Divides(FractionRule::Bare)) },
     Entry { name: "backepsilon", meaning: Meaning::Shows(Symbol::Sign(Class::Relation, '∍')) },
     Entry { name: "backprime", meaning: Meaning::Shows(Symbol::Sign(Class::Ordinary, '‵')) },
     Entry { name: "backsim", meaning: Meaning::Shows(Symbol::Sign(Class::Relation, '∽')) },
@@ -134,9 +138,11 @@ static ENTRIES: [Entry; 388] = [
     Entry { name: "bar", meaning: Meaning::Accent(Side::Above, '¯', Stretch::Rigid) },
     Entry { name: "barwedge", meaning: Meaning::Shows(Symbol::Sign(Class::Binary, '⊼')) },
     Entry { name: "because", meaning: Meaning::Shows(Symbol::Sign(Class::Relation, '∵')) },
+    Entry { name: "begin", meaning: Meaning::BeginTable },
     Entry { name: "beta", meaning: Meaning::Shows(Symbol::Letter('β')) },
     Entry { name: "beth", meaning: Meaning::Shows(Symbol::UprightLetter('ℶ')) },
     Entry { name: "between", meaning: Meaning::Shows(Symbol::Sign(Class::Relation, '≬')) },
+    Entry { name: "bf", meaning: Meaning::Changes(Change::ToAlphabet(Alphabet::Bold)) },
     Entry { name: "big", meaning: Meaning::Sized(Size::Big, Class::Ordinary) },
     Entry { name: "bigcap", meaning: Meaning::Shows(Symbol::BigOperator('⋂')) },
     Entry { name: "bigcirc", meaning: Meaning::Shows(Symbol::Sign(Class::Binary, '◯')) },
@@ -178,9 +184,12 @@ static ENTRIES: [Entry; 388] = [
     Entry { name: "boxplus", meaning: Meaning::Shows(Symbol::Sign(Class::Binary, '⊞')) },
     Entry { name: "boxslash", meaning: Meaning::Shows(Symbol::Sign(Class::Relation, '⧄')) },
     Entry { name: "boxtimes", meaning: Meaning::Shows(Symbol::Sign(Class::Binary, '⊠')) },
+    Entry { name: "brace", meaning: Meaning::Changes(Change::Divides(FractionRule::Braced)) },
+    Entry { name: "brack", meaning: Meaning::Changes(Change::Divides(FractionRule::Bracketed)) },
     Entry { name: "breve", meaning: Meaning::Accent(Side::Above, '˘', Stretch::Rigid) },
     Entry { name: "bullet", meaning: Meaning::Shows(Symbol::Sign(Class::Binary, '∙')) },
     Entry { name: "bumpeq", meaning: Meaning::Shows(Symbol::Sign(Class::Relation, '≏')) },
+    Entry { name: "cal", meaning: Meaning::Changes(Change::ToAlphabet(Alphabet::Calligraphic)) },
     Entry { name: "cap", meaning: Meaning::Shows(Symbol::Sign(Class::Binary, '∩')) },
     Entry { name: "cdot", meaning: Meaning::Shows(Symbol::Sign(Class::Binary, '⋅')) },
     Entry { name: "cdotp", meaning: Meaning::Shows(Symbol::Sign(Class::Punctuation, '⋅')) },
@@ -191,6 +200,7 @@ static ENTRIES: [Entry; 388] = [
     Entry { name: "check", meaning: Meaning::Accent(Side::Above, 'ˇ', Stretch::Rigid) },
     Entry { name: "checkmark", meaning: Meaning::Shows(Symbol::Sign(Class::Ordinary, '✓')) },
     Entry { name: "chi", meaning: Meaning::Shows(Symbol::Letter('χ')) },
+    Entry { name: "choose", meaning: Meaning::Changes(Change::Divides(FractionRule::NoBar)) },
     Entry { name: "circ", meaning: Meaning::Shows(Symbol::Sign(Class::Binary, '∘')) },
     Entry { name: "circeq", meaning: Meaning::Shows(Symbol::Sign(Class::Relation, '≗')) },
     Entry { name: "circlearrowleft", meaning: Meaning::Shows(Symbol::Sign(Class::Relation, '↺')) },
@@ -212,6 +222,7 @@ static ENTRIES: [Entry; 388] = [
     Entry { name: "cot", meaning: Meaning::FunctionName(LimitPlace::Beside, "cot") },
     Entry { name: "cotg", meaning: Meaning::FunctionName(LimitPlace::Beside, "cotg") },
     Entry { name: "coth", meaning: Meaning::FunctionName(LimitPlace::Beside, "coth") },
+    Entry { name: "cr", meaning: Meaning::LineBreak },
     Entry { name: "csc", meaning: Meaning::FunctionName(LimitPlace::Beside, "csc") },
     Entry { name: "csch", meaning: Meaning::FunctionName(LimitPlace::Beside, "csch") },
     Entry { name: "ctg", meaning: Meaning::FunctionName(LimitPlace::Beside, "ctg") },
@@ -247,6 +258,7 @@ static ENTRIES: [Entry; 388] = [
     Entry { name: "diamondsuit", meaning: Meaning::Shows(Symbol::Sign(Class::Ordinary, '♢')) },
     Entry { name: "digamma", meaning: Meaning::Shows(Symbol::Letter('ϝ')) },
     Entry { name: "dim", meaning: Meaning::FunctionName(LimitPlace::Beside, "dim") },
+    Entry { name: "displaystyle", meaning: Meaning::Changes(Change::ToStyle(Style::InDisplay)) },
     Entry { name: "div", meaning: Meaning::Shows(Symbol::Sign(Class::Binary, '÷')) },
     Entry { name: "divideontimes", meaning: Meaning::Shows(Symbol::Sign(Class::Binary, '⋇')) },
     Entry { name: "dj", meaning: Meaning::Shows(Symbol::UprightLetter('đ')) },
@@ -265,6 +277,7 @@ static ENTRIES: [Entry; 388] = [
     Entry { name: "ell", meaning: Meaning::Shows(Symbol::Letter('ℓ')) },
     Entry { name: "emph", meaning: Meaning::Words(Some(Alphabet::Italic)) },
     Entry { name: "emptyset", meaning: Meaning::Shows(Symbol::Sign(Class::Ordinary, '∅')) },
+    Entry { name: "end", meaning: Meaning::EndTable },
     Entry { name: "enskip", meaning: Meaning::Spacing(9) },
     Entry { name: "enspace", meaning: Meaning::Spacing(9) },
     Entry { name: "epsilon", meaning: Meaning::Shows(Symbol::Letter('ϵ')) },
@@ -334,6 +347,7 @@ static ENTRIES: [Entry; 388] = [
     Entry { name: "intercal", meaning: Meaning::Shows(Symbol::Sign(Class::Binary, '⊺')) },
     Entry { name: "intop", meaning: Meaning::Shows(Symbol::BigOperator('∫')) },
     Entry { name: "iota", meaning: Meaning::Shows(Symbol::Letter('ι')) },
+    Entry { name: "it", meaning: Meaning::Changes(Change::ToAlphabet(Alphabet::Italic)) },
     Entry { name: "jmath", meaning: Meaning::Shows(Symbol::Letter('ȷ')) },
     Entry { name: "jupiter", meaning: Meaning::Shows(Symbol::Sign(Class::Ordinary, '♃')) },
     Entry { name: "kappa", meaning: Meaning::Shows(Symbol::Letter('κ')) },

@@ -3,7 +3,9 @@ ghost use Rattle.std.specs.Prelude.{◌≡◌, map};
 ghost use Rattle.latex2mathml_tex_grammar.specs.CommandsFromM.{commands_from_m};
 ghost use Rattle.latex2mathml_tex.specs.Meanings.{entry_of};
 
-use crate::meaning::{Alphabet, Class, Entry, FractionRule, LimitPlace, Meaning, Style, Symbol};
+use crate::meaning::{
+    Alphabet, Change, Class, Entry, FractionRule, LimitPlace, Meaning, Style, Symbol,
+};
 use latex2mathml_builder::attributes::{Side, Stretch};
 
 /// The entries.
@@ -16,7 +18,7 @@ pub(crate) fn entries() -> &'static [Entry]
 
 /// An entry for each command, in the order of their names' bytes.
 #[rattlefmt::skip]
-static ENTRIES: [Entry; 309] = [
+static ENTRIES: [Entry; 319] = [
     Entry { name: "maltese", meaning: Meaning::Shows(Symbol::Sign(Class::Ordinary, '✠')) },
     Entry { name: "mapsto", meaning: Meaning::Shows(Symbol::Sign(Class::Relation, '↦')) },
     Entry { name: "mars", meaning: Meaning::Shows(Symbol::Sign(Class::Ordinary, '♂')) },
@@ -53,6 +55,7 @@ static ENTRIES: [Entry; 309] = [
     Entry { name: "mid", meaning: Meaning::Shows(Symbol::Sign(Class::Relation, '∣')) },
     Entry { name: "middle", meaning: Meaning::Middle },
     Entry { name: "min", meaning: Meaning::FunctionName(LimitPlace::ByStyle, "min") },
+    Entry { name: "mit", meaning: Meaning::Changes(Change::ToAlphabet(Alphabet::Italic)) },
     Entry { name: "models", meaning: Meaning::Shows(Symbol::Sign(Class::Relation, '⊨')) },
     Entry { name: "mp", meaning: Meaning::Shows(Symbol::Sign(Class::Binary, '∓')) },
     Entry { name: "mu", meaning: Meaning::Shows(Symbol::Letter('μ')) },
@@ -74,6 +77,7 @@ static ENTRIES: [Entry; 309] = [
     Entry { name: "neptune", meaning: Meaning::Shows(Symbol::Sign(Class::Ordinary, '♆')) },
     Entry { name: "neq", meaning: Meaning::Shows(Symbol::Sign(Class::Relation, '≠')) },
     Entry { name: "nequiv", meaning: Meaning::Shows(Symbol::Sign(Class::Relation, '≢')) },
+    Entry { name: "newline", meaning: Meaning::LineBreak },
     Entry { name: "nexists", meaning: Meaning::Shows(Symbol::Sign(Class::Ordinary, '∄')) },
     Entry { name: "ng", meaning: Meaning::Shows(Symbol::UprightLetter('ŋ')) },
     Entry { name: "ngeq", meaning: Meaning::Shows(Symbol::Sign(Class::Relation, '≱')) },
@@ -119,6 +123,7 @@ static ENTRIES: [Entry; 309] = [
     Entry { name: "origof", meaning: Meaning::Shows(Symbol::Sign(Class::Relation, '⊶')) },
     Entry { name: "oslash", meaning: Meaning::Shows(Symbol::Sign(Class::Binary, '⊘')) },
     Entry { name: "otimes", meaning: Meaning::Shows(Symbol::Sign(Class::Binary, '⊗')) },
+    Entry { name: "over", meaning: Meaning::Changes(Change::Divides(FractionRule::Bar)) },
     Entry { name: "overbrace", meaning: Meaning::Brace(Side::Above, '⏞') },
     Entry { name: "overbracket", meaning: Meaning::Brace(Side::Above, '⎴') },
     Entry { name: "overleftarrow", meaning: Meaning::Accent(Side::Above, '←', Stretch::Stretching) },
@@ -173,6 +178,7 @@ static ENTRIES: [Entry; 309] = [
     Entry { name: "rightsquigarrow", meaning: Meaning::Shows(Symbol::Sign(Class::Relation, '⇝')) },
     Entry { name: "rightthreetimes", meaning: Meaning::Shows(Symbol::Sign(Class::Binary, '⋌')) },
     Entry { name: "risingdotseq", meaning: Meaning::Shows(Symbol::Sign(Class::Relation, '≓')) },
+    Entry { name: "rm", meaning: Meaning::Changes(Change::ToAlphabet(Alphabet::Upright)) },
     Entry { name: "rmoustache", meaning: Meaning::Shows(Symbol::Sign(Class::Closing, '⎱')) },
     Entry { name: "rparen", meaning: Meaning::Shows(Symbol::Sign(Class::Closing, ')')) },
     Entry { name: "rrbracket", meaning: Meaning::Shows(Symbol::Sign(Class::Closing, '⟧')) },
@@ -180,10 +186,13 @@ static ENTRIES: [Entry; 309] = [
     Entry { name: "rupee", meaning: Meaning::Shows(Symbol::Sign(Class::Ordinary, '₹')) },
     Entry { name: "rvert", meaning: Meaning::Shows(Symbol::Sign(Class::Closing, '∣')) },
     Entry { name: "saturn", meaning: Meaning::Shows(Symbol::Sign(Class::Ordinary, '♄')) },
+    Entry { name: "scriptscriptstyle", meaning: Meaning::Changes(Change::ToStyle(Style::InScript)) },
+    Entry { name: "scriptstyle", meaning: Meaning::Changes(Change::ToStyle(Style::InScript)) },
     Entry { name: "searrow", meaning: Meaning::Shows(Symbol::Sign(Class::Relation, '↘')) },
     Entry { name: "sec", meaning: Meaning::FunctionName(LimitPlace::Beside, "sec") },
     Entry { name: "sech", meaning: Meaning::FunctionName(LimitPlace::Beside, "sech") },
     Entry { name: "setminus", meaning: Meaning::Shows(Symbol::Sign(Class::Binary, '∖')) },
+    Entry { name: "sf", meaning: Meaning::Changes(Change::ToAlphabet(Alphabet::SansSerif)) },
     Entry { name: "sh", meaning: Meaning::FunctionName(LimitPlace::Beside, "sh") },
     Entry { name: "sharp", meaning: Meaning::Shows(Symbol::Sign(Class::Ordinary, '♯')) },
     Entry { name: "shortmid", meaning: Meaning::Shows(Symbol::Sign(Class::Relation, '∣')) },
@@ -218,6 +227,7 @@ static ENTRIES: [Entry; 309] = [
     Entry { name: "subseteqq", meaning: Meaning::Shows(Symbol::Sign(Class::Relation, '⫅')) },
     Entry { name: "subsetneq", meaning: Meaning::Shows(Symbol::Sign(Class::Relation, '⊊')) },
     Entry { name: "subsetneqq", meaning: Meaning::Shows(Symbol::Sign(Class::Relation, '⫋')) },
+    Entry { name: "substack", meaning: Meaning::Substack },
     Entry { name: "succ", meaning: Meaning::Shows(Symbol::Sign(Class::Relation, '≻')) },
     Entry { name: "succapprox", meaning: Meaning::Shows(Symbol::Sign(Class::Relation, '⪸')) },
     Entry { name: "succcurlyeq", meaning: Meaning::Shows(Symbol::Sign(Class::Relation, '≽')) },
@@ -249,6 +259,7 @@ static ENTRIES: [Entry; 309] = [
     Entry { name: "textrm", meaning: Meaning::Words(None) },
     Entry { name: "textsc", meaning: Meaning::Words(None) },
     Entry { name: "textsf", meaning: Meaning::Words(Some(Alphabet::SansSerif)) },
+    Entry { name: "textstyle", meaning: Meaning::Changes(Change::ToStyle(Style::InText)) },
     Entry { name: "texttt", meaning: Meaning::Words(Some(Alphabet::Monospace)) },
     Entry { name: "textup", meaning: Meaning::Words(None) },
     Entry { name: "textyen", meaning: Meaning::Shows(Symbol::Sign(Class::Ordinary, '¥')) },
@@ -272,6 +283,7 @@ static ENTRIES: [Entry; 309] = [
     Entry { name: "triangleq", meaning: Meaning::Shows(Symbol::Sign(Class::Relation, '≜')) },
     Entry { name: "triangleright", meaning: Meaning::Shows(Symbol::Sign(Class::Binary, '▷')) },
     Entry { name: "trianglerighteq", meaning: Meaning::Shows(Symbol::Sign(Class::Relation, '⊵')) },
+    Entry { name: "tt", meaning: Meaning::Changes(Change::ToAlphabet(Alphabet::Monospace)) },
     Entry { name: "twoheadleftarrow", meaning: Meaning::Shows(Symbol::Sign(Class::Relation, '↞')) },
     Entry { name: "twoheadrightarrow", meaning: Meaning::Shows(Symbol::Sign(Class::Relation, '↠')) },
     Entry { name: "ulcorner", meaning: Meaning::Shows(Symbol::Sign(Class::Opening, '⌜')) },

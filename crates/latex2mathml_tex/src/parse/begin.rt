@@ -1,13 +1,13 @@
 //! How the rule of each unit is begun.
-ghost use Rattle.std.specs.Prelude.{◌≡◌, ℕ, false, IfOk, option_map};
+ghost use Rattle.std.specs.Prelude.{◌≡◌, ℕ, false, option_map};
 ghost use Rattle.latex2mathml_builder.specs.Names.{size_of};
 ghost use Rattle.latex2mathml_tex_grammar.specs.Makes;
+ghost use Rattle.latex2mathml_tex_grammar.specs.{Meaning.Left, Starts.is_no_operand, Units.Command};
 ghost use Rattle.latex2mathml_tex_grammar.specs.Commands;
-ghost use Rattle.latex2mathml_tex_grammar.specs.{Meaning.Left, Starts.is_no_operand};
 ghost use Rattle.latex2mathml_tex_grammar.specs.Rules.{a_negation, a_root, an_operator_name, character_rule, command_rule, gives, meaning_rule, reads_words, takes_delimiter};
 ghost use Rattle.latex2mathml_tex_grammar.specs.{Makes.core, Words.words_atom};
-ghost use Rattle.latex2mathml_tex.specs.{Frames.Start, Meanings.alphabet_of, Meanings.class_of, Meanings.meaning_of, Models.context_of, Taking.piece_of};
-ghost use Rattle.latex2mathml_tex.specs.Steps.{AwaitsCore, AwaitsOperand, Begins, BeginsIn, BeginsUnit, CanBegin, Holds, IsStep, Ready, Took};
+ghost use Rattle.latex2mathml_tex.specs.{Meanings.alphabet_of, Meanings.class_of, Meanings.meaning_of, Models.context_of, Taking.piece_of};
+ghost use Rattle.latex2mathml_tex.specs.Steps.{AwaitsCore, AwaitsOperand, Begins, BeginsIn, BeginsUnit, CanBegin, HoldsIn, IsStep, LeadsOn, Ready, Took};
 
 use crate::atoms::{Context, Core, Kind, Row, Words};
 use crate::commands;
@@ -15,6 +15,7 @@ use crate::error::TexErrorKind;
 use crate::meaning::{Alphabet, Class, LimitPlace, Meaning, Style};
 use crate::parse::frames::{Ending, First, Frame, Last};
 use crate::parse::leaves::{begin_number, number};
+use crate::parse::symbols::put_letter;
 use crate::parse::{Parser, State};
 use crate::shapes::put_sized;
 use crate::unit::{Next, Piece, Unit};
@@ -27,7 +28,7 @@ impl<'a> Parser<'a> {
     pub(crate) fn next_operand(&mut self, place: usize) -> Result<State, AllocError>
         requires ready { Ready self.old State.Next }
         requires due { AwaitsOperand place self.old }
-        ensures holds { (s : Start) → Holds s self.old State.Next → IfOk result (Holds s self.new) }
+        ensures holds { LeadsOn (HoldsIn State.Next) self.old self.new result }
         ensures step { IsStep 1 self.old self.new result }
     {
         self.input.skip_space();
@@ -49,7 +50,7 @@ impl<'a> Parser<'a> {
         requires begin { CanBegin 0 self.old }
         requires due { (place : ℕ) × AwaitsOperand place self.old }
         requires some { is_no_operand (piece_of unit.piece) ≡ false }
-        ensures holds { (s : Start) → Took unit.entry s self.old → IfOk result (Holds s self.new) }
+        ensures holds { LeadsOn (Took unit.entry) self.old self.new result }
         ensures step { IsStep 13 self.old self.new result }
     {
         let context = self.frames.innermost(self.style).context();
@@ -59,9 +60,9 @@ impl<'a> Parser<'a> {
             }
             Piece::Character(c) if c.is_ascii_digit() => {
                 begin_number(&mut self.builder, context.alphabet, c)?;
-                Ok(State::Core(number()))
+                self.deliver_core(number())
             }
-            _ => self.begin(unit),
+            _ => self.begin_whole(unit),
         }
     }
 
@@ -69,7 +70,7 @@ impl<'a> Parser<'a> {
     pub(crate) fn next_core(&mut self, place: usize) -> Result<State, AllocError>
         requires ready { Ready self.old State.Next }
         requires due { AwaitsCore place self.old }
-        ensures holds { (s : Start) → Holds s self.old State.Next → IfOk result (Holds s self.new) }
+        ensures holds { LeadsOn (HoldsIn State.Next) self.old self.new result }
         ensures step { IsStep 1 self.old self.new result }
     {
         self.input.skip_space();
@@ -83,16 +84,39 @@ impl<'a> Parser<'a> {
         }
     }
 
+    /// Begins the rule of a unit, which was taken. The innermost frame is given an atom that is whole then.
+    pub(crate) fn begin_whole(&mut self, unit: Unit<'a>) -> Result<State, AllocError>
+        requires begin { CanBegin 0 self.old }
+        ensures holds { LeadsOn (BeginsUnit unit.entry) self.old self.new result }
+        ensures step { IsStep 13 self.old self.new result }
+    {
+        if let Piece::Character(c) = unit.piece
+            && !c.is_ascii_digit()
+            && c.is_ascii_alphabetic()
+        {
+            let context = self.frames.innermost(self.style).context();
+            let letter = put_letter(&mut self.builder, context.alphabet, c)?;
+            return self.deliver_core(letter);
+        }
+        let begun = self.begin(unit);
+        if let Ok(State::Core(core)) = begun {
+            return self.deliver_core(core);
+        }
+        begun
+    }
+
     /// Begins the rule of a unit, which was taken.
     pub(crate) fn begin(&mut self, unit: Unit<'a>) -> Result<State, AllocError>
         requires begin { CanBegin 0 self.old }
-        ensures holds { (s : Start) → BeginsUnit unit.entry s self.old → IfOk result (Holds s self.new) }
+        ensures holds { LeadsOn (BeginsUnit unit.entry) self.old self.new result }
         ensures step { IsStep 13 self.old self.new result }
     {
         let context = self.frames.innermost(self.style).context();
         match unit.piece {
             Piece::Character(c) => self.character(c, unit.place, context),
-            Piece::Command(name) => self.command(name, unit.place, context),
+            Piece::Command(name) => {
+                self.command(commands::look_up(name), name, unit.place, context)
+            }
             Piece::Open => {
                 self.open(Frame::Row(Ending::Group, unit.place, context, Row::empty()))
             }
@@ -104,7 +128,9 @@ impl<'a> Parser<'a> {
     /// Begins the rule of a character.
     fn character(&mut self, c: char, place: usize, context: Context) -> Result<State, AllocError>
         requires begin { CanBegin 0 self.old }
-        ensures holds { (s : Start) → BeginsIn context (character_rule (context_of context) c place) 0 s self.old → IfOk result (Holds s self.new) }
+        ensures holds { LeadsOn
+            (BeginsIn context (character_rule (context_of context) c place) 0)
+            self.old self.new result }
         ensures step { IsStep 13 self.old self.new result }
     {
         if c.is_ascii_digit() {
@@ -124,17 +150,23 @@ impl<'a> Parser<'a> {
         }
     }
 
-    /// Begins the rule of a command.
-    fn command(&mut self, name: &str, place: usize, context: Context) -> Result<State, AllocError>
+    /// Begins the rule of a command for which this was found in the table.
+    pub(crate) fn command(
+        &mut self,
+        found: Option<Meaning>,
+        name: &str,
+        place: usize,
+        context: Context,
+    ) -> Result<State, AllocError>
         requires begin { CanBegin 0 self.old }
-        ensures holds { (s : Start) → BeginsIn context (command_rule place (context_of context) name.now (Commands.meaning_of name.now)) 0 s self.old → IfOk result (Holds s self.new) }
+        ensures holds { LeadsOn
+            (BeginsIn context
+            (command_rule place (context_of context) name.now (option_map meaning_of found)) 0)
+            self.old self.new result }
         ensures step { IsStep 13 self.old self.new result }
     {
-        if let Some(meaning) = commands::look_up(name) {
+        if let Some(meaning) = found {
             return self.meaning(meaning, place, context);
-        }
-        if name == "\\" {
-            return Ok(self.refuse(TexErrorKind::OutsideTable, place));
         }
         let name = String::from_str(self.alloc, name)?;
         Ok(self.refuse(TexErrorKind::UnknownCommand(name), place))
@@ -148,7 +180,9 @@ impl<'a> Parser<'a> {
         context: Context,
     ) -> Result<State, AllocError>
         requires begin { CanBegin 0 self.old }
-        ensures holds { (s : Start) → BeginsIn context (meaning_rule place (context_of context) (meaning_of meaning)) 0 s self.old → IfOk result (Holds s self.new) }
+        ensures holds { LeadsOn
+            (BeginsIn context (meaning_rule place (context_of context) (meaning_of meaning)) 0)
+            self.old self.new result }
         ensures step { IsStep 13 self.old self.new result }
     {
         match meaning {
@@ -198,13 +232,20 @@ impl<'a> Parser<'a> {
             Meaning::Classed(class) => {
                 self.open(Frame::Last(Last::Classed(class, context.style), place, context))
             }
+            Meaning::Changes(_) => Ok(self.refuse(TexErrorKind::ChangeAsArgument, place)),
+            Meaning::BeginTable => self.begin_table(place, context),
+            Meaning::EndTable => Ok(self.refuse(TexErrorKind::EndWithoutBegin, place)),
+            Meaning::LineBreak => Ok(self.refuse(TexErrorKind::OutsideTable, place)),
+            Meaning::Substack => self.begin_substack(place, context),
         }
     }
 
     /// A root, and its degree, if one stands next in square brackets.
     fn root(&mut self, place: usize, context: Context) -> Result<State, AllocError>
         requires begin { CanBegin 0 self.old }
-        ensures holds { (s : Start) → BeginsIn context (a_root place (context_of context)) 0 s self.old → IfOk result (Holds s self.new) }
+        ensures holds { LeadsOn
+            (BeginsIn context (a_root place (context_of context)) 0)
+            self.old self.new result }
         ensures step { IsStep 13 self.old self.new result }
     {
         if self.input.take_character('[') {
@@ -221,7 +262,9 @@ impl<'a> Parser<'a> {
     /// The name of an operator, in upright letters. With a star it has limits.
     fn operator_name(&mut self, place: usize, context: Context) -> Result<State, AllocError>
         requires begin { CanBegin 0 self.old }
-        ensures holds { (s : Start) → BeginsIn context (an_operator_name place (context_of context)) 0 s self.old → IfOk result (Holds s self.new) }
+        ensures holds { LeadsOn
+            (BeginsIn context (an_operator_name place (context_of context)) 0)
+            self.old self.new result }
         ensures step { IsStep 13 self.old self.new result }
     {
         let limits = if self.input.take_character('*') {
@@ -242,7 +285,9 @@ impl<'a> Parser<'a> {
     /// A relation that is negated: it has a sign of its own, or else a stroke.
     fn negation(&mut self, place: usize, context: Context) -> Result<State, AllocError>
         requires begin { CanBegin 0 self.old }
-        ensures holds { (s : Start) → BeginsIn context (a_negation place (context_of context)) 0 s self.old → IfOk result (Holds s self.new) }
+        ensures holds { LeadsOn
+            (BeginsIn context (a_negation place (context_of context)) 0)
+            self.old self.new result }
         ensures step { IsStep 13 self.old self.new result }
     {
         if let Some(sign) = self.input.take_negated() {
@@ -256,8 +301,10 @@ impl<'a> Parser<'a> {
     /// The words that a command takes. White space before them is nothing.
     fn text(&mut self, place: usize, alphabet: Option<Alphabet>) -> Result<State, AllocError>
         requires begin { CanBegin 0 self.old }
-        ensures holds { (s : Start) → Begins (reads_words place (option_map alphabet_of alphabet) (λ ws. gives (core (words_atom ws)))) 0 s self.old
-            → IfOk result (Holds s self.new) }
+        ensures holds { LeadsOn
+            (Begins (reads_words place (option_map alphabet_of alphabet)
+            (λ ws. gives (core (words_atom ws)))) 0)
+            self.old self.new result }
         ensures step { IsStep 13 self.old self.new result }
     {
         self.frames.push(Frame::Text)?;
@@ -272,7 +319,9 @@ impl<'a> Parser<'a> {
     /// A row between delimiters, of which the opening one must stand next.
     fn left(&mut self, place: usize, context: Context) -> Result<State, AllocError>
         requires begin { CanBegin 0 self.old }
-        ensures holds { (s : Start) → BeginsIn context (meaning_rule place (context_of context) Left) 0 s self.old → IfOk result (Holds s self.new) }
+        ensures holds { LeadsOn
+            (BeginsIn context (meaning_rule place (context_of context) Left) 0)
+            self.old self.new result }
         ensures step { IsStep 13 self.old self.new result }
     {
         let Some(opening) = self.input.take_delimiter() else {
@@ -284,7 +333,10 @@ impl<'a> Parser<'a> {
     /// A delimiter of this size, which must stand next.
     fn sized(&mut self, size: Size, class: Class) -> Result<State, AllocError>
         requires begin { CanBegin 0 self.old }
-        ensures holds { (s : Start) → Begins (takes_delimiter (λ text. gives (Makes.sized (size_of size) (class_of class) text))) 0 s self.old → IfOk result (Holds s self.new) }
+        ensures holds { LeadsOn
+            (Begins (takes_delimiter
+            (λ text. gives (Makes.sized (size_of size) (class_of class) text))) 0)
+            self.old self.new result }
         ensures step { IsStep 13 self.old self.new result }
     {
         let Some(delimiter) = self.input.take_delimiter() else {
@@ -299,10 +351,18 @@ impl<'a> Parser<'a> {
 fn is_no_operand(piece: Piece) -> bool
     ensures { result ≡ is_no_operand (piece_of piece.entry) }
 {
+    match piece {
+        Piece::Close | Piece::Character('&' | '_' | '^' | '\'') => true,
+        Piece::Command(name) => is_no_operand_named(name),
+        _ => false,
+    }
+}
+
+fn is_no_operand_named(name: &str) -> bool
+    ensures { result ≡ is_no_operand (Command name.now) }
+{
     matches!(
-        piece,
-        Piece::Close
-            | Piece::Character('&' | '_' | '^' | '\'')
-            | Piece::Command("\\" | "right" | "middle" | "limits" | "nolimits")
+        name,
+        "\\" | "cr" | "newline" | "end" | "right" | "middle" | "limits" | "nolimits"
     )
 }

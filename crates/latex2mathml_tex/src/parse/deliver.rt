@@ -7,14 +7,15 @@ ghost use Rattle.latex2mathml_tex_grammar.specs.Makes;
 ghost use Rattle.latex2mathml_elements.specs.Element.{Element};
 ghost use Rattle.latex2mathml_tex.specs.Meanings.{class_of};
 ghost use Rattle.latex2mathml_tex.specs.declared.atoms.{Core.Core, Operand.Operand};
-ghost use Rattle.latex2mathml_tex.specs.Steps.{Begins, CanMake, FirstRead, Holds, IsStep, Ready, core_made, elements_of};
+ghost use Rattle.latex2mathml_tex.specs.Steps.{Begins, CanMake, FirstRead, Holds, HoldsIn, IsStep, LeadsOn, Ready, core_made, elements_of};
 
 use crate::atoms::{Context, Core, Kind, Operand, Row, Scripts};
 use crate::error::TexErrorKind;
+use crate::fractions::put_fraction;
 use crate::meaning::{Class, LimitPlace};
 use crate::parse::frames::{First, Frame, Last};
 use crate::parse::{Parser, State};
-use crate::shapes::{make_base, put_accent, put_brace, put_fraction, put_stack, with_atom};
+use crate::shapes::{make_base, put_accent, put_brace, put_stack, with_atom};
 use latex2mathml_builder::attributes::{Attributes, Side};
 use latex2mathml_builder::tag::{Container, Pair};
 use std::alloc::AllocError;
@@ -23,32 +24,34 @@ impl<'a> Parser<'a> {
     /// Gives the innermost frame an atom without scripts.
     pub(crate) fn deliver_core(&mut self, core: Core) -> Result<State, AllocError>
         requires { Ready self.old (State.Core core) }
-        ensures holds { (s : Start) → Holds s self.old (State.Core core) → IfOk result (Holds s self.new) }
+        ensures holds { LeadsOn (HoldsIn (State.Core core)) self.old self.new result }
         ensures step { IsStep 3 self.old self.new result }
     {
         match self.frames.innermost(self.style) {
-            Frame::Row(_, _, _, _) => Ok(State::Atom(core, Scripts::none(core.kind, core.limits))),
+            Frame::Row(_, _, _, _) => self.go_on(core, Scripts::none(core.kind, core.limits)),
             Frame::Negation(place, _) => {
                 let _ = self.frames.take(self.style);
                 self.negate(place, core)
             }
-            Frame::Last(_, _, context)
-            | Frame::First(_, _, context)
-            | Frame::Script(_, _, _, _, context) => {
+            Frame::Text | Frame::Words(_, _) => unreachable!(),
+            frame => {
+                let context = frame.context();
                 let row = with_atom(&mut self.builder, context.style, Row::empty(), core)?;
                 Ok(State::Operand(Operand {
                     class: row.class,
                     high: row.high,
                 }))
             }
-            Frame::Text | Frame::Words(_, _) => unreachable!(),
         }
     }
 
     /// Strikes the atom through, if it is one sign or letter.
     fn negate(&mut self, place: usize, core: Core) -> Result<State, AllocError>
         requires { CanMake core_made 1 self.old }
-        ensures holds { (s : Start) → Begins (struck_atom place (core_with core (top (elements_of self.old))) (struck (top (elements_of self.old)))) 1 s self.old → IfOk result (Holds s self.new) }
+        ensures holds { LeadsOn
+            (Begins (struck_atom place (core_with core (top (elements_of self.old)))
+            (struck (top (elements_of self.old)))) 1)
+            self.old self.new result }
         ensures step { IsStep 4 self.old self.new result }
     {
         if self.builder.push('\u{338}')? {
@@ -60,7 +63,7 @@ impl<'a> Parser<'a> {
     /// Gives the innermost frame an operand.
     pub(crate) fn deliver_operand(&mut self, operand: Operand) -> Result<State, AllocError>
         requires { Ready self.old (State.Operand operand) }
-        ensures holds { (s : Start) → Holds s self.old (State.Operand operand) → IfOk result (Holds s self.new) }
+        ensures holds { LeadsOn (HoldsIn (State.Operand operand)) self.old self.new result }
         ensures step { IsStep 2 self.old self.new result }
     {
         match self.frames.take(self.style) {
@@ -79,7 +82,9 @@ impl<'a> Parser<'a> {
         context: Context,
     ) -> Result<State, AllocError>
         requires { CanMake core_made 1 self.old }
-        ensures holds { (s : Start) (operand : Operand) → FirstRead first place context operand s self.old → IfOk result (Holds s self.new) }
+        ensures holds { (s : Start) (operand : Operand)
+            → FirstRead first place context operand s self.old
+            → IfOk result (Holds s self.new) }
         ensures step { IsStep 6 self.old self.new result }
     {
         let outer = self.frames.innermost(self.style).context();
@@ -93,7 +98,12 @@ impl<'a> Parser<'a> {
     /// Makes an atom of the operands that are uppermost.
     fn make(&mut self, last: Last, operand: Operand) -> Result<State, AllocError>
         requires { CanMake core_made (last_count last + 1) self.old }
-        ensures holds { (s : Start) → Begins (gives (made_of last (drop 1 (elements_of self.old)) (operand_with operand (top (elements_of self.old))))) (last_count last + 1) s self.old → IfOk result (Holds s self.new) }
+        ensures holds { LeadsOn
+            (Begins
+            (gives (made_of last (drop 1 (elements_of self.old))
+            (operand_with operand (top (elements_of self.old)))))
+            (last_count last + 1))
+            self.old self.new result }
         ensures step { IsStep 4 self.old self.new result }
     {
         match last {
@@ -152,14 +162,17 @@ impl<'a> Parser<'a> {
 
 /// An atom that is ordinary.
 fn ordinary(high: bool) -> Result<State, AllocError>
-    ensures { result ≡ Ok (State.Core (record { kind = Kind.Plain Class.Ordinary; high = high; limits = LimitPlace.Beside })) }
+    ensures { result ≡ Ok (State.Core
+        (record { kind = Kind.Plain Class.Ordinary; high = high; limits = LimitPlace.Beside })) }
 {
     Ok(State::Core(Core::new(Kind::Plain(Class::Ordinary), high)))
 }
 
 /// An operand as an atom of this class.
 fn classed(class: Class, operand: Operand) -> Result<State, AllocError>
-    ensures { IfOk result (λ st. (c : Core) × (st ≡ State.Core c) × ((x : Element) → core_with c x ≡ Makes.classed (class_of class) (operand_with operand x))) }
+    ensures { IfOk result (λ st. (c : Core) × (st ≡ State.Core c)
+        × ((x : Element)
+        → core_with c x ≡ Makes.classed (class_of class) (operand_with operand x))) }
 {
     let limits = match class {
         Class::Operator => LimitPlace::ByStyle,

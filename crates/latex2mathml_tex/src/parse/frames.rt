@@ -1,14 +1,21 @@
 //! What was begun, and how much of it was read.
-ghost use Rattle.std.specs.Prelude.{◌≡◌, ℕ, ◌∷◌, ◌++◌, [], List, OnOk, if◌then◌else◌};
-ghost use Rattle.latex2mathml_tex_grammar.specs.Starts.{DividerStart, atom_start, ends, mark_of, start_of_mark};
+ghost use Rattle.std.specs.Prelude.{◌≡◌, ℕ, ◌∷◌, ◌++◌, [], List, OnOk, if◌then◌else◌, option_map};
+ghost use Rattle.latex2mathml_tex_grammar.specs.Starts.{DividerStart, atom_start, change_by, ends, mark_of, start_of_mark};
+ghost use Rattle.latex2mathml_tex_grammar.specs.{Refusal.refusal_at, Starts.unended, Environments.before_cell, Rules.InCell};
+ghost use Rattle.latex2mathml_elements.specs.Columns.{column_at};
+ghost use Rattle.latex2mathml_builder.specs.Columns.{columns_of};
 ghost use Rattle.latex2mathml_tex.specs.Frames.{ending_of};
-ghost use Rattle.latex2mathml_tex.specs.Innermost.{IsInnermost, begun_row, frame_context};
+ghost use Rattle.latex2mathml_tex.specs.{Errors.kind_of_error, Meanings.style_of, Models.before_of, Tables.style_in, Tables.table_end};
+ghost use Rattle.latex2mathml_tex.specs.Innermost.{IsInnermost, begun_row, empty_row, frame_context};
 ghost use Rattle.latex2mathml_tex.specs.Taking.{piece_of};
 
-use crate::atoms::{Context, Core, Row, Scripts, Words};
+use crate::atoms::{Before, Context, Core, Row, Scripts, Words};
+use crate::environments::Environment;
+use crate::error::TexErrorKind;
 use crate::meaning::{Alphabet, Class, FractionRule, LimitPlace, Style};
 use crate::unit::Piece;
 use latex2mathml_builder::attributes::{Side, Stretch};
+use latex2mathml_builder::columns::{Column, Columns};
 use std::alloc::{AllocError, Global};
 
 /// Up to what the atoms of a row stand, and what the row is for.
@@ -26,6 +33,21 @@ pub(crate) enum Ending {
     Delimiters(Option<char>),
     /// A dollar sign: the row is a formula behind these words.
     Formula(Words),
+    /// What ends a cell: the row is a cell of this table.
+    Cell(Table),
+}
+
+/// A table of which a cell is read. The elements of the cells before it in its row, and below them those of the rows before
+/// it, are below those of the cell.
+#[derive(Clone, Copy)]
+pub(crate) struct Table {
+    /// The environment that it is. Where it is none, it is rows in braces, each of one cell.
+    pub(crate) environment: Option<&'static Environment>,
+    pub(crate) columns: Columns,
+    /// How many rows stand before the one that is read.
+    pub(crate) rows: usize,
+    /// How many cells of that row stand before the one that is read.
+    pub(crate) cells: usize,
 }
 
 /// What a command makes of its last operand.
@@ -91,17 +113,68 @@ impl Ending {
             Ending::Degree => matches!(piece, Piece::Character(']')),
             Ending::Delimiters(_) => matches!(piece, Piece::Command("right")),
             Ending::Formula(_) => matches!(piece, Piece::Character('$')),
+            Ending::Cell(table) => table.is_ended_by(piece),
         }
     }
 
     /// Whether the unit stands between parts of the row, and is followed by a delimiter.
     pub(crate) fn is_divided_by(self, piece: Piece) -> bool
         ensures { (place : ℕ) → atom_start (ending_of self place) (piece_of piece.entry)
-            ≡ (if result then DividerStart else start_of_mark (mark_of (piece_of piece.entry))) }
+            ≡ (if result then DividerStart
+            else start_of_mark (change_by (piece_of piece.entry)) (mark_of (piece_of piece.entry))) }
     {
         match self {
             Ending::Delimiters(_) => matches!(piece, Piece::Command("middle")),
             _ => false,
+        }
+    }
+}
+
+impl Table {
+    /// Whether the unit ends a cell.
+    fn is_ended_by(self, piece: Piece) -> bool
+        ensures { (place : ℕ) → result ≡ ends (InCell (table_end self) place) (piece_of piece.entry) }
+    {
+        match piece {
+            Piece::Command("\\" | "cr" | "newline") => true,
+            Piece::Command("end") | Piece::Character('&') => self.environment.is_some(),
+            Piece::Close => self.environment.is_none(),
+            _ => false,
+        }
+    }
+
+    /// Why it is refused where its end does not come.
+    pub(crate) fn unended(self) -> TexErrorKind
+        ensures { (place : ℕ) → option_map (λ k. refusal_at k place) (kind_of_error result) ≡ unended (InCell (table_end self) place) }
+    {
+        match self.environment {
+            Some(_) => TexErrorKind::BeginWithoutEnd,
+            None => TexErrorKind::UnclosedBrace,
+        }
+    }
+
+    /// The style of its cells.
+    pub(crate) fn style(self) -> Style
+        ensures { style_of result ≡ style_in self.environment }
+    {
+        match self.environment {
+            Some(environment) => environment.style,
+            None => Style::InScript,
+        }
+    }
+
+    /// The row of the cell, before its first atom.
+    pub(crate) fn begun_cell(self) -> Row
+        ensures row { result ≡ record empty_row { before = result.before } }
+        ensures before { before_of result.before ≡ before_cell (column_at (columns_of self.columns) self.cells) }
+    {
+        let before = match self.columns.column_at(self.cells) {
+            Column::SecondOfPair => Before::After(Class::Ordinary),
+            _ => Before::Nothing,
+        };
+        Row {
+            before,
+            ..Row::empty()
         }
     }
 }
@@ -155,7 +228,22 @@ impl Frames {
         Ok(())
     }
 
+    /// Puts a frame in place of the innermost one, which may be the row of the whole formula.
+    pub(crate) fn replace(&mut self, frame: Frame) -> Result<(), AllocError>
+        ensures { OnOk result ((style : Style) (f : Frame) (others : List Frame)
+            → IsInnermost style self.old.stack.items f others
+            → self.new.stack.items ≡ others ++ frame ∷ []) }
+    {
+        let len = self.stack.as_slice().len();
+        if len == 0 {
+            return self.push(frame);
+        }
+        self.stack[len - 1] = frame;
+        Ok(())
+    }
+
     /// The innermost frame, in a formula of this style.
+    #[inline(always)]
     pub(crate) fn innermost(&self, style: Style) -> Frame
         ensures { (others : List Frame) × IsInnermost style self.now.stack.items result others }
     {

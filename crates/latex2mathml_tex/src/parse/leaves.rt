@@ -1,5 +1,5 @@
 //! The atoms that are one element: letters, numbers, signs, names and spaces.
-ghost use Rattle.std.specs.Prelude.{◌≡◌, ◌<◌, ◌∷◌, [], false, true, IfOk, OnOk, option_map};
+ghost use Rattle.std.specs.Prelude.{◌≡◌, ◌<◌, ◌∷◌, [], false, IfOk, OnOk, option_map};
 ghost use Rattle.latex2mathml_builder.specs.{Built.elements_in, Stacks.lengthened};
 ghost use Rattle.latex2mathml_tex_grammar.specs.Makes;
 ghost use Rattle.latex2mathml_tex_grammar.specs.Makes.{core, digits_in};
@@ -12,7 +12,7 @@ ghost use Rattle.latex2mathml_elements.specs.{Element.Element};
 ghost use Rattle.latex2mathml_tex.specs.{Frames.Start, Left.units_at, Meanings.alphabet_of, Meanings.limit_place_of, Models.core_with};
 ghost use Rattle.latex2mathml_tex.specs.Meanings;
 ghost use Rattle.latex2mathml_tex.specs.Numbers.{digit_in};
-ghost use Rattle.latex2mathml_tex.specs.Steps.{Begins, CanBegin, Holds, IsStep, NumberBegins, PointBegins};
+ghost use Rattle.latex2mathml_tex.specs.Steps.{Begins, CanBegin, Holds, IsStep, LeadsOn, NumberBegins, PointBegins};
 
 use crate::alphabets::in_alphabet;
 use crate::atoms::{Core, Kind};
@@ -34,7 +34,10 @@ impl<'a> Parser<'a> {
         symbol: Symbol,
     ) -> Result<State, AllocError>
         requires { CanBegin 0 self.old }
-        ensures holds { (s : Start) → Begins (gives (Makes.symbol (option_map alphabet_of alphabet) (Meanings.symbol_of symbol))) 0 s self.old → IfOk result (Holds s self.new) }
+        ensures holds { LeadsOn
+            (Begins (gives
+            (Makes.symbol (option_map alphabet_of alphabet) (Meanings.symbol_of symbol))) 0)
+            self.old self.new result }
         ensures step { IsStep 13 self.old self.new result }
     {
         Ok(State::Core(put_symbol(&mut self.builder, alphabet, symbol)?))
@@ -47,7 +50,9 @@ impl<'a> Parser<'a> {
         c: char,
     ) -> Result<State, AllocError>
         requires { CanBegin 0 self.old }
-        ensures holds { (s : Start) → Begins (gives (core (Makes.letter (option_map alphabet_of alphabet) c))) 0 s self.old → IfOk result (Holds s self.new) }
+        ensures holds { LeadsOn
+            (Begins (gives (core (Makes.letter (option_map alphabet_of alphabet) c))) 0)
+            self.old self.new result }
         ensures step { IsStep 13 self.old self.new result }
     {
         Ok(State::Core(put_letter(&mut self.builder, alphabet, c)?))
@@ -60,7 +65,9 @@ impl<'a> Parser<'a> {
         c: char,
     ) -> Result<State, AllocError>
         requires { CanBegin 0 self.old }
-        ensures holds { (s : Start) → Begins (gives (core (Makes.upright_letter (option_map alphabet_of alphabet) c))) 0 s self.old → IfOk result (Holds s self.new) }
+        ensures holds { LeadsOn
+            (Begins (gives (core (Makes.upright_letter (option_map alphabet_of alphabet) c))) 0)
+            self.old self.new result }
         ensures step { IsStep 13 self.old self.new result }
     {
         Ok(State::Core(put_upright_letter(&mut self.builder, alphabet, c)?))
@@ -73,7 +80,9 @@ impl<'a> Parser<'a> {
         name: &'static str,
     ) -> Result<State, AllocError>
         requires { CanBegin 0 self.old }
-        ensures holds { (s : Start) → Begins (gives (Makes.function_name (limit_place_of limits) name.now)) 0 s self.old → IfOk result (Holds s self.new) }
+        ensures holds { LeadsOn
+            (Begins (gives (Makes.function_name (limit_place_of limits) name.now)) 0)
+            self.old self.new result }
         ensures step { IsStep 13 self.old self.new result }
     {
         self.builder.text(Token::Mi, Attributes::plain(), name)?;
@@ -87,7 +96,9 @@ impl<'a> Parser<'a> {
     /// A space, in eighteenths of an em.
     pub(crate) fn space(&mut self, width: i8) -> Result<State, AllocError>
         requires { CanBegin 0 self.old }
-        ensures holds { (s : Start) → Begins (gives (core (Makes.spacing width))) 0 s self.old → IfOk result (Holds s self.new) }
+        ensures holds { LeadsOn
+            (Begins (gives (core (Makes.spacing width))) 0)
+            self.old self.new result }
         ensures step { IsStep 13 self.old self.new result }
     {
         self.builder.space(i32::from(width))?;
@@ -102,7 +113,7 @@ impl<'a> Parser<'a> {
     ) -> Result<State, AllocError>
         requires begin { CanBegin 0 self.old }
         requires digit { digit < 128 }
-        ensures holds { (s : Start) → NumberBegins alphabet digit s self.old → IfOk result (Holds s self.new) }
+        ensures holds { LeadsOn (NumberBegins alphabet digit) self.old self.new result }
         ensures step { IsStep 13 self.old self.new result }
     {
         begin_number(&mut self.builder, alphabet, digit)?;
@@ -122,8 +133,10 @@ impl<'a> Parser<'a> {
         c: char,
     ) -> Result<State, AllocError>
         requires begin { CanBegin 0 self.old }
-        ensures holds { (s : Start) (context : Context) → option_map alphabet_of alphabet ≡ (context_of context).alphabet
-            → Begins (a_symbol (context_of context) c (symbol_of c)) 0 s self.old → IfOk result (Holds s self.new) }
+        ensures holds { (s : Start) (context : Context)
+            → option_map alphabet_of alphabet ≡ (context_of context).alphabet
+            → Begins (a_symbol (context_of context) c (symbol_of c)) 0 s self.old
+            → IfOk result (Holds s self.new) }
         ensures step { IsStep 13 self.old self.new result }
     {
         match symbol_of(c) {
@@ -135,7 +148,7 @@ impl<'a> Parser<'a> {
     /// A point, which was taken: it begins a number if a digit stands next.
     pub(crate) fn point(&mut self, alphabet: Option<Alphabet>) -> Result<State, AllocError>
         requires { CanBegin 0 self.old }
-        ensures holds { (s : Start) → PointBegins alphabet s self.old → IfOk result (Holds s self.new) }
+        ensures holds { LeadsOn (PointBegins alphabet) self.old self.new result }
         ensures step { IsStep 13 self.old self.new result }
     {
         let Some(digit) = self.input.take_digit() else {
@@ -163,7 +176,8 @@ pub(crate) fn begin_number(
 ) -> Result<(), AllocError>
     requires { digit < 128 }
     ensures { OnOk result (elements_in builder.new
-        ≡ (Makes.number (option_map alphabet_of alphabet) (digit ∷ [])).element ∷ elements_in builder.old) }
+        ≡ (Makes.number (option_map alphabet_of alphabet) (digit ∷ [])).element
+        ∷ elements_in builder.old) }
 {
     let digit = digit_in(alphabet, digit);
     builder.character(Token::Mn, Attributes::plain(), digit)
@@ -177,7 +191,8 @@ fn append_digit(
 ) -> Result<(), AllocError>
     requires { digit < 128 }
     ensures { OnOk result (elements_in builder.new
-        ≡ lengthened (digits_in (option_map alphabet_of alphabet) (digit ∷ [])) (elements_in builder.old)) }
+        ≡ lengthened (digits_in (option_map alphabet_of alphabet) (digit ∷ []))
+        (elements_in builder.old)) }
 {
     builder.push(digit_in(alphabet, digit))?;
     Ok(())
@@ -191,7 +206,8 @@ fn digits(
 ) -> Result<(), AllocError>
     ensures units { OnOk result (units_at input.new ≡ (digits_next (units_at input.old)).1) }
     ensures elements { OnOk result (elements_in builder.new
-        ≡ lengthened (digits_in (option_map alphabet_of alphabet) (digits_next (units_at input.old)).0) (elements_in builder.old)) }
+        ≡ lengthened (digits_in (option_map alphabet_of alphabet)
+        (digits_next (units_at input.old)).0) (elements_in builder.old)) }
 {
     'digits: while let Some(digit) = input.take_digit() {
         append_digit(builder, alphabet, digit)?;

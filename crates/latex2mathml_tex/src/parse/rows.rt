@@ -1,18 +1,20 @@
 //! Rows: how each atom of one begins, how it is put behind the others, and how a row ends.
-ghost use Rattle.std.specs.Prelude.{◌≡◌, ◌≢◌, ◌+◌, ◌≤◌, ℕ, false, IfOk, length};
+ghost use Rattle.std.specs.Prelude.{◌≡◌, ◌≢◌, ◌+◌, ◌≤◌, ℕ, false};
 ghost use Rattle.latex2mathml_tex_grammar.specs.{Makes.no_scripts, Meaning.Beside, Starts.empty_base, Starts.ends};
-ghost use Rattle.latex2mathml_tex.specs.{Frames.Start, Frames.ending_count, Frames.ending_of, Taking.piece_of};
-ghost use Rattle.latex2mathml_tex.specs.Steps.{Awaits, AwaitsAtom, BeginsDivider, CanBegin, CanMake, ClosesRow, EndsText, Follows, HasElements, Holds, InnermostIs, IsStep, MadeAtom, Ready, Took, TookMark, atom_made, core_made, elements_of, level, row_makes, to_do};
+ghost use Rattle.latex2mathml_tex.specs.{Frames.ending_count, Frames.ending_of, Meanings.change_of, Models.row_count, Taking.piece_of, Frames.Start};
+ghost use Rattle.latex2mathml_tex.specs.Steps.{Awaits, AwaitsAtom, BeginsDivider, BeginsRest, CanBegin, CanMake, ClosesRow, EndsFormula, EndsRow, EndsText, HasElements, HoldsIn, InnermostIs, IsStep, LeadsOn, MadeAtom, Ready, Took, TookMark, TookUnmarked, atom_made, core_made, level, row_makes, Closes, Follows, Holds, to_do};
 ghost use Rattle.latex2mathml_tex.specs.declared.atoms.{Context.Context, Row.Row};
 
-use crate::atoms::{Core, Kind, Operand, Row, Scripts, Words};
+use crate::atoms::{Context, Core, Kind, Operand, Row, Scripts, Words};
+use crate::commands;
 use crate::error::TexErrorKind;
-use crate::meaning::{Class, LimitPlace};
+use crate::meaning::{Change, Class, LimitPlace, Meaning, Style};
 use crate::parse::frames::{Ending, Frame, Last};
 use crate::parse::scripts::{Mark, mark_of};
 use crate::parse::{Parser, State};
+use crate::rests::{divide, finish, restyle};
 use crate::shapes::{enclose, lower_dividers, put_divider, put_row, with_atom};
-use crate::unit::{Next, Unit};
+use crate::unit::{Next, Piece, Unit};
 use latex2mathml_builder::attributes::Attributes;
 use latex2mathml_builder::tag::Container;
 use std::alloc::AllocError;
@@ -23,22 +25,23 @@ impl<'a> Parser<'a> {
         &mut self,
         ending: Ending,
         place: usize,
+        context: Context,
         row: Row,
     ) -> Result<State, AllocError>
         requires ready { Ready self.old State.Next }
-        requires due { AwaitsAtom ending place row self.old }
-        ensures holds { (s : Start) → Holds s self.old State.Next → IfOk result (Holds s self.new) }
+        requires due { InnermostIs (Frame.Row ending place context row) self.old }
+        ensures holds { LeadsOn (HoldsIn State.Next) self.old self.new result }
         ensures step { IsStep 1 self.old self.new result }
     {
         self.input.skip_space();
         match self.input.next {
             Next::Fault(fault, at) => Ok(self.refuse_fault(fault, at)),
-            Next::End(_) => Ok(self.end_of_text(ending, place, row)),
+            Next::End(_) => self.end_of_text(ending, place, context.style, row),
             Next::Unit(unit) => {
                 self.input.advance();
                 if ending.is(unit.piece) {
                     let _ = self.frames.take(self.style);
-                    return self.close(ending, place, row);
+                    return self.end_row(ending, place, context.style, row, unit);
                 }
                 self.begin_atom(ending, unit)
             }
@@ -50,14 +53,14 @@ impl<'a> Parser<'a> {
         requires begin { CanBegin 0 self.old }
         requires due { (place : ℕ) × ((row : Row) × AwaitsAtom ending place row self.old) }
         requires some { (place : ℕ) → ends (ending_of ending place) (piece_of unit.piece) ≡ false }
-        ensures holds { (s : Start) → Took unit.entry s self.old → IfOk result (Holds s self.new) }
+        ensures holds { LeadsOn (Took unit.entry) self.old self.new result }
         ensures step { IsStep 13 self.old self.new result }
     {
         if ending.is_divided_by(unit.piece) {
             return self.divider();
         }
         let Some(mark) = mark_of(unit.piece) else {
-            return self.begin(unit);
+            return self.begin_unmarked(unit);
         };
         match mark {
             Mark::Prime | Mark::Script(_) => self.begin_scripts(mark, unit.place),
@@ -65,11 +68,66 @@ impl<'a> Parser<'a> {
         }
     }
 
+    /// Begins an atom of a row with this unit, which was taken and is no mark; or changes what stands after it.
+    fn begin_unmarked(&mut self, unit: Unit<'a>) -> Result<State, AllocError>
+        requires begin { CanBegin 0 self.old }
+        requires row { Awaits atom_made self.old }
+        ensures holds { LeadsOn (TookUnmarked unit.entry) self.old self.new result }
+        ensures step { IsStep 13 self.old self.new result }
+    {
+        let Piece::Command(name) = unit.piece else {
+            return self.begin_whole(unit);
+        };
+        match commands::look_up(name) {
+            Some(Meaning::Changes(change)) => self.change(change, unit.place),
+            found => {
+                let context = self.frames.innermost(self.style).context();
+                self.command(found, name, unit.place, context)
+            }
+        }
+    }
+
+    /// Changes what stands after this place in the innermost row.
+    fn change(&mut self, change: Change, place: usize) -> Result<State, AllocError>
+        requires begin { CanBegin 0 self.old }
+        requires row { Awaits atom_made self.old }
+        ensures holds { LeadsOn (BeginsRest (change_of change) place) self.old self.new result }
+        ensures step { IsStep 13 self.old self.new result }
+    {
+        let Frame::Row(ending, at, context, row) = self.frames.take(self.style) else {
+            unreachable!()
+        };
+        match change {
+            Change::ToAlphabet(alphabet) => {
+                let context = Context {
+                    alphabet: Some(alphabet),
+                    ..context
+                };
+                self.open(Frame::Row(ending, at, context, row))
+            }
+            Change::ToStyle(style) => {
+                let row = restyle(&mut self.builder, context.style, row)?;
+                self.open(Frame::Row(ending, at, context.styled(style), row))
+            }
+            Change::Divides(rule) => match row.under {
+                Some(_) => Ok(self.refuse(TexErrorKind::SecondInfix, place)),
+                None => {
+                    let style = row.group_style(context.style).smaller();
+                    let row = divide(&mut self.builder, context.style, row, rule)?;
+                    self.open(Frame::Row(ending, at, context.styled(style), row))
+                }
+            },
+        }
+    }
+
     /// Begins with a mark, which was taken: it stands on a row without atoms.
     fn begin_scripts(&mut self, mark: Mark, place: usize) -> Result<State, AllocError>
         requires begin { CanBegin 0 self.old }
         requires row { Awaits atom_made self.old }
-        ensures holds { (s : Start) → TookMark mark place (level 0 s self.old) empty_base (no_scripts empty_base.kind Beside) s self.old → IfOk result (Holds s self.new) }
+        ensures holds { LeadsOn
+            (λ s. TookMark mark place (level 0 s self.old) empty_base
+            (no_scripts empty_base.kind Beside) s)
+            self.old self.new result }
         ensures step { IsStep 13 self.old self.new result }
     {
         self.builder
@@ -87,7 +145,7 @@ impl<'a> Parser<'a> {
     fn divider(&mut self) -> Result<State, AllocError>
         requires begin { CanBegin 0 self.old }
         requires row { Awaits atom_made self.old }
-        ensures holds { (s : Start) → BeginsDivider s self.old → IfOk result (Holds s self.new) }
+        ensures holds { LeadsOn BeginsDivider self.old self.new result }
         ensures step { IsStep 13 self.old self.new result }
     {
         let Some(delimiter) = self.input.take_delimiter() else {
@@ -100,42 +158,89 @@ impl<'a> Parser<'a> {
     /// Puts an atom, whose element is uppermost, behind the others of the innermost row.
     pub(crate) fn put(&mut self, core: Core) -> Result<State, AllocError>
         requires { CanMake atom_made 1 self.old }
-        ensures holds { (s : Start) → MadeAtom core s self.old → IfOk result (Holds s self.new) }
+        ensures holds { LeadsOn (MadeAtom core) self.old self.new result }
         ensures step { IsStep 2 self.old self.new result }
     {
-        let Frame::Row(ending, place, context, row) = self.frames.take(self.style) else {
+        let Frame::Row(ending, place, context, row) = self.frames.innermost(self.style) else {
             unreachable!()
         };
         let row = with_atom(&mut self.builder, context.style, row, core)?;
-        self.open(Frame::Row(ending, place, context, row))
+        self.frames
+            .replace(Frame::Row(ending, place, context, row))?;
+        Ok(State::Next)
     }
 
     /// Ends a row where the text ends.
-    fn end_of_text(&mut self, ending: Ending, place: usize, row: Row) -> State
+    fn end_of_text(
+        &mut self,
+        ending: Ending,
+        place: usize,
+        style: Style,
+        row: Row,
+    ) -> Result<State, AllocError>
         requires elements { HasElements 0 self.old }
         requires due { (c : Context) × InnermostIs (Frame.Row ending place c row) self.old }
-        ensures holds { (s : Start) → EndsText ending place row s self.old → Holds s self.new result }
-        ensures step { Follows (to_do self.old + 1) self.new result }
+        ensures holds { LeadsOn (EndsText ending place style row) self.old self.new result }
+        ensures step { IsStep 1 self.old self.new result }
     {
         let kind = match ending {
-            Ending::Text => return State::End(row.count),
+            Ending::Text => return self.end_formula(style, row),
             Ending::Group | Ending::Operand => TexErrorKind::UnclosedBrace,
             Ending::Degree => TexErrorKind::UnclosedBracket,
             Ending::Delimiters(_) => TexErrorKind::LeftWithoutRight,
             Ending::Formula(_) => TexErrorKind::UnclosedDollar,
+            Ending::Cell(table) => table.unended(),
         };
-        self.refuse(kind, place)
+        Ok(self.refuse(kind, place))
     }
 
-    /// Ends a row, whose ending was taken and whose frame was taken off.
-    fn close(&mut self, ending: Ending, place: usize, row: Row) -> Result<State, AllocError>
+    /// Ends the row of the whole formula.
+    fn end_formula(&mut self, style: Style, row: Row) -> Result<State, AllocError>
+        requires elements { HasElements 0 self.old }
+        requires due { (place : ℕ) × ((c : Context)
+            × InnermostIs (Frame.Row Ending.Text place c row) self.old) }
+        ensures holds { LeadsOn (EndsFormula style row) self.old self.new result }
+        ensures step { IsStep 1 self.old self.new result }
+    {
+        let _ = self.frames.take(self.style);
+        let row = finish(&mut self.builder, style, row)?;
+        Ok(State::End(row.count))
+    }
+
+    /// Ends a row that was read in this style, with this unit, which was taken. Its frame was taken off.
+    fn end_row(
+        &mut self,
+        ending: Ending,
+        place: usize,
+        style: Style,
+        row: Row,
+        unit: Unit<'a>,
+    ) -> Result<State, AllocError>
+        requires ends { ending ≢ Ending.Text }
+        requires can { CanMake (row_makes ending) (row_count row + ending_count ending) self.old }
+        ensures holds { LeadsOn (EndsRow ending place style row unit.entry) self.old self.new result }
+        ensures step { IsStep 13 self.old self.new result }
+    {
+        let row = finish(&mut self.builder, style, row)?;
+        self.close(ending, place, row, unit)
+    }
+
+    /// Ends a row that is finished.
+    fn close(
+        &mut self,
+        ending: Ending,
+        place: usize,
+        row: Row,
+        unit: Unit<'a>,
+    ) -> Result<State, AllocError>
         requires ends { ending ≢ Ending.Text }
         requires can { CanMake (row_makes ending) (row.count + ending_count ending) self.old }
-        ensures holds { (s : Start) → ClosesRow ending place row s self.old → IfOk result (Holds s self.new) }
+        ensures holds { LeadsOn (Closes ending place row unit.entry) self.old self.new result }
         ensures step { IsStep 13 self.old self.new result }
     {
         match ending {
             Ending::Text => unreachable!(),
+            Ending::Cell(table) => self.close_cell(table, place, row, unit),
             Ending::Group => {
                 put_row(&mut self.builder, row.count)?;
                 Ok(State::Core(Core::new(Kind::Plain(Class::Ordinary), row.high)))
@@ -168,7 +273,9 @@ impl<'a> Parser<'a> {
     /// Ends a row between delimiters, whose `\right` was taken.
     fn close_delimiters(&mut self, opening: Option<char>, row: Row) -> Result<State, AllocError>
         requires { CanMake core_made row.count self.old }
-        ensures holds { (s : Start) → ClosesRow (Ending.Delimiters opening) 0 row s self.old → IfOk result (Holds s self.new) }
+        ensures holds { LeadsOn
+            (ClosesRow (Ending.Delimiters opening) 0 row)
+            self.old self.new result }
         ensures step { IsStep 13 self.old self.new result }
     {
         let Some(closing) = self.input.take_delimiter() else {

@@ -4,9 +4,9 @@ ghost use Rattle.latex2mathml_elements.specs.{Attributes.plain, Element.Element,
 ghost use Rattle.latex2mathml_builder.specs.{Built.elements_in, Names.pair_of, Names.triple_of};
 ghost use Rattle.latex2mathml_tex_grammar.specs.Makes;
 ghost use Rattle.latex2mathml_tex_grammar.specs.Starts;
-ghost use Rattle.latex2mathml_tex.specs.{Errors.second_on, Frames.Start, Frames.base_of, Frames.primes_put, Meanings.limit_place_of, Meanings.style_of, Shapes.changed_at, Taking.piece_of};
+ghost use Rattle.latex2mathml_tex.specs.{Errors.second_on, Frames.base_of, Frames.primes_put, Meanings.limit_place_of, Meanings.style_of, Shapes.changed_at, Taking.piece_of};
 ghost use Rattle.latex2mathml_tex.specs.Models.{core_with, script_count, scripts_with, top};
-ghost use Rattle.latex2mathml_tex.specs.Steps.{CanMake, Holds, IsStep, Ready, TookMark, TookScript, atom_made, elements_of, level, mark_model};
+ghost use Rattle.latex2mathml_tex.specs.Steps.{CanMake, HoldsIn, IsStep, LeadsOn, Ready, TookMark, TookScript, atom_made, elements_of, level, mark_model};
 
 use crate::atoms::{Core, Scripts};
 use crate::error::TexErrorKind;
@@ -47,16 +47,14 @@ impl<'a> Parser<'a> {
     /// Goes on after an atom with these scripts: with a mark, or by putting it in its row.
     pub(crate) fn go_on(&mut self, core: Core, scripts: Scripts) -> Result<State, AllocError>
         requires { Ready self.old (State.Atom core scripts) }
-        ensures holds { (s : Start) → Holds s self.old (State.Atom core scripts) → IfOk result (Holds s self.new) }
+        ensures holds { LeadsOn (HoldsIn (State.Atom core scripts)) self.old self.new result }
         ensures step { IsStep 2 self.old self.new result }
     {
-        let mut ahead = self.input;
-        ahead.skip_space();
-        match ahead.next {
+        self.input.skip_space();
+        match self.input.next {
             Next::Unit(unit) => {
                 if let Some(mark) = mark_of(unit.piece) {
-                    ahead.advance();
-                    self.input = ahead;
+                    self.input.advance();
                     return self.take_mark(mark, unit.place, core, scripts);
                 }
             }
@@ -76,7 +74,11 @@ impl<'a> Parser<'a> {
         scripts: Scripts,
     ) -> Result<State, AllocError>
         requires { CanMake atom_made (script_count scripts + 1) self.old }
-        ensures holds { (s : Start) → TookMark mark place (level (script_count scripts + 1) s self.old) (base_of core scripts (elements_of self.old)).atom (scripts_with scripts (elements_of self.old)) s self.old → IfOk result (Holds s self.new) }
+        ensures holds { LeadsOn
+            (λ s. TookMark mark place (level (script_count scripts + 1) s self.old)
+            (base_of core scripts (elements_of self.old)).atom
+            (scripts_with scripts (elements_of self.old)) s)
+            self.old self.new result }
         ensures step { IsStep 13 self.old self.new result }
     {
         match mark {
@@ -122,8 +124,9 @@ impl<'a> Parser<'a> {
         scripts: Scripts,
         side: Side,
     ) -> Result<State, AllocError>
-        requires { CanMake atom_made (primes_put side scripts.primes + (script_count scripts + 2)) self.old }
-        ensures holds { (s : Start) → TookScript core scripts side s self.old → IfOk result (Holds s self.new) }
+        requires { CanMake atom_made (primes_put side scripts.primes + (script_count scripts + 2))
+            self.old }
+        ensures holds { LeadsOn (TookScript core scripts side) self.old self.new result }
         ensures step { IsStep 3 self.old self.new result }
     {
         Ok(State::Atom(
@@ -168,8 +171,11 @@ fn scripted(
 ) -> Result<Core, AllocError>
     requires { script_count scripts + 1 ≤ length (elements_in builder.old) }
     ensures atom { IfOk result (λ made. (core_with made (top (elements_in builder.new))).atom
-        ≡ Makes.scripted (style_of style) (base_of core scripts (elements_in builder.old)).atom (scripts_with scripts (elements_in builder.old))) }
-    ensures below { IfOk result (λ made. drop 1 (elements_in builder.new) ≡ drop (script_count scripts + 1) (elements_in builder.old)) }
+        ≡ Makes.scripted (style_of style) (base_of core scripts (elements_in builder.old)).atom
+        (scripts_with scripts (elements_in builder.old))) }
+    ensures below { IfOk result
+        (λ made. drop 1 (elements_in builder.new)
+        ≡ drop (script_count scripts + 1) (elements_in builder.old)) }
     ensures count { IfOk result (λ made. 1 ≤ length (elements_in builder.new)) }
 {
     let scripts = with_primes(builder, scripts)?;
@@ -189,7 +195,8 @@ fn scripted(
 fn with_primes(builder: &mut Builder, scripts: Scripts) -> Result<Scripts, AllocError>
     ensures scripts { IfOk result (λ whole. scripts_with whole (elements_in builder.new)
         ≡ record (scripts_with scripts (elements_in builder.old)) {
-          above = Makes.superscript scripts.primes (scripts_with scripts (elements_in builder.old)).above;
+          above = Makes.superscript scripts.primes
+              (scripts_with scripts (elements_in builder.old)).above;
         }) }
     ensures below { IfOk result (λ whole. drop (script_count whole) (elements_in builder.new)
         ≡ drop (script_count scripts) (elements_in builder.old)) }
@@ -208,7 +215,8 @@ fn with_primes(builder: &mut Builder, scripts: Scripts) -> Result<Scripts, Alloc
 /// Keeps the browser from moving the limits of the base of these scripts, where they are to stay.
 fn fix_base(builder: &mut Builder, scripts: Scripts)
     ensures { elements_in builder.new
-        ≡ changed_at (Makes.fixed_base (limit_place_of scripts.limits)) (script_count scripts) (elements_in builder.old) }
+        ≡ changed_at (Makes.fixed_base (limit_place_of scripts.limits)) (script_count scripts)
+        (elements_in builder.old) }
 {
     if let LimitPlace::Stacked = scripts.limits {
         fix_limits(
@@ -255,7 +263,8 @@ fn pair_above(is_stacked: bool) -> Pair
 
 /// The element of a base with a subscript and a superscript.
 fn triple_for(is_stacked: bool) -> Triple
-    ensures { (base below above : Element) → Makes.with_scripts is_stacked base (Some below) (Some above)
+    ensures { (base below above : Element)
+        → Makes.with_scripts is_stacked base (Some below) (Some above)
         ≡ triple (triple_of result) plain base below above }
 {
     if is_stacked {

@@ -7,8 +7,8 @@ ghost use Rattle.latex2mathml_tex_grammar.specs.Words.{Formula, Shown, is_escape
 ghost use Rattle.latex2mathml_tex_grammar.specs.Words as words;
 ghost use Rattle.latex2mathml_tex_grammar.specs.Refusal.{CommandInWords, refusal_at};
 ghost use Rattle.latex2mathml_tex_grammar.specs.{Rows.single, Rules.gives, Symbols.InText, Units.Character, Units.Close, Units.Command};
-ghost use Rattle.latex2mathml_tex.specs.{Errors.refusal_of, Frames.Start, Meanings.alphabet_of, Meanings.symbol_of, Models.words_with, Taking.piece_of};
-ghost use Rattle.latex2mathml_tex.specs.Steps.{Begins, BeginsWordOf, CanMake, Holds, IsStep, Ready, WordGiven, core_made, elements_of, words_made};
+ghost use Rattle.latex2mathml_tex.specs.{Errors.refusal_of, Meanings.alphabet_of, Meanings.symbol_of, Models.words_with, Taking.piece_of};
+ghost use Rattle.latex2mathml_tex.specs.Steps.{Begins, BeginsWordOf, CanMake, HoldsIn, IsStep, LeadsOn, Ready, WordGiven, core_made, elements_of, words_made};
 
 use crate::alphabets::in_alphabet;
 use crate::atoms::{Context, Core, Kind, Row, Words};
@@ -33,7 +33,9 @@ impl<'a> Parser<'a> {
         alphabet: Option<Alphabet>,
     ) -> Result<State, AllocError>
         requires { Ready self.old (State.Word words place alphabet) }
-        ensures holds { (s : Start) → Holds s self.old (State.Word words place alphabet) → IfOk result (Holds s self.new) }
+        ensures holds { LeadsOn
+            (HoldsIn (State.Word words place alphabet))
+            self.old self.new result }
         ensures step { IsStep 1 self.old self.new result }
     {
         match self.input.next {
@@ -58,7 +60,10 @@ impl<'a> Parser<'a> {
     ) -> Result<State, AllocError>
         requires can { CanMake words_made words.count self.old }
         requires some { piece_of unit.piece ≢ Close }
-        ensures holds { (s : Start) → BeginsWordOf words (piece_of unit.entry.piece) unit.entry.place (option_map alphabet_of alphabet) s self.old → IfOk result (Holds s self.new) }
+        ensures holds { LeadsOn
+            (BeginsWordOf words (piece_of unit.entry.piece) unit.entry.place
+            (option_map alphabet_of alphabet))
+            self.old self.new result }
         ensures step { IsStep 13 self.old self.new result }
     {
         match unit.piece {
@@ -82,7 +87,9 @@ impl<'a> Parser<'a> {
         alphabet: Option<Alphabet>,
     ) -> Result<State, AllocError>
         requires { CanMake words_made words.count self.old }
-        ensures holds { (s : Start) → BeginsWordOf words (Character c) place (option_map alphabet_of alphabet) s self.old → IfOk result (Holds s self.new) }
+        ensures holds { LeadsOn
+            (BeginsWordOf words (Character c) place (option_map alphabet_of alphabet))
+            self.old self.new result }
         ensures step { IsStep 13 self.old self.new result }
     {
         if c == '$' {
@@ -110,7 +117,9 @@ impl<'a> Parser<'a> {
         alphabet: Option<Alphabet>,
     ) -> Result<State, AllocError>
         requires { CanMake words_made words.count self.old }
-        ensures holds { (s : Start) → BeginsWordOf words (Command name.now) place (option_map alphabet_of alphabet) s self.old → IfOk result (Holds s self.new) }
+        ensures holds { LeadsOn
+            (BeginsWordOf words (Command name.now) place (option_map alphabet_of alphabet))
+            self.old self.new result }
         ensures step { IsStep 13 self.old self.new result }
     {
         if let Some(c) = escaped(name) {
@@ -126,7 +135,6 @@ impl<'a> Parser<'a> {
                 }
                 _ => self.refuse_command(name, place),
             },
-            None if name == "\\" => self.refuse_command(name, place),
             None => {
                 let name = String::from_str(self.alloc, name)?;
                 Ok(self.refuse(TexErrorKind::UnknownCommand(name), place))
@@ -138,7 +146,8 @@ impl<'a> Parser<'a> {
     #[cold]
     fn refuse_command(&mut self, name: &str, place: usize) -> Result<State, AllocError>
         ensures state { IfOk result (λ state. state ≡ State.Refused) }
-        ensures refusal { OnOk result (refusal_of self.new.refusal ≡ Some (refusal_at (CommandInWords name.now) place)) }
+        ensures refusal { OnOk result
+            (refusal_of self.new.refusal ≡ Some (refusal_at (CommandInWords name.now) place)) }
         ensures parser { self.new ≡ record self.old { refusal = self.new.refusal } }
     {
         let name = String::from_str(self.alloc, name)?;
@@ -148,7 +157,7 @@ impl<'a> Parser<'a> {
     /// Gives the innermost frame these words.
     pub(crate) fn deliver_words(&mut self, words: Words) -> Result<State, AllocError>
         requires { Ready self.old (State.Words words) }
-        ensures holds { (s : Start) → Holds s self.old (State.Words words) → IfOk result (Holds s self.new) }
+        ensures holds { LeadsOn (HoldsIn (State.Words words)) self.old self.new result }
         ensures step { IsStep 2 self.old self.new result }
     {
         match self.frames.innermost(self.style) {
@@ -163,7 +172,7 @@ impl<'a> Parser<'a> {
                         let _ = self.frames.take(self.style);
                         Ok(State::Words(words))
                     }
-                    _ => Ok(State::Word(words, place, alphabet)),
+                    _ => self.word(words, place, alphabet),
                 },
                 Next::End(_) => Ok(self.refuse(TexErrorKind::UnclosedBrace, place)),
                 Next::Fault(_, _) => Ok(State::Word(words, place, alphabet)),
@@ -175,7 +184,7 @@ impl<'a> Parser<'a> {
     /// Appends a character to words.
     fn show(&mut self, words: Words, c: char) -> Result<State, AllocError>
         requires { CanMake words_made words.count self.old }
-        ensures holds { (s : Start) → WordGiven words (Shown (Makes.text c)) s self.old → IfOk result (Holds s self.new) }
+        ensures holds { LeadsOn (WordGiven words (Shown (Makes.text c))) self.old self.new result }
         ensures step { IsStep 13 self.old self.new result }
     {
         if words.ends_in_text && words.count > 0 && self.builder.push(c)? {
@@ -193,7 +202,10 @@ impl<'a> Parser<'a> {
     /// Puts a sign or a letter behind words.
     fn show_symbol(&mut self, words: Words, symbol: Symbol) -> Result<State, AllocError>
         requires { CanMake words_made words.count self.old }
-        ensures holds { (s : Start) → WordGiven words (Formula (single InText (Makes.symbol None (symbol_of symbol)).atom).element) s self.old → IfOk result (Holds s self.new) }
+        ensures holds { LeadsOn
+            (WordGiven words
+            (Formula (single InText (Makes.symbol None (symbol_of symbol)).atom).element))
+            self.old self.new result }
         ensures step { IsStep 13 self.old self.new result }
     {
         let core = put_symbol(&mut self.builder, None, symbol)?;
@@ -209,7 +221,10 @@ impl<'a> Parser<'a> {
     /// Makes words the atom of their command.
     fn end_text(&mut self, words: Words) -> Result<State, AllocError>
         requires { CanMake core_made words.count self.old }
-        ensures holds { (s : Start) → Begins (gives (core (words_atom (words_with words (elements_of self.old))))) words.count s self.old → IfOk result (Holds s self.new) }
+        ensures holds { LeadsOn
+            (Begins (gives (core (words_atom (words_with words (elements_of self.old)))))
+            words.count)
+            self.old self.new result }
         ensures step { IsStep 6 self.old self.new result }
     {
         if words.count == 0 {
@@ -242,7 +257,8 @@ fn word_character(alphabet: Option<Alphabet>, c: char) -> char
 
 /// The character that a command is in words.
 fn escaped(name: &str) -> Option<char>
-    ensures { MatchOption result (is_escape name.now ≡ false) (λ c. (is_escape name.now ≡ true) × (name.now ≡ Makes.text c)) }
+    ensures { MatchOption result (is_escape name.now ≡ false)
+        (λ c. (is_escape name.now ≡ true) × (name.now ≡ Makes.text c)) }
 {
     match name {
         "%" => Some('%'),

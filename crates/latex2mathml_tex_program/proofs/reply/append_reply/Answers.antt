@@ -5,8 +5,8 @@ use Rattle.latex2mathml_tex_program.specs.Replies.{answered, refused}
 use Rattle.latex2mathml_tex_program.proofs.reply.append_reply.Goals as goal
 
 pub returns-in-Ok : goal.returns-in-Ok
-returns-in-Ok c =
-    let answer = c.in-Ok.ensures.answer in
+returns-in-Ok c = λ table same.
+    let answer = c.in-Ok.ensures.answer table same in
     let said : c.as_str.result.now ≡ answer.0 = c.as_str.ensures.value ∙ answer.2 ∙ ap (λ l. l ++ answer.0) c.clear.ensures.bytes in
     on_ok_weaker c.append_said.result
     (λ put. (
@@ -17,7 +17,7 @@ returns-in-Ok c =
     c.append_said.ensures
 
 pub returns-in-Err : goal.returns-in-Err
-returns-in-Err c =
+returns-in-Err c = λ table same.
     on_ok_weaker c.append_refusal.result
-    (λ put. (codes "error\n" ++ (error_text c.in-Err.error ++ 0 ∷ []), refused c.in-Err.error c.in-Err.ensures.refusal refl, put))
+    (λ put. (codes "error\n" ++ (error_text c.in-Err.error ++ 0 ∷ []), refused c.in-Err.error (c.in-Err.ensures.refusal table same) refl, put))
     c.append_refusal.ensures

@@ -11,14 +11,14 @@ last old new text part is pushed = pushed ∙ ap (λ l. old ++ l) is
 
 pub returns : goal.returns
 returns c =
-    then (string_bytes c.args.out.now) _ _ _ _ _ c.text_if.ensures c.in_ok-push_str.ensures.bytes
-    (then (string_bytes c.push_str.new.self) _ _ _ _ _ c.form_text.ensures c.in_ok-push_str-2.ensures.bytes
-    (then (string_bytes c.push_str-2.new.self) _ _ _ _ _ c.stretch_text.ensures c.in_ok-push_str-3.ensures.bytes
-    (then (string_bytes c.push_str-3.new.self) _ _ _ _ _ c.text_if-2.ensures c.in_ok-push_str-4.ensures.bytes
-    (then (string_bytes c.push_str-4.new.self) _ _ _ _ _ c.text_if-3.ensures c.in_ok-push_str-5.ensures.bytes
-    (then (string_bytes c.push_str-5.new.self) _ _ _ _ _ c.size_text.ensures c.in_ok-push_str-6.ensures.bytes
-    (then (string_bytes c.push_str-6.new.self) _ _ _ _ _ c.space_text.ensures c.in_ok-push_str-7.ensures.bytes
-    (then (string_bytes c.push_str-7.new.self) _ _ _ _ _ c.text_if-4.ensures c.in_ok-push_str-8.ensures.bytes
-    (then (string_bytes c.push_str-8.new.self) _ _ _ _ _ c.accent_text.ensures c.in_ok-push_str-9.ensures.bytes
-    (then (string_bytes c.push_str-9.new.self) _ _ _ _ _ c.text_if-5.ensures c.in_ok-push_str-10.ensures.bytes
-    (last (string_bytes c.push_str-10.new.self) _ _ _ c.display_text.ensures c.in_ok-push_str-11.ensures.bytes))))))))))
+    then (string_bytes c.args.out.now) _ _ _ _ _ c.text_if.ensures c.in_ok-append_some.ensures
+    (then (string_bytes c.append_some.new.out) _ _ _ _ _ c.form_text.ensures c.in_ok-append_some-2.ensures
+    (then (string_bytes c.append_some-2.new.out) _ _ _ _ _ c.stretch_text.ensures c.in_ok-append_some-3.ensures
+    (then (string_bytes c.append_some-3.new.out) _ _ _ _ _ c.text_if-2.ensures c.in_ok-append_some-4.ensures
+    (then (string_bytes c.append_some-4.new.out) _ _ _ _ _ c.text_if-3.ensures c.in_ok-append_some-5.ensures
+    (then (string_bytes c.append_some-5.new.out) _ _ _ _ _ c.size_text.ensures c.in_ok-append_some-6.ensures
+    (then (string_bytes c.append_some-6.new.out) _ _ _ _ _ c.space_text.ensures c.in_ok-append_some-7.ensures
+    (then (string_bytes c.append_some-7.new.out) _ _ _ _ _ c.text_if-4.ensures c.in_ok-append_some-8.ensures
+    (then (string_bytes c.append_some-8.new.out) _ _ _ _ _ c.accent_text.ensures c.in_ok-append_some-9.ensures
+    (then (string_bytes c.append_some-9.new.out) _ _ _ _ _ c.text_if-5.ensures c.in_ok-append_some-10.ensures
+    (last (string_bytes c.append_some-10.new.out) _ _ _ c.style_text.ensures c.in_ok-append_some-11.ensures))))))))))

@@ -1,14 +1,17 @@
 use mir.Val.{SFits}
-use Rattle.std.proofs.Common.{◌≡◌, ◌+◌, ◌≤◌, ◌∙◌, ◌++◌, ap, append_assoc, arith, length, of_z, rules, string_bytes, subst, sym, to_z, w32}
+use Rattle.std.proofs.Common.{codes, option_map, refl, ◌≡◌, ◌+◌, ◌<◌, ◌≤◌, ◌∙◌, ◌++◌, ap, append_assoc, arith, length, of_z, rules, string_bytes, subst, sym, to_z, w32}
 use Rattle.std.proofs.lemmas.Int.{ints}
 use Rattle.std.proofs.lemmas.Result.{on_ok_weaker}
+use Rattle.latex2mathml_elements.specs.Attributes.{styled}
 use Rattle.latex2mathml_elements.specs.Element.{children, space}
-use Rattle.latex2mathml_elements.specs.Print.{pair_name, print, prints, triple_name}
+use Rattle.latex2mathml_elements.specs.Print.{attributes_text, pair_name, print, prints, triple_name}
 use Rattle.latex2mathml_builder.specs.Built.{Fits, element_of, settled_in}
-use Rattle.latex2mathml_builder.specs.Due.{arranged, due, settled_from, weight}
-use Rattle.latex2mathml_builder.specs.Names.{attributes_of, pair_of, triple_of}
+use Rattle.latex2mathml_builder.specs.Columns.{columns_of}
+use Rattle.latex2mathml_builder.specs.Due.{arranged, due, row_prints, settled_from, weight}
+use Rattle.latex2mathml_builder.specs.Names.{attributes_of, math_style_of, pair_of, triple_of}
 use Rattle.latex2mathml_builder.proofs.Parts.{settled_count}
-use Rattle.latex2mathml_builder.proofs.Written.{opened, print_pair, print_triple, weight_pair, weight_triple}
+use Rattle.latex2mathml_builder.proofs.Tables.{table_loaded, table_written}
+use Rattle.latex2mathml_builder.proofs.Written.{opened, taken_length, print_pair, print_triple, weight_pair, weight_triple}
 use Rattle.latex2mathml_builder.proofs.builder.Builder.write_part.Goals as goal
 
 pub returns-in-Space-clause-print : goal.returns-in-Space-clause-print
@@ -70,3 +73,36 @@ returns-in_ok-push_work-in-Triple-clause-weight c =
     on_ok_weaker c.push_three.result
     (λ h. omega (arith, h, whole, c.in_ok-push_work-in-Triple.ensures.weight))
     c.push_three.ensures.weight
+
+pub returns-in_ok-push_work-in-Table-clause-print :
+    goal.returns-in_ok-push_work-in-Table-clause-print
+returns-in_ok-push_work-in-Table-clause-print c =
+    let b = c.args.self.now in
+    let found = c.in-Table in
+    let columns = columns_of found.columns in
+    let a = styled (option_map math_style_of found.style) in
+    let xs = settled_from b found.first found.count in
+    let fits = subst (λ p. Fits b.texts (length b.settled) p) found.is c.requires.fits in
+    let enough : found.first + found.count ≤ length (settled_in b) = omega (arith, settled_count b.texts b.settled, fits.1) in
+    let some : 0 < length xs = omega (arith, taken_length (settled_in b) found.first found.count enough, fits.0) in
+    let whole = ap (λ p. print (element_of b.texts (settled_in b) p)) found.is ∙ table_written a columns xs some in
+    let begins = c.in_ok-start_with_attributes-in-Table.ensures ∙ ap (λ d. string_bytes c.args.out.now ++ (codes "<mtable" ++ (attributes_text d ++ codes ">"))) c.styled.ensures in
+    on_ok_weaker c.push_work-in-Table-2.result
+    (λ h. opened (codes "mtable") a (string_bytes c.args.out.now) (row_prints columns xs) (due b c.args.works.now.items) _ _ _ _ _ _ refl begins refl c.in_ok-push_work-in-Table.ensures.print h whole)
+    c.push_work-in-Table-2.ensures.print
+
+pub returns-in_ok-push_work-in-Table-clause-weight :
+    goal.returns-in_ok-push_work-in-Table-clause-weight
+returns-in_ok-push_work-in-Table-clause-weight c =
+    let b = c.args.self.now in
+    let found = c.in-Table in
+    let columns = columns_of found.columns in
+    let a = styled (option_map math_style_of found.style) in
+    let xs = settled_from b found.first found.count in
+    let fits = subst (λ p. Fits b.texts (length b.settled) p) found.is c.requires.fits in
+    let enough : found.first + found.count ≤ length (settled_in b) = omega (arith, settled_count b.texts b.settled, fits.1) in
+    let some : 0 < length xs = omega (arith, taken_length (settled_in b) found.first found.count enough, fits.0) in
+    let whole = ap (λ p. weight (element_of b.texts (settled_in b) p)) found.is ∙ table_loaded a columns xs some in
+    on_ok_weaker c.push_work-in-Table-2.result
+    (λ h. omega (arith, h, whole, c.in_ok-push_work-in-Table.ensures.weight))
+    c.push_work-in-Table-2.ensures.weight

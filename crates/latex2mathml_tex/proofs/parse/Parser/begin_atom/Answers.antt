@@ -1,6 +1,7 @@
 use Rattle.std.proofs.Common.{◌∙◌, ap, refl, sym}
-use Rattle.latex2mathml_tex_grammar.specs.Starts.{start_of_mark}
-use Rattle.latex2mathml_tex.proofs.Beginnings.{begins_scripts, divider_begun, rule_begun, scripts_begun}
+use Rattle.latex2mathml_tex_grammar.specs.Starts.{change_by, start_of_mark}
+use Rattle.latex2mathml_tex.specs.Taking.{piece_of}
+use Rattle.latex2mathml_tex.proofs.Beginnings.{begins_scripts, divider_begun, rule_begun, scripts_begun, unmarked_begun}
 use Rattle.latex2mathml_tex.proofs.parse.Parser.begin_atom.Goals as goal
 
 pub returns-then-is_divided_by-clause-holds : goal.returns-then-is_divided_by-clause-holds
@@ -9,14 +10,15 @@ returns-then-is_divided_by-clause-holds c = λ s t.
 
 pub returns-in_default-clause-holds : goal.returns-in_default-clause-holds
 returns-in_default-clause-holds c = λ s t.
-    c.begin.ensures.holds s (rule_begun s c.args.self.now c.args.unit c.args.ending c.requires.due c.requires.some t (λ place. c.if-is_divided_by.ensures place ∙ ap start_of_mark (sym c.in_default.ensures)))
+    let change = change_by (piece_of c.args.unit.piece) in
+    c.begin_unmarked.ensures.holds s (unmarked_begun s c.args.self.now c.args.unit c.args.ending c.requires.due c.requires.some t (λ place. c.if-is_divided_by.ensures place ∙ ap (start_of_mark change) (sym c.in_default.ensures)))
 
 pub returns-in-Prime : goal.returns-in-Prime
 returns-in-Prime c = record {
-  holds = λ s t. c.begin_scripts.ensures.holds s (scripts_begun s c.args.self.now c.args.unit c.args.ending c.requires.due c.requires.some t c.in-Some.mark (λ place. c.if-is_divided_by.ensures place ∙ ap start_of_mark (sym c.in-Some.ensures) ∙ begins_scripts c.in-Some.mark c.in-Prime.is) c.in-Some.ensures);
+  holds = λ s t. c.begin_scripts.ensures.holds s (scripts_begun s c.args.self.now c.args.unit c.args.ending c.requires.due c.requires.some t c.in-Some.mark (λ place. c.if-is_divided_by.ensures place ∙ ap (start_of_mark (change_by (piece_of c.args.unit.piece))) (sym c.in-Some.ensures) ∙ begins_scripts (change_by (piece_of c.args.unit.piece)) c.in-Some.mark c.in-Prime.is) c.in-Some.ensures);
   step = c.begin_scripts.ensures.step;
 }
 
 pub returns-in-Limits-clause-holds : goal.returns-in-Limits-clause-holds
 returns-in-Limits-clause-holds c = λ s t.
-    c.begin-in-Limits.ensures.holds s (rule_begun s c.args.self.now c.args.unit c.args.ending c.requires.due c.requires.some t (λ place. c.if-is_divided_by.ensures place ∙ ap start_of_mark (sym c.in-Some.ensures) ∙ rw c.in-Limits.is refl))
+    c.begin.ensures.holds s (rule_begun s c.args.self.now c.args.unit c.args.ending c.requires.due c.requires.some t (λ place. c.if-is_divided_by.ensures place ∙ ap (start_of_mark (change_by (piece_of c.args.unit.piece))) (sym c.in-Some.ensures) ∙ rw c.in-Limits.is refl))

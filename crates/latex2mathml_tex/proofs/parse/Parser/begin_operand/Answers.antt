@@ -22,7 +22,7 @@ returns-in_ok-begin_number-in-Character-clause-holds c = λ s g.
     let is_digit : is_ascii_digit digit ≡ true = ap is_ascii_digit (sym c.in-Character.c-is) ∙ sym c.is_ascii_digit.ensures.value ∙ c.if-is_ascii_digit.true in
     let put : elements_in b ≡ (number (option_map alphabet_of k.alphabet) (digit ∷ [])).element ∷ elements_of p =
     subst (λ d. elements_in b ≡ (number (option_map alphabet_of k.alphabet) (d ∷ [])).element ∷ elements_of p) c.in-Character.c-is c.in_ok-begin_number-in-Character.ensures in
-    digit_taken s p c.args.unit c.requires.due c.requires.some g b k c.innermost.result c.number.result digit c.context-context.ensures c.innermost.ensures c.in-Character.is is_digit put c.number.ensures
+    c.deliver_core.ensures.holds s (digit_taken s p c.args.unit c.requires.due c.requires.some g b k c.innermost.result c.number.result digit c.context-context.ensures c.innermost.ensures c.in-Character.is is_digit put c.number.ensures)
 
 pub returns-in_default-clause-holds : goal.returns-in_default-clause-holds
 returns-in_default-clause-holds c = λ s g.
@@ -30,4 +30,4 @@ returns-in_default-clause-holds c = λ s g.
       | in_default-via-in-Character+else-is_ascii_digit w ↦ not_digit_starts c.args.unit.piece w.in-Character.c w.in-Character.is (ap is_ascii_digit (sym w.in-Character.c-is) ∙ sym w.is_ascii_digit.ensures.value ∙ w.if-is_ascii_digit.false) c.requires.some
       | in_default-via-in_default w ↦ other_starts c.args.unit.piece w.in_default.not-Open w.in_default.not-Character c.requires.some
     ] in
-    c.begin.ensures.holds s (other_taken s c.args.self.now c.args.unit c.requires.due c.requires.some g starts)
+    c.begin_whole.ensures.holds s (other_taken s c.args.self.now c.args.unit c.requires.due c.requires.some g starts)

@@ -1,4 +1,6 @@
 use Rattle.std.proofs.Common.{refl}
+use Rattle.latex2mathml_tex.specs.Steps.{ClosesRow}
+use Rattle.latex2mathml_tex.specs.declared.parse.frames.Ending.TheVariants as ending
 use Rattle.latex2mathml_tex.proofs.Closing.{degree_closed, formula_closed, group_closed}
 use Rattle.latex2mathml_tex.proofs.parse.Parser.close.Goals as goal
 
@@ -8,8 +10,9 @@ returns-in_ok-put_row-in-Group-clause-holds c = λ s g.
 
 pub returns-in_ok-put_row-in-Degree-clause-holds : goal.returns-in_ok-put_row-in-Degree-clause-holds
 returns-in_ok-put_row-in-Degree-clause-holds c = λ s g.
-    let due = degree_closed s c.args.self.now c.put_row-in-Degree.new.builder c.args.place c.args.row c.in_ok-put_row-in-Degree.ensures c.innermost.result c.context-context.result c.innermost.ensures c.context-context.ensures (rw c.in-Degree.is at g) in
-    c.open.ensures.holds s g.style due
+    let h : ClosesRow ending.Degree c.args.place c.args.row s c.args.self.now = rw c.in-Degree.is at g in
+    let due = degree_closed s c.args.self.now c.put_row-in-Degree.new.builder c.args.place c.args.row c.in_ok-put_row-in-Degree.ensures c.innermost.result c.context-context.result c.innermost.ensures c.context-context.ensures h in
+    c.open.ensures.holds s h.style due
 
 pub returns-in_ok-put_row-in-Formula-clause-holds : goal.returns-in_ok-put_row-in-Formula-clause-holds
 returns-in_ok-put_row-in-Formula-clause-holds c = λ s g.

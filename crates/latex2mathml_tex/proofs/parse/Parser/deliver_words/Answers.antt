@@ -2,8 +2,9 @@ use Rattle.std.proofs.Common.{◌≡◌, ◌∙◌, Some, ap, arith, refl}
 use Rattle.latex2mathml_tex_grammar.specs.Refusal.{UnclosedBrace, refusal_at}
 use Rattle.latex2mathml_tex_grammar.specs.Starts.{is_close}
 use Rattle.latex2mathml_tex_grammar.specs.Units.{End, Next, Stop}
-use Rattle.latex2mathml_tex.specs.{Errors.refusal_of, Left.put_back, Left.units_at, Left.units_left, Steps.left_of, Taking.kind_of, Taking.piece_of, Taking.unit_of}
+use Rattle.latex2mathml_tex.specs.{Errors.refusal_of, Left.put_back, Left.units_at, Left.units_behind, Steps.left_of, Taking.kind_of, Taking.piece_of, Taking.unit_of}
 use Rattle.latex2mathml_tex.specs.declared.parse.frames.Frame.TheVariants as frame
+use Rattle.latex2mathml_tex.proofs.Rows.{step_within}
 use Rattle.latex2mathml_tex.proofs.WordStarts.{other_piece, taken_innermost}
 use Rattle.latex2mathml_tex.proofs.Wording.{braces_closed, braces_unended, word_behind, word_stops}
 use Rattle.latex2mathml_tex.proofs.parse.Parser.deliver_words.Goals as goal
@@ -23,14 +24,11 @@ pub returns-in_default-piece : goal.returns-in_default-piece
 returns-in_default-piece c =
     let p = c.args.self.now in
     let u = c.in-Unit.unit in
-    let others = units_left p.input.reader in
+    let others = units_behind p.input in
     let stands : left_of p ≡ Next (unit_of u) others = ap (λ n. put_back n others) c.in-Unit.is in
     record {
-      holds = λ s h. word_behind s p c.args.words c.in-Words.place c.in-Words.alphabet c.in-Words.ensures.0 c.in-Words.ensures.1 h (unit_of u) others stands (other_piece u.piece c.in_default-piece.not-Close);
-      step = record {
-        ready = record { elements = c.requires.elements; may_come = record { accepted = c.requires.may_come.accepted; nested = c.requires.may_come.nested } };
-        falls = omega arith;
-      };
+      holds = λ s h. c.word.ensures.holds s (word_behind s p c.args.words c.in-Words.place c.in-Words.alphabet c.in-Words.ensures.0 c.in-Words.ensures.1 h (unit_of u) others stands (other_piece u.piece c.in_default-piece.not-Close));
+      step = step_within p p c.word.new.self c.word.result 1 2 (omega arith) c.word.ensures.step;
     }
 
 pub returns-in-End-clause-holds : goal.returns-in-End-clause-holds
@@ -38,7 +36,7 @@ returns-in-End-clause-holds c = λ s h.
     let p = c.args.self.now in
     let q = c.refuse.new.self in
     let reason : refusal_of q.refusal ≡ Some (refusal_at UnclosedBrace c.in-Words.place) = rw c.refuse.ensures.parser refl in
-    let stands : left_of p ≡ End c.in-End.field-0 = ap (λ n. put_back n (units_left p.input.reader)) c.in-End.is in
+    let stands : left_of p ≡ End c.in-End.field-0 = ap (λ n. put_back n (units_behind p.input)) c.in-End.is in
     rw c.refuse.ensures.state
     (braces_unended s p c.args.words c.in-Words.place c.in-Words.alphabet c.in-Words.ensures.0 c.in-Words.ensures.1 h q c.in-End.field-0 stands (rw c.refuse.ensures.parser refl) reason)
 
@@ -46,5 +44,5 @@ pub returns-in-Fault-clause-holds : goal.returns-in-Fault-clause-holds
 returns-in-Fault-clause-holds c = λ s h.
     let p = c.args.self.now in
     let r = refusal_at (kind_of c.in-Fault.field-0) c.in-Fault.field-1 in
-    let stands : left_of p ≡ Stop r = ap (λ n. put_back n (units_left p.input.reader)) c.in-Fault.is in
+    let stands : left_of p ≡ Stop r = ap (λ n. put_back n (units_behind p.input)) c.in-Fault.is in
     word_stops s p c.args.words c.in-Words.place c.in-Words.alphabet c.in-Words.ensures.0 c.in-Words.ensures.1 h r stands

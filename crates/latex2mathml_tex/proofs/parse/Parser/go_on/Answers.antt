@@ -6,6 +6,7 @@ use Rattle.latex2mathml_tex.specs.declared.unit.Unit.{Unit}
 use Rattle.latex2mathml_tex.specs.declared.unit.Next.TheVariants as next
 use Rattle.latex2mathml_tex.proofs.Nexts.{no_more_past_space}
 use Rattle.latex2mathml_tex.proofs.Rows.{scripts_made, step_within}
+use Rattle.latex2mathml_tex.proofs.Spaced.{made_spaced}
 use Rattle.latex2mathml_tex.proofs.parse.Parser.go_on.Goals as goal
 use Rattle.latex2mathml_tex.proofs.parse.Parser.go_on.Goals.{in-Unit+in_default, in-End}
 
@@ -18,14 +19,21 @@ returns-in-Some-clause-step c =
     let space = no_more_past_space (left_of p) in
     step_within p (record p { input = c.advance.new.self }) c.take_mark.new.self c.take_mark.result 13 2 (omega (arith, one, space)) c.take_mark.ensures.step
 
+pub returns-clause-step : goal.returns-clause-step
+returns-clause-step c =
+    let p = c.args.self.now in
+    let less = no_more_past_space (left_of p) in
+    let skipped : unit_count (units_at c.skip_space.new.self) ≡ unit_count (past_space (left_of p)) = ap unit_count c.skip_space.ensures in
+    step_within p (record p { input = c.skip_space.new.self; builder = c.scripted.new.builder }) c.put.new.self c.put.result 2 2 (omega (arith, skipped, less)) c.put.ensures.step
+
 pub returns-clause-holds : goal.returns-clause-holds
 returns-clause-holds c = λ s g.
     let p = c.args.self.now in
-    let none : (u : Unit) → c.skip_space.new.self.next ≡ next.Unit u → mark_of (piece_of u.piece) ≡ None = λ u e. elim c.match-ahead.branch [
-      | in-Unit+in_default w ↦ search
+    let none : (u : Unit) → c.skip_space.new.self.next ≡ next.Unit u → mark_of (piece_of u.piece) ≡ None = λ u e. elim c.match-self.branch [
+      | in-Unit+in_default w ↦ (let same : u ≡ w.in-Unit.unit = cc (e, w.in-Unit.is) in ap (λ x. mark_of (piece_of x.piece)) same ∙ sym w.in_default.ensures)
       | in-End w ↦ elim w.in-End.is [
         | inl is ↦ (let other = is.1 in absurd (cc (other, e)))
         | inr is ↦ (let other = is.2 in absurd (cc (other, e)))
       ]
     ] in
-    c.put.ensures.holds s (scripts_made s p c.scripted.new.builder c.args.core c.in_ok-core.core c.args.scripts c.innermost.result c.context-style.result c.skip_space.new.self.next _ c.context-style.ensures c.innermost.ensures (sym c.skip_space.ensures) none c.in_ok-core.ensures.atom c.in_ok-core.ensures.below g)
+    c.put.ensures.holds s (made_spaced s (record p { builder = c.scripted.new.builder }) c.in_ok-core.core c.skip_space.new.self c.skip_space.ensures (scripts_made s p c.scripted.new.builder c.args.core c.in_ok-core.core c.args.scripts c.innermost.result c.context-style.result c.skip_space.new.self.next _ c.context-style.ensures c.innermost.ensures (sym c.skip_space.ensures) none c.in_ok-core.ensures.atom c.in_ok-core.ensures.below g))

@@ -2,7 +2,7 @@ use Rattle.std.proofs.Common.{◌≡◌, ◌∙◌, ap, inl, inr, option_map, re
 use Rattle.latex2mathml_elements.specs.Attributes.{Above}
 use Rattle.latex2mathml_builder.specs.Names.{side_of, stretch_of}
 use Rattle.latex2mathml_tex_grammar.specs.Makes.{accent, brace, classed, core, fraction, group, stack, struck}
-use Rattle.latex2mathml_tex_grammar.specs.Refusal.{LimitsWithoutOperator, MiddleWithoutLeft, RightWithoutLeft, refusal_at}
+use Rattle.latex2mathml_tex_grammar.specs.Refusal.{ChangeAsArgument, LimitsWithoutOperator, MiddleWithoutLeft, RightWithoutLeft, refusal_at, EndWithoutBegin, OutsideTable}
 use Rattle.latex2mathml_tex_grammar.specs.Rows.{as_base}
 use Rattle.latex2mathml_tex_grammar.specs.Rules.{gives, in_context, of_two, own_style, refuses, slashed, styled}
 use Rattle.latex2mathml_tex_grammar.specs.Symbols.{InScript, Relation, smaller}
@@ -82,3 +82,21 @@ returns-in-Limits-clause-holds c = λ s g.
 pub returns-in-Classed-clause-holds : goal.returns-in-Classed-clause-holds
 returns-in-Classed-clause-holds c = λ s g.
     c.open-in-Classed.ensures.holds s g.style (operand_due (λ x. gives (classed (class_of c.in-Classed.class) (as_base (style_of c.args.context.style) (class_of c.in-Classed.class) x))) (rw c.in-Classed.is at g.leads))
+
+pub returns-in-Changes-clause-holds : goal.returns-in-Changes-clause-holds
+returns-in-Changes-clause-holds c = λ s g.
+    rule_refuses s c.args.self.now c.refuse-in-Changes.new.self c.refuse-in-Changes.result _ (refusal_at ChangeAsArgument c.args.place) c.refuse-in-Changes.ensures.parser c.refuse-in-Changes.ensures.state refl (begun (rw c.in-Changes.is at g))
+
+pub returns-in-BeginTable-clause-holds : goal.returns-in-BeginTable-clause-holds
+returns-in-BeginTable-clause-holds c = λ s g. c.begin_table.ensures.holds s (rw c.in-BeginTable.is at g)
+
+pub returns-in-EndTable-clause-holds : goal.returns-in-EndTable-clause-holds
+returns-in-EndTable-clause-holds c = λ s g.
+    rule_refuses s c.args.self.now c.refuse-in-EndTable.new.self c.refuse-in-EndTable.result _ (refusal_at EndWithoutBegin c.args.place) c.refuse-in-EndTable.ensures.parser c.refuse-in-EndTable.ensures.state refl (begun (rw c.in-EndTable.is at g))
+
+pub returns-in-LineBreak-clause-holds : goal.returns-in-LineBreak-clause-holds
+returns-in-LineBreak-clause-holds c = λ s g.
+    rule_refuses s c.args.self.now c.refuse-in-LineBreak.new.self c.refuse-in-LineBreak.result _ (refusal_at OutsideTable c.args.place) c.refuse-in-LineBreak.ensures.parser c.refuse-in-LineBreak.ensures.state refl (begun (rw c.in-LineBreak.is at g))
+
+pub returns-in-Substack-clause-holds : goal.returns-in-Substack-clause-holds
+returns-in-Substack-clause-holds c = λ s g. c.begin_substack.ensures.holds s (rw c.in-Substack.is at g)

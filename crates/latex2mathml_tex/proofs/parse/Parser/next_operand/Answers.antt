@@ -1,6 +1,6 @@
 use Rattle.std.proofs.Common.{arith, refl, sym, ◌∙◌}
 use Rattle.latex2mathml_tex_grammar.specs.Refusal.{MissingArgument, refusal_at}
-use Rattle.latex2mathml_tex.specs.{Left.units_at, Left.units_left, Steps.left_of, Taking.kind_of}
+use Rattle.latex2mathml_tex.specs.{Left.units_at, Left.units_behind, Steps.left_of, Taking.kind_of}
 use Rattle.latex2mathml_tex.proofs.Beginning.{ends_next, no_more_next, no_operand_at_end, no_operand_begins, no_operand_there, one_less_next, refused_next, stands_next, stops_next}
 use Rattle.latex2mathml_tex.proofs.Rows.{refused_here, step_within}
 use Rattle.latex2mathml_tex.proofs.parse.Parser.next_operand.Goals as goal
@@ -11,7 +11,7 @@ returns-then-is_no_operand-clause-holds c = λ s g.
     let i = c.skip_space.new.self in
     let q = c.refuse-then-is_no_operand.new.self in
     let r = refusal_at MissingArgument c.args.place in
-    let none = no_operand_begins s p c.args.place c.requires.due g c.in-Unit.unit (units_left i.reader) (stands_next (left_of p) i c.skip_space.ensures c.in-Unit.unit c.in-Unit.is) (sym c.is_no_operand.ensures ∙ c.if-is_no_operand.true) in
+    let none = no_operand_begins s p c.args.place c.requires.due g c.in-Unit.unit (units_behind i) (stands_next (left_of p) i c.skip_space.ensures c.in-Unit.unit c.in-Unit.is) (sym c.is_no_operand.ensures ∙ c.if-is_no_operand.true) in
     refused_here p q i q.refusal c.refuse-then-is_no_operand.result (rw c.refuse-then-is_no_operand.ensures.parser refl) c.refuse-then-is_no_operand.ensures.state s r (rw c.refuse-then-is_no_operand.ensures.parser refl) g.style none
 
 pub returns-then-is_no_operand-clause-step : goal.returns-then-is_no_operand-clause-step

@@ -1,7 +1,7 @@
 use Rattle.std.proofs.Common.{◌≡◌, ◌∙◌, Some, ap, arith, refl, suc}
 use Rattle.latex2mathml_tex_grammar.specs.Refusal.{MissingArgument, refusal_at}
 use Rattle.latex2mathml_tex_grammar.specs.Units.{End, Next, Stop}
-use Rattle.latex2mathml_tex.specs.{Errors.refusal_of, Left.put_back, Left.unit_count, Left.units_at, Left.units_left, Steps.left_of, Taking.kind_of, Taking.piece_of, Taking.unit_of}
+use Rattle.latex2mathml_tex.specs.{Errors.refusal_of, Left.put_back, Left.unit_count, Left.units_at, Left.units_behind, Steps.left_of, Taking.kind_of, Taking.piece_of, Taking.unit_of}
 use Rattle.latex2mathml_tex.proofs.{Rows.step_within, WordStarts.none_at_end, WordStarts.none_at_stop, WordStarts.none_in_braces, WordStarts.word_begins}
 use Rattle.latex2mathml_tex.proofs.parse.Parser.word.Goals as goal
 
@@ -9,7 +9,7 @@ pub returns-in-Close-clause-holds : goal.returns-in-Close-clause-holds
 returns-in-Close-clause-holds c = λ s h.
     let p = c.args.self.now in
     let q = c.refuse-in-Close.new.self in
-    let others = units_left p.input.reader in
+    let others = units_behind p.input in
     let reason : refusal_of q.refusal ≡ Some (refusal_at MissingArgument c.args.place) = rw c.refuse-in-Close.ensures.parser refl in
     let stands : left_of p ≡ Next (unit_of c.in-Unit.unit) others = ap (λ n. put_back n others) c.in-Unit.is in
     rw c.refuse-in-Close.ensures.state (none_in_braces s p c.args.words c.args.place c.args.alphabet h q (rw c.refuse-in-Close.ensures.parser refl) reason (unit_of c.in-Unit.unit) others stands (ap piece_of c.in-Close.is))
@@ -19,7 +19,7 @@ returns-in-Fault-clause-holds c = λ s h.
     let p = c.args.self.now in
     let q = c.refuse_fault.new.self in
     let r = refusal_at (kind_of c.in-Fault.fault) c.in-Fault.at in
-    let stands : left_of p ≡ Stop r = ap (λ n. put_back n (units_left p.input.reader)) c.in-Fault.is in
+    let stands : left_of p ≡ Stop r = ap (λ n. put_back n (units_behind p.input)) c.in-Fault.is in
     rw c.refuse_fault.ensures.state (none_at_stop s p c.args.words c.args.place c.args.alphabet h q (rw c.refuse_fault.ensures.parser refl) r c.refuse_fault.ensures.refusal stands)
 
 pub returns-in-End-clause-holds : goal.returns-in-End-clause-holds
@@ -27,7 +27,7 @@ returns-in-End-clause-holds c = λ s h.
     let p = c.args.self.now in
     let q = c.refuse.new.self in
     let reason : refusal_of q.refusal ≡ Some (refusal_at MissingArgument c.args.place) = rw c.refuse.ensures.parser refl in
-    let stands : left_of p ≡ End c.in-End.field-0 = ap (λ n. put_back n (units_left p.input.reader)) c.in-End.is in
+    let stands : left_of p ≡ End c.in-End.field-0 = ap (λ n. put_back n (units_behind p.input)) c.in-End.is in
     rw c.refuse.ensures.state (none_at_end s p c.args.words c.args.place c.args.alphabet h q (rw c.refuse.ensures.parser refl) reason c.in-End.field-0 stands)
 
 pub returns-in_default : goal.returns-in_default

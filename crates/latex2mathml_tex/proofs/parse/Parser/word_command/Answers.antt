@@ -1,4 +1,4 @@
-use Rattle.std.proofs.Common.{◌≡◌, ◌≤◌, ◌∙◌, None, Option, Some, ap, option_map, arith, refl, sym}
+use Rattle.std.proofs.Common.{◌≡◌, ◌≤◌, ◌∙◌, None, Option, Some, ap, option_map, arith, refl}
 use Rattle.latex2mathml_tex_grammar.specs.Makes
 use Rattle.latex2mathml_tex_grammar.specs.Refusal.{UnknownCommand, refusal_at}
 use Rattle.latex2mathml_tex_grammar.specs.{Rows.single, Symbols.Alphabet, Symbols.InText, Units.Command}
@@ -7,7 +7,7 @@ use Rattle.latex2mathml_tex.specs.{Errors.refusal_of, Left.unit_count, Left.unit
 use Rattle.latex2mathml_tex.specs.Meanings
 use Rattle.latex2mathml_tex.specs.Meanings.{alphabet_of, symbol_of}
 use Rattle.latex2mathml_tex.proofs.Nexts.{no_more_past_space}
-use Rattle.latex2mathml_tex.proofs.WordRules.{IsNoWord, command_meant, command_refused, command_step, escape_shown, line_break, not_in_words, unknown}
+use Rattle.latex2mathml_tex.proofs.WordRules.{IsNoWord, command_meant, command_refused, command_step, escape_shown, not_in_words, unknown}
 use Rattle.latex2mathml_tex.proofs.Wording.{in_alphabet_due, no_part, stands}
 use Rattle.latex2mathml_tex.proofs.parse.Parser.word_command.Goals as goal
 
@@ -64,21 +64,13 @@ returns-in_default-meaning c =
       step = command_step p q says.parser c.args.words.count c.refuse_command.result says.state c.requires.elements;
     }
 
-pub returns-in-None-clause-holds : goal.returns-in-None-clause-holds
-returns-in-None-clause-holds c = λ s g.
-    let a : Option Alphabet = option_map alphabet_of c.args.alphabet in
-    let name = c.args.name.now in
-    let says = c.refuse_command-in-None.ensures in
-    let rule = line_break a name c.in_default.ensures c.in-None.ensures (sym c.eq.ensures ∙ c.if-eq.true) in
-    command_refused c.args.self.now c.refuse_command-in-None.new.self says.parser s c.args.words name c.args.place a c.refuse_command-in-None.result says.state says.refusal rule g
-
-pub returns-in_ok-name-in-None-2-clause-holds : goal.returns-in_ok-name-in-None-2-clause-holds
-returns-in_ok-name-in-None-2-clause-holds c = λ s g.
+pub returns-in_ok-name-in-None-clause-holds : goal.returns-in_ok-name-in-None-clause-holds
+returns-in_ok-name-in-None-clause-holds c = λ s g.
     let p = c.args.self.now in
     let q = c.refuse.new.self in
     let a : Option Alphabet = option_map alphabet_of c.args.alphabet in
     let name = c.args.name.now in
     let reason : refusal_of q.refusal ≡ Some (refusal_at (UnknownCommand name) c.args.place) =
-    rw c.refuse.ensures.parser (ap (λ t. Some (refusal_at (UnknownCommand t) c.args.place)) c.in_ok-name-in-None-2.ensures.ok) in
-    let rule = unknown a name c.in_default.ensures c.in-None-2.ensures (sym c.eq.ensures ∙ c.if-eq.false) in
+    rw c.refuse.ensures.parser (ap (λ t. Some (refusal_at (UnknownCommand t) c.args.place)) c.in_ok-name-in-None.ensures.ok) in
+    let rule = unknown a name c.in_default.ensures c.in-None.ensures in
     rw c.refuse.ensures.state (no_part s p c.args.words (Command name) c.args.place a q (UnknownCommand name) (rw c.refuse.ensures.parser refl) reason rule g)

@@ -1,0 +1,125 @@
+-- What holds of the parser where a row ends, and where what follows a change begins.
+use Rattle.std.proofs.Common.{◌≡◌, ◌∙◌, ℕ, ◌+◌, ◌-◌, ◌≤◌, List, Some, drop, length, reverse, sym, ap, subst, arith}
+use Rattle.std.proofs.lemmas.{Bool.and_parts, List.drop-drop, List.length-drop}
+use Rattle.latex2mathml_elements.specs.Element.{Element}
+use Rattle.latex2mathml_builder.specs.Built.{Built, elements_in}
+use Rattle.latex2mathml_tex_grammar.specs.{Meaning.Change, Rows.Row}
+use Rattle.latex2mathml_tex_grammar.specs.Reading.{Outcome, Read, Refused, ReadsAtoms}
+use Rattle.latex2mathml_tex_grammar.specs.Refusal.{Kind, refusal_at}
+use Rattle.latex2mathml_tex_grammar.specs.Rests.{Rest, GoesOnIn, NoRest, finished, rest_of}
+use Rattle.latex2mathml_tex_grammar.specs.Rules.{Context as RuleContext}
+use Rattle.latex2mathml_tex_grammar.specs.Units.{Units}
+use Rattle.latex2mathml_tex.specs.Frames.{RowMade, Start, Whole, ending_count, ending_of, inside, within}
+use Rattle.latex2mathml_tex.specs.{Errors.refusal_of, Innermost.IsInnermost, Meanings.style_of}
+use Rattle.latex2mathml_tex.specs.Levels.{FollowsChange, Leads, Refuses, RestLeads}
+use Rattle.latex2mathml_tex.specs.Models.{context_of, row_count, row_with}
+use Rattle.latex2mathml_tex.specs.Steps.{BeginsRest, CanBegin, CanMake, Closes, EndsRow, IsLeft, Follows, HasElements, Holds, InnermostIs, elements_of, left_of, level, row_makes, to_do}
+use Rattle.latex2mathml_tex.specs.declared.{atoms.Context.Context, atoms.Row.Row as CodeRow, meaning.Style.Style as CodeStyle, parse.Parser.Parser, unit.Unit.Unit as CodeUnit}
+use Rattle.latex2mathml_tex.specs.declared.parse.State.TheVariants as state
+use Rattle.latex2mathml_tex.specs.declared.parse.frames.{Ending.Ending, Frame.Frame, Frames.Frames}
+use Rattle.latex2mathml_tex.specs.declared.parse.frames.Ending.TheVariants as ending
+use Rattle.latex2mathml_tex.specs.declared.parse.frames.Frame.TheVariants as frame
+use Rattle.latex2mathml_tex.proofs.{Marks.all_refuse, NoAtom.elements_left, NoAtom.frames_left, Opening.into_frame, Opening.out_of_frame, Rows.others_await, Wording.one_innermost}
+
+-- The end of a group
+
+module _ (p : Parser) (b : Built) (row whole : CodeRow) (below : drop whole.count (elements_in b) ≡ drop (row_count row) (elements_of p)) (there : whole.count ≤ length (elements_in b)) where
+  same_left : length (elements_in b) - whole.count ≡ length (elements_of p) - row_count row
+  same_left = sym (length-drop whole.count (elements_in b)) ∙ ap length below ∙ length-drop (row_count row) (elements_of p)
+
+  pub finished_can : (e : Ending) → CanMake (row_makes e) (row_count row + ending_count e) p → CanMake (row_makes e) (whole.count + ending_count e) (record p { builder = b })
+  finished_can e can = record {
+    elements = omega (arith, same_left, there, can.elements);
+    awaits = record { accepted = can.awaits.accepted; nested = can.awaits.nested };
+  }
+
+  pub formula_step : (fr : Frames) (f : Frame) (place : ℕ) (c : Context) → InnermostIs (frame.Row ending.Text place c row) p → IsInnermost p.style p.frames.stack.items f fr.stack.items → HasElements 0 p → Follows (to_do p + 1) (record p { frames = fr; builder = b }) (state.End whole.count)
+  formula_step fr f place c (others, inner) taken enough =
+      let fs = p.frames.stack.items in
+      let same : f ≡ frame.Row ending.Text place c row = one_innermost p.style fs fr.stack.items others f (frame.Row ending.Text place c row) taken inner in
+      let at_row = subst (λ f. IsInnermost p.style fs f fr.stack.items) same taken in
+      let some = elements_left p.style fs fr.stack.items ending.Text place c row (length (elements_of p)) at_row enough in
+      let fewer = frames_left p.style fs fr.stack.items f taken in
+      record { ready = record { elements = omega (arith, some, same_left, there); may_come = there }; falls = omega (arith, fewer) }
+
+module _ (s : Start) (p : Parser) (b : Built) (style : CodeStyle) (row whole : CodeRow) (is : row_with whole (elements_in b) ≡ finished (style_of style) (row_with row (elements_of p))) (below : drop whole.count (elements_in b) ≡ drop (row_count row) (elements_of p)) (e : Ending) (place : ℕ) where
+  abbrev MadeOf : Units → List Element → List Element → Row → Type 0
+  MadeOf rest own others r = RowMade s e place own (inside s p.frames.stack.items others) (Read r rest)
+
+  made_finished : (u : CodeUnit) (g : EndsRow e place style row u s p) → MadeOf g.rest (drop whole.count (elements_in b)) (drop (whole.count + ending_count e) (elements_in b)) (row_with whole (elements_in b))
+  made_finished u g =
+      let xs = elements_of p in
+      let ys = elements_in b in
+      let others : drop (whole.count + ending_count e) ys ≡ drop (row_count row + ending_count e) xs =
+      sym (drop-drop (ending_count e) whole.count ys) ∙ ap (drop (ending_count e)) below ∙ drop-drop (ending_count e) (row_count row) xs in
+      subst (λ r. MadeOf g.rest (drop whole.count ys) (drop (whole.count + ending_count e) ys) r) (sym is)
+      (subst (λ zs. MadeOf g.rest zs (drop (whole.count + ending_count e) ys) (finished (style_of style) (row_with row xs))) (sym below)
+      (subst (λ zs. MadeOf g.rest (drop (row_count row) xs) zs (finished (style_of style) (row_with row xs))) (sym others) g.leads))
+
+-- .. so it can be closed
+closes_by : (s : Start) (p : Parser) (e : Ending) (place : ℕ) (xs : CodeRow) (u : CodeUnit) (rest : Units) → IsLeft e u rest (left_of p) → s.style ≡ style_of p.style → RowMade s e place (drop xs.count (elements_of p)) (level (xs.count + ending_count e) s p) (Read (row_with xs (elements_of p)) rest) → Closes e place xs u s p
+closes_by s p (ending.Cell t) place xs u rest left style leads = record { style = style; before = rest; next = left; leads = leads }
+closes_by s p ending.Text place xs u rest left style leads = record { style = style; leads = subst (λ m. Whole s (Read (row_with xs (elements_of p)) m)) left leads }
+closes_by s p ending.Group place xs u rest left style leads = record { style = style; leads = rw left at leads }
+closes_by s p ending.Operand place xs u rest left style leads = record { style = style; leads = rw left at leads }
+closes_by s p ending.Degree place xs u rest left style leads = record { style = style; leads = rw left at leads }
+closes_by s p (ending.Delimiters opening) place xs u rest left style leads = record { style = style; leads = rw left at leads }
+closes_by s p (ending.Formula ws) place xs u rest left style leads = record { style = style; leads = rw left at leads }
+
+pub row_finished : (s : Start) (p : Parser) (b : Built) (style : CodeStyle) (row whole : CodeRow) → row_with whole (elements_in b) ≡ finished (style_of style) (row_with row (elements_of p)) → drop whole.count (elements_in b) ≡ drop (row_count row) (elements_of p) → (e : Ending) (place : ℕ) (u : CodeUnit) → EndsRow e place style row u s p → Closes e place whole u s (record p { builder = b })
+row_finished s p b style row whole is below e place u g =
+    closes_by s (record p { builder = b }) e place whole u g.rest g.left g.same_style (made_finished s p b style row whole is below e place u g)
+
+-- What follows a change
+
+module _ (p : Parser) (fr : Frames) (f : Frame) (e : Ending) (at : ℕ) (context : Context) (row : CodeRow) (inner : IsInnermost p.style p.frames.stack.items f fr.stack.items) (is : f ≡ frame.Row e at context row) where
+  abbrev others : List Frame
+  others = fr.stack.items
+
+  at_row : IsInnermost p.style p.frames.stack.items (frame.Row e at context row) others
+  at_row = subst (λ f. IsInnermost p.style p.frames.stack.items f others) is inner
+
+  -- the row's frame can be put back
+  pub rest_can : (b : Built) (other : CodeRow) → CanBegin 0 p → drop (row_count other) (elements_in b) ≡ drop (row_count row) (elements_of p) → row_count other ≤ length (elements_in b) → CanMake (row_makes e) (row_count other + ending_count e) (record p { frames = fr; builder = b })
+  rest_can b other can own there =
+      let some = elements_left p.style p.frames.stack.items others e at context row (length (elements_of p)) at_row can.elements in
+      let left = sym (length-drop (row_count other) (elements_in b)) ∙ ap length own ∙ length-drop (row_count row) (elements_of p) in
+      let awaits = and_parts _ _ (others_await p.style p.frames.stack.items others e at context row at_row can.awaits.nested) in
+      record {
+        elements = omega (arith, some, left, there);
+        awaits = record { accepted = awaits.0; nested = awaits.1 };
+      }
+
+  module _ (s : Start) (change : Change) (place : ℕ) (g : BeginsRest change place s p) where
+    -- where the outcome of the row leads
+    abbrev RowLeads : Outcome Row → Type 0
+    RowLeads = RowMade s e at (drop (row_count row) (elements_of p)) (inside s others (drop (row_count row + ending_count e) (elements_of p)))
+
+    follows : FollowsChange (ending_of e at) RowLeads place (rest_of change (context_of context) (row_with row (elements_of p))) (left_of p)
+    follows = into_frame (λ l. RestLeads change place l (left_of p)) s p.style g.style p.frames.stack.items others (frame.Row e at context row) (elements_of p) at_row g.leads
+
+    abbrev AllLead : RuleContext → Row → List Element → List Element → Type 0
+    AllLead c r own below = (o : Outcome Row) → ReadsAtoms (ending_of e at) c r (left_of p) o → RowMade s e at own (inside s others below) o
+
+    -- it is due within the row's frame
+    pub rest_begins : (new_context : Context) (c : RuleContext) (other : CodeRow) (ys : List Element) (r : Row) → context_of new_context ≡ c → row_with other ys ≡ r → drop (row_count other) ys ≡ drop (row_count row) (elements_of p) → rest_of change (context_of context) (row_with row (elements_of p)) ≡ GoesOnIn c r → Leads (within s others (frame.Row e at new_context other) ys) (left_of p)
+    rest_begins new_context c other ys r same_context same_row own rest =
+        let xs = elements_of p in
+        let due : AllLead c r (drop (row_count row) xs) (drop (row_count row + ending_count e) xs) = subst (λ (x : Rest). FollowsChange (ending_of e at) RowLeads place x (left_of p)) rest follows in
+        let below : drop (row_count other + ending_count e) ys ≡ drop (row_count row + ending_count e) xs =
+        sym (drop-drop (ending_count e) (row_count other) ys) ∙ ap (drop (ending_count e)) own ∙ drop-drop (ending_count e) (row_count row) xs in
+        subst (λ d. AllLead d (row_with other ys) (drop (row_count other) ys) (drop (row_count other + ending_count e) ys)) (sym same_context)
+        (subst (λ t. AllLead c t (drop (row_count other) ys) (drop (row_count other + ending_count e) ys)) (sym same_row)
+        (subst (λ zs. AllLead c r zs (drop (row_count other + ending_count e) ys)) (sym own)
+        (subst (λ zs. AllLead c r (drop (row_count row) xs) zs) (sym below) due)))
+
+    -- it is refused
+    pub no_rest : (q : Parser) (kind : Kind) → rest_of change (context_of context) (row_with row (elements_of p)) ≡ NoRest kind → q.style ≡ p.style → refusal_of q.refusal ≡ Some (refusal_at kind place) → Holds s q state.Refused
+    no_rest q kind rest same told =
+        let r = refusal_at kind place in
+        let led : RowLeads (Refused r) = subst (λ (x : Rest). FollowsChange (ending_of e at) RowLeads place x (left_of p)) rest follows in
+        let here : Refuses (level 0 s p) r = out_of_frame (λ l. Refuses l r) s p.style g.style p.frames.stack.items others (frame.Row e at context row) (elements_of p) at_row led in
+        record {
+          style = g.style ∙ ap style_of (sym same);
+          claims = rw told (all_refuse r s (reverse p.frames.stack.items) (elements_of p) here);
+        }

@@ -1,0 +1,147 @@
+-- What holds of the parser where tables begin and end.
+use Rattle.std.proofs.Common.{◌≡◌, ℕ, ◌+◌, ◌≤◌, List, [], ◌∷◌, Option, Some, None, true, drop, option_map, reverse, sum_by, take, Result, refl, sym, ap, subst, ◌∙◌, arith}
+use Rattle.std.specs.{Borrow.Bor, declared.alloc.AllocError.AllocError}
+use Rattle.std.specs.Str.{bytes_eq}
+use mathlib.Core.List.{reverse_aux}
+use Rattle.latex2mathml_elements.specs.Attributes as attributes
+use Rattle.latex2mathml_elements.specs.Attributes.{Attributes}
+use Rattle.latex2mathml_elements.specs.Columns.{Columns, Alike, Dense}
+use Rattle.latex2mathml_elements.specs.Element.{Element, table}
+use Rattle.latex2mathml_builder.specs.{Built.Built, Built.elements_in, Columns.columns_of, Stacks.table_with}
+use Rattle.latex2mathml_builder.specs.declared.columns.Columns.{Columns as CodeColumns}
+use Rattle.latex2mathml_builder.specs.{Names.math_style_of, declared.attributes.MathStyle.MathStyle}
+use Rattle.latex2mathml_tex_grammar.specs.{Atoms.Plain, Atoms.atom, Makes.core, Refusal.Refusal}
+use Rattle.latex2mathml_tex_grammar.specs.Reading.{ReadsRows}
+use Rattle.latex2mathml_tex_grammar.specs.Rules.{ByBrace, ByName, Context as RuleContext, Rule, ended_table, gives, passes_over, reads_rows, rows_rule, styled, takes_found}
+use Rattle.latex2mathml_tex_grammar.specs.Scanning.{BeforeArgument, BeforeRow, Name, Spot, past, past_break}
+use Rattle.latex2mathml_tex_grammar.specs.Symbols as symbols
+use Rattle.latex2mathml_tex_grammar.specs.Tables.{Lines, a_table, between_any, rows_of, rows_onto, said_style}
+use Rattle.latex2mathml_tex.specs.Frames.{Start, context_at}
+use Rattle.latex2mathml_tex.specs.Levels.{CoreMade, Refuses, RuleLeads}
+use Rattle.latex2mathml_tex.specs.{Errors.refusal_of, Left.unit_count, Left.units_at, Meanings.style_of, Models.context_of}
+use Rattle.latex2mathml_tex.specs.Steps.{BeginsIn, EndsRows, Follows, GoesOnTable, HasElements, Holds, InnermostIs, IsStep, MakesTable, TookText, elements_of, frame_weight, left_of, level, to_do}
+use Rattle.latex2mathml_tex.specs.Tables.{behind_rows, delimiter_texts, environment_of}
+use Rattle.latex2mathml_tex.specs.{Innermost.frame_context, Models.core_with}
+use Rattle.latex2mathml_tex.specs.declared.{atoms.Context.Context, atoms.Core.Core as CodeCore, environments.Environment.Environment, error.TexError.TexError, input.Input.Input, meaning.Style.Style, parse.Parser.Parser, parse.State.State}
+use Rattle.latex2mathml_tex.specs.declared.parse.frames.Frame.{Frame}
+use Rattle.latex2mathml_tex.specs.declared.parse.State.TheVariants as state
+use Rattle.latex2mathml_tex.specs.declared.parse.frames.Table.{Table}
+use Rattle.latex2mathml_tex.proofs.Leading.{found, given, not_found, passed, rows_due}
+use Rattle.latex2mathml_tex.proofs.{Marks.all_refuse, Marks.core_refuses, Rows.refused_step, Rows.step_within, Scanned.no_more_past, Scanned.no_more_past_break, Scanned.no_more_scanned, Opening.context_is}
+
+-- A formula that is refused without so many elements
+pub refused_at : (s : Start) (p q : Parser) (n : ℕ) (r : Refusal) → q.style ≡ p.style → refusal_of q.refusal ≡ Some r → s.style ≡ style_of p.style → Refuses (level n s p) r → Holds s q state.Refused
+refused_at s p q n r same reported style k =
+    record { style = style ∙ ap style_of (sym same); claims = rw reported (all_refuse r s (reverse p.frames.stack.items) (drop n (elements_of p)) k) }
+
+-- Texts that are taken
+
+pub took_none : {A : Type 0} (bytes : A → List ℕ) (place : ℕ) (spot : Spot) (p q : Parser) (text : Option A) → text ≡ None → TookText place spot p q (option_map bytes text) → TookText place spot p q None
+took_none bytes place spot p q text is h = subst (λ t. TookText place spot p q (option_map bytes t)) is h
+
+pub took_some : {A : Type 0} (bytes : A → List ℕ) (place : ℕ) (spot : Spot) (p q : Parser) (text : Option A) (taken : A) → text ≡ Some taken → TookText place spot p q (option_map bytes text) → TookText place spot p q (Some (bytes taken))
+took_some bytes place spot p q text taken is h = subst (λ t. TookText place spot p q (option_map bytes t)) is h
+
+module _ (p q : Parser) (place : ℕ) (spot : Spot) where
+  pub text_refused : (s : Start) (n : ℕ) (then : List ℕ → Rule) → TookText place spot p q None → s.style ≡ style_of p.style → RuleLeads (takes_found spot place then) (CoreMade (level n s p)) (left_of p) → Holds s q state.Refused
+  text_refused s n then (r, (same, (reported, missing))) style k =
+      refused_at s p q n r (ap (λ (x : Parser). x.style) same) reported style (core_refuses r (level n s p) (not_found missing k))
+
+  module _ (text : List ℕ) (took : TookText place spot p q (Some text)) where
+    fewer : unit_count (left_of q) ≤ unit_count (left_of p)
+    fewer = no_more_scanned place (left_of p) (left_of q) spot text took.1
+
+    pub text_taken : (s : Start) (c : Context) (then : List ℕ → Rule) → BeginsIn c (takes_found spot place then) 0 s p → BeginsIn c (then text) 0 s q
+    text_taken s c then g =
+        subst (λ x. BeginsIn c (then text) 0 s x) (sym took.0) (record { style = g.style; context = g.context; leads = found then took.1 g.leads })
+
+    pub text_step : (n : ℕ) (new : Parser) (answer : Result State AllocError) → n ≤ 13 → IsStep n q new answer → IsStep 13 p new answer
+    text_step n new answer h step =
+        let frames : sum_by frame_weight q.frames.stack.items ≡ sum_by frame_weight p.frames.stack.items = ap (λ (x : Parser). sum_by frame_weight x.frames.stack.items) took.0 in
+        step_within p q new answer n 13 (omega (arith, frames, fewer, h)) step
+
+    -- the formula is refused behind the text
+
+    module _ (new : Parser) (st : State) (error : TexError) (same : new ≡ record q { refusal = error }) (is : st ≡ state.Refused) where
+      pub refused_behind : (s : Start) (n : ℕ) (r : Refusal) → refusal_of error ≡ Some r → s.style ≡ style_of p.style → Refuses (level n s p) r → Holds s new st
+      refused_behind s n r reported style k =
+          subst (λ t. Holds s new t) (sym is)
+          (refused_at s p new n r (ap (λ (x : Parser). x.style) same ∙ ap (λ (x : Parser). x.style) took.0) (ap (λ (x : Parser). refusal_of x.refusal) same ∙ reported) style k)
+
+      pub refused_behind_step : HasElements 0 p → Follows (to_do p + 13) new st
+      refused_behind_step enough =
+          refused_step p new q.input error st (same ∙ ap (λ (x : Parser). record x { refusal = error }) took.0) is fewer enough
+
+-- What is passed over
+
+pub passed_begins : (s : Start) (p : Parser) (i : Input) (c : Context) (spot : Spot) (then : Rule) → units_at i ≡ past spot (left_of p) → BeginsIn c (passes_over spot then) 0 s p → BeginsIn c then 0 s (record p { input = i })
+passed_begins s p i c spot then units g = record { style = g.style; context = g.context; leads = subst (λ l. RuleLeads then (CoreMade (level 0 s p)) l) (sym units) (passed g.leads) }
+
+pub passed_step : (p : Parser) (i : Input) (spot : Spot) (n m : ℕ) (new : Parser) (answer : Result State AllocError) → units_at i ≡ past spot (left_of p) → n ≤ m → IsStep n (record p { input = i }) new answer → IsStep m p new answer
+passed_step p i spot n m new answer units h step =
+    let fewer : unit_count (units_at i) ≤ unit_count (left_of p) = rw units (no_more_past spot (left_of p)) in
+    step_within p (record p { input = i }) new answer n m (omega (arith, fewer, h)) step
+
+-- Rows begin
+
+pub rows_begin : (s : Start) (p : Parser) (i : Input) (e : Bor Environment) (columns : CodeColumns) (place : ℕ) (c : Context) → units_at i ≡ past BeforeRow (left_of p) → BeginsIn c (rows_rule place (context_of c) e.now.name.now (environment_of e.now) (columns_of columns)) 0 s p → GoesOnTable (record { environment = Some e; columns = columns; rows = 0; cells = 0 }) place s (record p { input = i })
+rows_begin s p i e columns place c units g =
+    let around = context_at (level 0 s p) in
+    let t : Table = record { environment = Some e; columns = columns; rows = 0; cells = 0 } in
+    let k = subst (λ c. RuleLeads (rows_rule place c e.now.name.now (environment_of e.now) (columns_of columns)) (CoreMade (level 0 s p)) (left_of p)) g.context g.leads in
+    record {
+      style = g.style;
+      leads = λ o d. rows_due (behind_rows t around) k o (subst (λ l. ReadsRows ByName place (columns_of columns) (styled around (style_of e.now.style)) [] [] l o) units d);
+    }
+
+pub substack_begins : (s : Start) (p : Parser) (i : Input) (columns : CodeColumns) (place : ℕ) (c : Context) → columns_of columns ≡ Alike Dense → units_at i ≡ past BeforeRow (left_of p) → BeginsIn c (reads_rows ByBrace place (Alike Dense) (styled (context_of c) symbols.InScript) (λ lines end. gives (a_table None (Alike Dense) symbols.InScript (context_of c).style lines))) 0 s p → GoesOnTable (record { environment = None; columns = columns; rows = 0; cells = 0 }) place s (record p { input = i })
+substack_begins s p i columns place c dense units g =
+    let around = context_at (level 0 s p) in
+    let t : Table = record { environment = None; columns = columns; rows = 0; cells = 0 } in
+    let j = subst (λ c. RuleLeads (reads_rows ByBrace place (Alike Dense) (styled c symbols.InScript) (λ lines end. gives (a_table None (Alike Dense) symbols.InScript c.style lines))) (CoreMade (level 0 s p)) (left_of p)) g.context g.leads in
+    let k = subst (λ d. RuleLeads (reads_rows ByBrace place d (styled around symbols.InScript) (λ lines end. gives (a_table None d symbols.InScript around.style lines))) (CoreMade (level 0 s p)) (left_of p)) (sym dense) j in
+    record {
+      style = g.style;
+      leads = λ o d. rows_due (behind_rows t around) k o (subst (λ l. ReadsRows ByBrace place (columns_of columns) (styled around symbols.InScript) [] [] l o) units d);
+    }
+
+-- An environment ends with its own name
+
+pub ended_well : (p q : Parser) (e : Bor Environment) (columns : CodeColumns) (rows at : ℕ) (text : List ℕ) → TookText at (BeforeArgument Name) p q (Some text) → (s : Start) → bytes_eq text e.now.name.now ≡ true → EndsRows (Some e) columns rows at s p → MakesTable e.now.delimiters columns e.now.style rows s q
+ended_well p q e columns rows at text took s same g =
+    let around = context_at (level rows s p) in
+    let then : List ℕ → Rule = λ other. ended_table at around (environment_of e.now) (columns_of columns) g.lines (bytes_eq other e.now.name.now) in
+    subst (λ x. MakesTable e.now.delimiters columns e.now.style rows s x) (sym took.0) (record {
+      style = g.style;
+      lines = g.lines;
+      are = g.are;
+      leads = subst (λ b. RuleLeads (ended_table at around (environment_of e.now) (columns_of columns) g.lines b) (CoreMade (level rows s p)) (left_of q)) same (found then took.1 g.leads);
+    })
+
+-- A table is made of its rows
+
+rows_reversed : (a : Attributes) (columns : Columns) (ys : List Element) (x : Element) (xs : List Element) → table_with a columns (reverse_aux ys (x ∷ xs)) ≡ table a (rows_onto columns ys x xs)
+rows_reversed a columns [] x xs = refl
+rows_reversed a columns (y ∷ ys) x xs = rows_reversed a columns ys y (x ∷ xs)
+
+table_of_lines : (a : Attributes) (columns : Columns) (lines : Lines) (xs : List Element) → xs ≡ lines.last ∷ lines.others → table_with a columns (reverse xs) ≡ table a (rows_of columns lines)
+table_of_lines a columns lines xs e = ap (λ k. table_with a columns (reverse k)) e ∙ rows_reversed a columns lines.others lines.last []
+
+pub table_made : (s : Start) (p : Parser) (b : Built) (delimiters : Option (Option ℕ × Option ℕ)) (columns : CodeColumns) (own : Style) (rows : ℕ) (f : Frame) (around : Context) (said : Option MathStyle) (c : CodeCore) → around ≡ frame_context f → InnermostIs f p → option_map math_style_of said ≡ said_style (style_of own) (style_of around.style) → elements_in b ≡ between_any (option_map delimiter_texts delimiters) (table_with (attributes.styled (option_map math_style_of said)) (columns_of columns) (reverse (take rows (elements_of p)))) ∷ drop rows (elements_of p) → ((x : Element) → core_with c x ≡ core (atom (Plain symbols.Inner) true x)) → MakesTable delimiters columns own rows s p → Holds s (record p { builder = b }) (state.Core c)
+table_made s p b delimiters columns own rows f around said c is inner says put made g =
+    let outer : context_of around ≡ context_at (level rows s p) = ap context_of is ∙ context_is s p.style p.frames.stack.items f (drop rows (elements_of p)) g.style inner in
+    let style : option_map math_style_of said ≡ said_style (style_of own) (context_at (level rows s p)).style = says ∙ ap (λ (k : RuleContext). said_style (style_of own) k.style) outer in
+    let texts = option_map delimiter_texts delimiters in
+    let a = attributes.styled (said_style (style_of own) (context_at (level rows s p)).style) in
+    let x = between_any texts (table a (rows_of (columns_of columns) g.lines)) in
+    let one : elements_in b ≡ x ∷ drop rows (elements_of p) =
+    put
+    ∙ ap (λ k. between_any texts (table_with (attributes.styled k) (columns_of columns) (reverse (take rows (elements_of p)))) ∷ drop rows (elements_of p)) style
+    ∙ ap (λ y. between_any texts y ∷ drop rows (elements_of p)) (table_of_lines a (columns_of columns) g.lines (take rows (elements_of p)) g.are) in
+    record { style = g.style; claims = rw (one, made x) (given g.leads) }
+
+-- behind the sign that ends a row less is left to do
+pub broken_step : (p : Parser) (b : Built) (i : Input) (new : Parser) (answer : Result State AllocError) → units_at i ≡ past_break (left_of p) → IsStep 6 (record p { builder = b; input = i }) new answer → IsStep 13 p new answer
+broken_step p b i new answer units step =
+    let fewer : unit_count (units_at i) ≤ unit_count (left_of p) = rw units (no_more_past_break (left_of p)) in
+    step_within p (record p { builder = b; input = i }) new answer 6 13 (omega (arith, fewer)) step

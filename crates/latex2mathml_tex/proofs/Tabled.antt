@@ -1,0 +1,176 @@
+-- What holds of the parser within tables.
+use Rattle.std.proofs.Common.{◌≡◌, ℕ, zero, suc, ◌+◌, ◌<◌, ◌≤◌, List, [], ◌∷◌, drop, length, take, refl, sym, ap, subst, ◌∙◌, arith}
+use Rattle.std.proofs.lemmas.List.{drop-drop, length-drop, length-take-le}
+use Rattle.latex2mathml_elements.specs.Columns.{Columns, column_at}
+use Rattle.latex2mathml_elements.specs.Element.{Element}
+use Rattle.latex2mathml_builder.specs.{Built.Built, Built.elements_in, Columns.columns_of}
+use Rattle.latex2mathml_tex_grammar.specs.{Environments.before_cell, Rows.Row, Rows.row_element, Scanning.past_break}
+use Rattle.latex2mathml_tex_grammar.specs.Reading.{Outcome, Read, Refused, ReadsAtoms, ReadsRows, cell_read, cell_refused, next_cell, next_row, table_ends}
+use Rattle.latex2mathml_tex_grammar.specs.Rules.{Context as RuleContext, InCell, TableEnd, in_context, styled}
+use Rattle.latex2mathml_tex_grammar.specs.Starts.{PartsCells, EndsRow, EndsTable as TableEnds, cell_end}
+use Rattle.latex2mathml_tex_grammar.specs.Tables.{Lines, a_row, begun_cell, with_last}
+use Rattle.latex2mathml_tex_grammar.specs.Units.{Units}
+use Rattle.latex2mathml_tex.specs.Frames.{Start, context_at, inside}
+use Rattle.latex2mathml_tex.specs.Innermost.{empty_row, frame_context}
+use Rattle.latex2mathml_tex.specs.Levels.{CoreMade, Leads, Level, RuleLeads}
+use Rattle.latex2mathml_tex.specs.{Left.units_at, Meanings.style_of, Taking.piece_of, Taking.unit_of}
+use Rattle.latex2mathml_tex.specs.Models.{before_of, context_of, row_count, row_with}
+use Rattle.latex2mathml_tex.specs.Steps.{CanMake, ClosesCell, EndsRows, GoesOnTable, InnermostIs, core_made, elements_of, left_of, level_within}
+use Rattle.latex2mathml_tex.specs.Tables.{CellMade, RowsLead, TableMade, behind_rows, cell_context, cells_of, rows_of, style_in, table_end}
+use Rattle.latex2mathml_tex.specs.declared.{atoms.Context.Context, atoms.Row.Row as CodeRow, input.Input.Input, meaning.Style.Style, parse.Parser.Parser, unit.Unit.Unit as CodeUnit}
+use Rattle.latex2mathml_tex.specs.declared.parse.frames.{Frame.Frame, Table.Table}
+use Rattle.latex2mathml_tex.specs.declared.parse.frames.Ending.TheVariants as ending
+use Rattle.latex2mathml_tex.specs.declared.parse.frames.Frame.TheVariants as frame
+use Rattle.latex2mathml_tex.proofs.{Opening.context_is, Wording.drop_more, Wording.take_more}
+
+-- A cell is due
+
+cell_due : {end : TableEnd} {place : ℕ} {columns : Columns} {c : RuleContext} {rows cells : List Element} {K : Outcome Lines → Type 0} {l : Units} → ((o : Outcome Lines) → ReadsRows end place columns c rows cells l o → K o) → (o : Outcome Row) → ReadsAtoms (InCell end place) c (begun_cell columns (length cells)) l o → CellMade end place columns c rows cells K o
+cell_due k (Read row m) d = λ o ds. k o (cell_read d ds)
+cell_due k (Refused r) d = k (Refused r) (cell_refused d)
+
+-- the row of the cell, before its first atom
+begun_is : (row : CodeRow) (columns : Columns) (n k : ℕ) (xs : List Element) → row ≡ record empty_row { before = row.before } → before_of row.before ≡ before_cell (column_at columns n) → k ≡ n → row_with row xs ≡ begun_cell columns k
+begun_is row columns n k xs is before e = ap (λ r. row_with r xs) is ∙ rw (before, e) refl
+
+module _ (s : Start) (p : Parser) (t : Table) (place : ℕ) where
+  abbrev beside : ℕ
+  beside = t.cells + t.rows
+
+  abbrev around_it : Level
+  around_it = inside s p.frames.stack.items (drop beside (elements_of p))
+
+  abbrev Cell : RuleContext → Row → List Element → ℕ → Type 0
+  Cell c r xs n = (o : Outcome Row) → ReadsAtoms (InCell (table_end t) place) c r (left_of p) o → TableMade t place xs (context_at (inside s p.frames.stack.items (drop n (elements_of p)))) (CoreMade (inside s p.frames.stack.items (drop n (elements_of p)))) o
+
+  pub cell_begins : (f : Frame) (around context : Context) (st : Style) (row : CodeRow) → CanMake core_made beside p → around ≡ frame_context f → InnermostIs f p → context ≡ record around { style = st } → style_of st ≡ style_in t.environment → row ≡ record empty_row { before = row.before } → before_of row.before ≡ before_cell (column_at (columns_of t.columns) t.cells) → GoesOnTable t place s p → Leads (level_within (frame.Row (ending.Cell t) place context row) 0 s p) (left_of p)
+  cell_begins f around context st row can is inner restyled same row_is before g =
+      let outer : context_of around ≡ context_at around_it = ap context_of is ∙ context_is s p.style p.frames.stack.items f (drop beside (elements_of p)) g.style inner in
+      let own : context_of context ≡ cell_context t (context_at around_it) =
+      ap context_of restyled ∙ ap (λ x. in_context x (context_of around).alphabet) same ∙ ap (λ c. styled c (style_in t.environment)) outer in
+      let count : length (cells_of t (elements_of p)) ≡ t.cells = length-take-le t.cells (elements_of p) (omega (arith, can.elements)) in
+      let begun : row_with row (elements_of p) ≡ begun_cell (columns_of t.columns) (length (cells_of t (elements_of p))) =
+      begun_is row (columns_of t.columns) t.cells (length (cells_of t (elements_of p))) (elements_of p) row_is before count in
+      let none : row_count row ≡ 0 = ap row_count row_is in
+      let beside_all : row_count row + beside ≡ beside = omega (arith, none) in
+      let due : Cell (cell_context t (context_at around_it)) (begun_cell (columns_of t.columns) (length (cells_of t (elements_of p)))) (elements_of p) beside = cell_due g.leads in
+      let below : drop (row_count row) (elements_of p) ≡ elements_of p = ap (λ n. drop n (elements_of p)) none in
+      subst (λ n. Cell (context_of context) (row_with row (elements_of p)) (drop (row_count row) (elements_of p)) n) (sym beside_all)
+      (subst (λ xs. Cell (context_of context) (row_with row (elements_of p)) xs beside) (sym below)
+      (subst (λ r. Cell (context_of context) r (elements_of p) beside) (sym begun)
+      (subst (λ c. Cell c (begun_cell (columns_of t.columns) (length (cells_of t (elements_of p)))) (elements_of p) beside) (sym own) due)))
+
+-- What ends a cell
+
+-- the next cell of a table is due, where these are its rows and its cells, within this level
+abbrev Due : Table → ℕ → List Element → List Element → Level → Units → Type 0
+Due t place rows cells l m = (o : Outcome Lines) → ReadsRows (table_end t) place (columns_of t.columns) (cell_context t (context_at l)) rows cells m o → RowsLead (behind_rows t (context_at l)) (CoreMade l) o
+
+goes_on : (s : Start) (q : Parser) (t : Table) (place : ℕ) (rows cells ys : List Element) → s.style ≡ style_of q.style → rows_of t (elements_of q) ≡ rows → cells_of t (elements_of q) ≡ cells → drop (t.cells + t.rows) (elements_of q) ≡ ys → Due t place rows cells (inside s q.frames.stack.items ys) (left_of q) → GoesOnTable t place s q
+goes_on s q t place rows cells ys style r c d due = record {
+  style = style;
+  leads = subst (λ ys. Due t place (rows_of t (elements_of q)) (cells_of t (elements_of q)) (inside s q.frames.stack.items ys) (left_of q)) (sym d)
+      (subst (λ k. Due t place (rows_of t (elements_of q)) k (inside s q.frames.stack.items ys) (left_of q)) (sym c)
+      (subst (λ k. Due t place k cells (inside s q.frames.stack.items ys) (left_of q)) (sym r) due));
+}
+
+-- the unit ends the table
+abbrev PickedEnd : CodeUnit → Type 0
+PickedEnd u = TableEnds ≡ cell_end (piece_of u.piece)
+
+-- so many of some elements, and one at least
+some_first : (n : ℕ) (xs : List Element) → 0 < n → n ≤ length xs → (x : Element) × ((ys : List Element) × (take n xs ≡ x ∷ ys))
+some_first zero xs some there = absurd (omega arith)
+some_first (suc n) [] some there = absurd (omega arith)
+some_first (suc n) (x ∷ xs) some there = (x, (take n xs, refl))
+
+kept_last : (rows cells cell : List Element) → (length cell ≡ 0 → length cells ≡ 0 → length rows ≡ 0) → with_last rows cells cell ≡ record { last = a_row (row_element cell ∷ cells); others = rows }
+kept_last [] cells cell h = refl
+kept_last (row ∷ rows) (x ∷ cells) cell h = refl
+kept_last (row ∷ rows) [] (x ∷ cell) h = refl
+kept_last (row ∷ rows) [] [] h = absurd (let none = h refl refl in omega (arith, none))
+
+count_below : (n k : ℕ) (xs : List Element) → k + n ≤ length xs → n ≤ length (drop k xs)
+count_below n k xs h = simp length-drop (omega (arith, h))
+
+count_left : (n m k : ℕ) (xs : List Element) → k + (m + n) ≤ length xs → n ≤ length (drop m (drop k xs))
+count_left n m k xs h = simp length-drop (omega (arith, h))
+
+module _ (s : Start) (p : Parser) (t : Table) (place : ℕ) (row : CodeRow) (u : CodeUnit) (g : ClosesCell t place row u s p) where
+  abbrev below : List Element
+  below = drop row.count (elements_of p)
+
+  abbrev cell : Element
+  cell = row_element (take row.count (elements_of p))
+
+  abbrev outside : List Element
+  outside = drop (row.count + (t.cells + t.rows)) (elements_of p)
+
+  under : drop (t.cells + t.rows) below ≡ outside
+  under = drop-drop (t.cells + t.rows) row.count (elements_of p)
+
+  -- what follows the rows leads on, without these elements
+  abbrev Ended : Lines → List Element → Type 0
+  Ended lines ys = RuleLeads (behind_rows t (context_at (inside s p.frames.stack.items ys)) lines u.place) (CoreMade (inside s p.frames.stack.items ys)) (left_of p)
+
+  pub cell_parted : (b : Built) (v : Table) → v ≡ record t { cells = t.cells + 1 } → elements_in b ≡ cell ∷ below → PartsCells ≡ cell_end (piece_of u.piece) → GoesOnTable v place s (record p { builder = b })
+  cell_parted b v is put ends =
+      let next : Table = record t { cells = t.cells + 1 } in
+      let rows : rows_of next (elements_in b) ≡ rows_of t below = ap (λ ys. take t.rows (drop (t.cells + 1) ys)) put ∙ ap (take t.rows) (drop_more t.cells cell below) in
+      let cells : cells_of next (elements_in b) ≡ cell ∷ cells_of t below = ap (take (t.cells + 1)) put ∙ take_more t.cells cell below in
+      let more : (t.cells + 1) + t.rows ≡ (t.cells + t.rows) + 1 = omega arith in
+      let all : drop ((t.cells + 1) + t.rows) (elements_in b) ≡ outside = ap (λ n. drop n (elements_in b)) more ∙ ap (drop ((t.cells + t.rows) + 1)) put ∙ drop_more (t.cells + t.rows) cell below ∙ under in
+      subst (λ v. GoesOnTable v place s (record p { builder = b })) (sym is)
+      (goes_on s (record p { builder = b }) next place (rows_of t below) (cell ∷ cells_of t below) outside g.style rows cells all (λ o d. g.leads o (next_cell g.next (sym ends) d)))
+
+  pub row_broken : (b : Built) (i : Input) (v : Table) → v ≡ record t { rows = t.rows + 1; cells = 0 } → elements_in b ≡ a_row (cell ∷ cells_of t below) ∷ drop t.cells below → units_at i ≡ past_break (left_of p) → EndsRow ≡ cell_end (piece_of u.piece) → GoesOnTable v place s (record p { builder = b; input = i })
+  row_broken b i v is put units ends =
+      let next : Table = record t { rows = t.rows + 1; cells = 0 } in
+      let last = a_row (cell ∷ cells_of t below) in
+      let rows : rows_of next (elements_in b) ≡ last ∷ rows_of t below = ap (take (t.rows + 1)) put ∙ take_more t.rows last (drop t.cells below) in
+      let none : 0 + (t.rows + 1) ≡ t.rows + 1 = omega arith in
+      let all : drop (0 + (t.rows + 1)) (elements_in b) ≡ outside = ap (λ n. drop n (elements_in b)) none ∙ ap (drop (t.rows + 1)) put ∙ drop_more t.rows last (drop t.cells below) ∙ drop-drop t.rows t.cells below ∙ under in
+      let due : Due next place (last ∷ rows_of t below) [] (inside s p.frames.stack.items outside) (past_break (left_of p)) = λ o d. g.leads o (next_row g.next (sym ends) d) in
+      subst (λ v. GoesOnTable v place s (record p { builder = b; input = i })) (sym is)
+      (goes_on s (record p { builder = b; input = i }) next place (last ∷ rows_of t below) [] outside g.style rows refl all (subst (λ m. Due next place (last ∷ rows_of t below) [] (inside s p.frames.stack.items outside) m) (sym units) due))
+
+  -- what follows the rows, where these are all of them
+  rows_ended : PickedEnd u → RowsLead (behind_rows t (context_at (inside s p.frames.stack.items outside))) (CoreMade (inside s p.frames.stack.items outside)) (Read (with_last (rows_of t below) (cells_of t below) (take row.count (elements_of p))) g.before)
+  rows_ended ends = g.leads _ (table_ends g.next (sym ends))
+
+  -- an empty last row is none
+  pub row_is_none : PickedEnd u → row.count ≡ 0 → t.cells ≡ 0 → 0 < t.rows → t.rows ≤ length (elements_of p) → EndsRows t.environment t.columns t.rows u.place s p
+  row_is_none ends empty no_cells some there =
+      let others : take t.rows (elements_of p) ≡ rows_of t below = sym (ap (λ n. take t.rows (drop t.cells (drop n (elements_of p)))) empty ∙ ap (λ n. take t.rows (drop n (elements_of p))) no_cells) in
+      let beside : row.count + (t.cells + t.rows) ≡ t.rows = omega (arith, empty, no_cells) in
+      let (last, (rest, split)) = some_first t.rows (elements_of p) some there in
+      let cells : cells_of t below ≡ [] = ap (λ n. take n below) no_cells in
+      let atoms : take row.count (elements_of p) ≡ [] = ap (λ n. take n (elements_of p)) empty in
+      let lines : with_last (rows_of t below) (cells_of t below) (take row.count (elements_of p)) ≡ record { last = last; others = rest } =
+      ap (λ k. with_last k (cells_of t below) (take row.count (elements_of p))) (sym others ∙ split) ∙ ap (λ k. with_last (last ∷ rest) k (take row.count (elements_of p))) cells ∙ ap (with_last (last ∷ rest) []) atoms in
+      let due = rows_ended ends (unit_of u) (left_of p) g.next in
+      record {
+        style = g.style;
+        lines = record { last = last; others = rest };
+        are = split;
+        leads = subst (λ n. Ended (record { last = last; others = rest }) (drop n (elements_of p))) beside (subst (λ k. Ended k outside) lines due);
+      }
+
+  pub row_is_last : (b : Built) (n : ℕ) → n ≡ t.rows + 1 → PickedEnd u → (row.count ≡ 0 → t.cells ≡ 0 → t.rows ≡ 0) → row.count + (t.cells + t.rows) ≤ length (elements_of p) → elements_in b ≡ a_row (cell ∷ cells_of t below) ∷ drop t.cells below → EndsRows t.environment t.columns n u.place s (record p { builder = b })
+  row_is_last b n is ends no_other there put =
+      let last = a_row (cell ∷ cells_of t below) in
+      let lines : Lines = record { last = last; others = rows_of t below } in
+      let rows_there : length (rows_of t below) ≡ t.rows = length-take-le t.rows (drop t.cells below) (count_left t.rows t.cells row.count (elements_of p) there) in
+      let cells_there : length (cells_of t below) ≡ t.cells = length-take-le t.cells below (count_below t.cells row.count (elements_of p) (omega (arith, there))) in
+      let atoms_there : length (take row.count (elements_of p)) ≡ row.count = length-take-le row.count (elements_of p) (omega (arith, there)) in
+      let whole : with_last (rows_of t below) (cells_of t below) (take row.count (elements_of p)) ≡ lines =
+      kept_last (rows_of t below) (cells_of t below) (take row.count (elements_of p)) (λ e f. rows_there ∙ no_other (sym atoms_there ∙ e) (sym cells_there ∙ f)) in
+      let first : take (t.rows + 1) (elements_in b) ≡ last ∷ rows_of t below = ap (take (t.rows + 1)) put ∙ take_more t.rows last (drop t.cells below) in
+      let all : drop (t.rows + 1) (elements_in b) ≡ outside = ap (drop (t.rows + 1)) put ∙ drop_more t.rows last (drop t.cells below) ∙ drop-drop t.rows t.cells below ∙ under in
+      let due = rows_ended ends (unit_of u) (left_of p) g.next in
+      record {
+        style = g.style;
+        lines = lines;
+        are = ap (λ k. take k (elements_in b)) is ∙ first;
+        leads = subst (λ k. Ended lines (drop k (elements_in b))) (sym is) (subst (Ended lines) (sym all) (subst (λ k. Ended k outside) whole due));
+      }

@@ -1,0 +1,10 @@
+use Rattle.std.proofs.Common.{◌∙◌, ap, Some}
+use Rattle.latex2mathml_tex_grammar.specs.Macros.{macro}
+use Rattle.latex2mathml_tex.proofs.Tables.{usual_is}
+use Rattle.latex2mathml_tex.proofs.macros.usual.usual_macro.Goals as goal
+
+pub returns-in_default : goal.returns-in_default
+returns-in_default c = c.in_default.ensures ∙ usual_is _ c.args.name.now c.entries.ensures
+
+pub returns : goal.returns
+returns c = ap (λ parts. Some (macro c.in-Some.entry.arity parts)) c.in_ok-body.ensures ∙ c.in-Some.ensures ∙ usual_is _ c.args.name.now c.entries.ensures

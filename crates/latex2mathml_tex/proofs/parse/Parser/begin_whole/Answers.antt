@@ -1,0 +1,28 @@
+use Rattle.std.proofs.Common.{◌≡◌, ◌∙◌, IfOk, ap, false, option_map, refl, subst, sym, true}
+use Rattle.std.specs.Char.{is_ascii_alphabetic, is_ascii_digit}
+use Rattle.latex2mathml_tex_grammar.specs.{Makes.core, Rules.character_rule, Rules.gives}
+use Rattle.latex2mathml_tex_grammar.specs.Makes
+use Rattle.latex2mathml_tex.specs.{Meanings.alphabet_of, Models.context_of, Steps.Begins, Steps.Holds}
+use Rattle.latex2mathml_tex.specs.declared.parse.State.TheVariants as state
+use Rattle.latex2mathml_tex.specs.declared.unit.Piece.TheVariants as piece
+use Rattle.latex2mathml_tex.proofs.{Beginning.unit_begins, Putting.put_held, RuleSteps.begun}
+use Rattle.latex2mathml_tex.proofs.parse.Parser.begin_whole.Goals as goal
+
+pub returns-clause-holds : goal.returns-clause-holds
+returns-clause-holds c = λ s g.
+    let p = c.args.self.now in
+    let k = c.context-context.result in
+    let c0 = c.in-Character.c in
+    let no_digit : is_ascii_digit c0 ≡ false = ap is_ascii_digit (sym c.in-Character.c-is) ∙ sym c.is_ascii_digit.ensures.value ∙ c.if-not-is_ascii_digit.true in
+    let alphabetic : is_ascii_alphabetic c0 ≡ true = ap is_ascii_alphabetic (sym c.in-Character.c-is) ∙ sym c.is_ascii_alphabetic.ensures.value ∙ c.if-is_ascii_alphabetic.true in
+    let drawn = core (Makes.letter (option_map alphabet_of k.alphabet) c0) in
+    let rule : character_rule (context_of k) c0 c.args.unit.place ≡ gives drawn = rw (no_digit, alphabetic) refl in
+    let begins = unit_begins s p c.innermost.result k c.args.unit (piece.Character c0) c.context-context.ensures c.in-Character.is c.innermost.ensures g in
+    c.deliver_core.ensures.holds s (put_held s p c.put_letter.new.builder c.in_ok-letter.letter drawn c.in_ok-letter.ensures (subst (λ r. Begins r 0 s p) rule (begun begins)))
+
+pub returns-in-Ok-Core-clause-holds : goal.returns-in-Ok-Core-clause-holds
+returns-in-Ok-Core-clause-holds c = λ s g.
+    let p = c.begin-begun.new.self in
+    let held = subst (λ r. IfOk r (Holds s p)) c.in-Ok-Core.is (c.begin-begun.ensures.holds s g) in
+    let is : c.in-Ok-Core.field-0 ≡ state.Core c.in-Ok-Core.core = rw c.in-Ok-Core.is at c.in-Ok-Core.field-0-is in
+    c.deliver_core-in-Ok-Core.ensures.holds s (subst (λ state. Holds s p state) is held)

@@ -1,0 +1,55 @@
+-- Where a unit stands that is taken one by one, and what it does, as the definitions have them.
+use Rattle.std.specs.Prelude.{◌≡◌, ℕ, List, ◌++◌, Option, Some, None}
+use Rattle.latex2mathml_tex_grammar.specs.Refusal.{Refusal, UnknownColumn}
+use Rattle.latex2mathml_tex_grammar.specs.Scanning as scanning
+use Rattle.latex2mathml_tex_grammar.specs.Scanning.{Found, Given, Missing}
+use Rattle.latex2mathml_tex_grammar.specs.Units.{Units}
+use Rattle.latex2mathml_tex.specs.{Errors.refusal_of, declared.error.TexError.TexError}
+use Rattle.latex2mathml_tex.specs.declared.scanning.{Argument.Argument, Deed.Deed, Spot.Spot}
+use Rattle.latex2mathml_tex.specs.declared.scanning.Argument.TheVariants as argument
+use Rattle.latex2mathml_tex.specs.declared.scanning.Deed.TheVariants as deed
+use Rattle.latex2mathml_tex.specs.declared.scanning.Spot.TheVariants as spot
+
+abbrev pub argument_of : Argument → scanning.Argument
+argument_of argument.Name = scanning.Name
+argument_of argument.ColumnList = scanning.ColumnList
+argument_of argument.Number = scanning.Number
+
+abbrev pub spot_of : Spot → scanning.Spot
+spot_of (spot.BeforeArgument a) = scanning.BeforeArgument (argument_of a)
+spot_of (spot.InArgument a) = scanning.InArgument (argument_of a)
+spot_of spot.BeforeGap = scanning.BeforeGap
+spot_of spot.InGap = scanning.InGap
+spot_of spot.BeforeWidth = scanning.BeforeWidth
+spot_of spot.InWidth = scanning.InWidth
+spot_of spot.BeforeBrace = scanning.BeforeBrace
+spot_of spot.BeforePosition = scanning.BeforePosition
+spot_of spot.InPosition = scanning.InPosition
+spot_of spot.BehindPosition = scanning.BehindPosition
+spot_of spot.BeforeStar = scanning.BeforeStar
+spot_of spot.BehindStar = scanning.BehindStar
+spot_of spot.BeforeLength = scanning.BeforeLength
+spot_of spot.InLength = scanning.InLength
+spot_of spot.BehindSign = scanning.BehindSign
+spot_of spot.InNumber = scanning.InNumber
+spot_of (spot.BehindLetter c) = scanning.BehindLetter c
+spot_of spot.BehindLength = scanning.BehindLength
+spot_of spot.BeforeRow = scanning.BeforeRow
+
+abbrev pub deed_of : Deed → scanning.Deed
+deed_of (deed.Passes next) = scanning.Passes (spot_of next)
+deed_of (deed.Adds c next) = scanning.Adds c (spot_of next)
+deed_of deed.Ends = scanning.Ends
+deed_of deed.Leaves = scanning.Leaves
+deed_of deed.Misses = scanning.Misses
+deed_of deed.Refuses = scanning.Refuses UnknownColumn
+
+-- what is found, with a text before it
+abbrev pub behind_text : List ℕ → Found → Found
+behind_text text (Given more l) = Given (text ++ more) l
+behind_text text (Missing r) = Missing r
+
+-- where no error is returned, this text was found, and these units are left; otherwise it is refused as the error says
+abbrev pub IsFound : Option TexError → List ℕ → Units → Found → Type 0
+IsFound None text l found = found ≡ Given text l
+IsFound (Some error) text l found = (r : Refusal) × (refusal_of error ≡ Some r) × (found ≡ Missing r)

@@ -1,0 +1,95 @@
+-- The tables of the code, as the definitions have them.
+use Rattle.std.specs.Prelude.{◌≡◌, ℕ, List, [], ◌∷◌, drop, option_map, Option, Some, None, take}
+use Rattle.std.specs.{Borrow.Bor, Str.bytes_eq}
+use Rattle.latex2mathml_elements.specs.Columns.{Centered, LeftAligned, RightAligned, Dense, Columns as DefinedColumns, Alike, InPairs, Listed}
+use Rattle.latex2mathml_builder.specs.Columns.{columns_of}
+use Rattle.latex2mathml_tex_grammar.specs.{Next.past_space, Reading.ReadsBehindCell, Rows.Row, Tables.Lines, Tables.a_table}
+use Rattle.latex2mathml_tex_grammar.specs.Environments as environments
+use Rattle.latex2mathml_tex_grammar.specs.Makes.{Core}
+use Rattle.latex2mathml_tex_grammar.specs.Reading.{Outcome, Read, Refused}
+use Rattle.latex2mathml_elements.specs.Element.{Element}
+use Rattle.latex2mathml_tex_grammar.specs.Rules.{Context, TableEnd, ByName, ByBrace, Rule, gives, styled, takes_found, ended_table}
+use Rattle.latex2mathml_tex_grammar.specs.Scanning.{BeforeArgument, Name}
+use Rattle.latex2mathml_tex_grammar.specs.Starts as starts
+use Rattle.latex2mathml_tex_grammar.specs.Symbols as symbols
+use Rattle.latex2mathml_tex_grammar.specs.Units.{Unit, Units, Next}
+use Rattle.latex2mathml_tex.specs.{Delimiters.delimiter_text, Levels.RuleLeads, Meanings.style_of, Scans.argument_of}
+use Rattle.latex2mathml_tex.specs.declared.environments.{Environment.Environment, Layout.Layout}
+use Rattle.latex2mathml_tex.specs.declared.environments.Layout.TheVariants as layout
+use Rattle.latex2mathml_tex.specs.declared.parse.frames.Table.{Table}
+use Rattle.latex2mathml_tex.specs.declared.parse.tables.CellEnd.{CellEnd}
+use Rattle.latex2mathml_tex.specs.declared.parse.tables.CellEnd.TheVariants as cell_end
+
+abbrev pub layout_of : Layout → DefinedColumns
+layout_of layout.Centered = Alike Centered
+layout_of layout.LeftAligned = Alike LeftAligned
+layout_of layout.Dense = Alike Dense
+layout_of layout.InPairs = InPairs
+layout_of layout.AroundRelation = Listed (RightAligned ∷ Centered ∷ LeftAligned ∷ [])
+
+abbrev pub delimiter_texts : Option ℕ × Option ℕ → List ℕ × List ℕ
+delimiter_texts d = (delimiter_text d.0, delimiter_text d.1)
+
+abbrev pub environment_of : Environment → environments.Environment
+environment_of e = record {
+  delimiters = option_map delimiter_texts e.delimiters;
+  columns = layout_of e.layout;
+  style = style_of e.style;
+  may_have_position = e.may_have_position;
+  argument = option_map argument_of e.argument;
+}
+
+abbrev pub entry_of : Environment → List ℕ × environments.Environment
+entry_of e = (e.name.now, environment_of e)
+
+abbrev pub cell_end_of : CellEnd → starts.CellEnd
+cell_end_of cell_end.PartsCells = starts.PartsCells
+cell_end_of cell_end.EndsRow = starts.EndsRow
+cell_end_of cell_end.EndsTable = starts.EndsTable
+
+-- how a table ends
+abbrev pub end_of : Option (Bor Environment) → TableEnd
+end_of None = ByBrace
+end_of (Some e) = ByName
+
+abbrev pub table_end : Table → TableEnd
+table_end t = end_of t.environment
+
+-- the style of its cells
+abbrev pub style_in : Option (Bor Environment) → symbols.Style
+style_in None = symbols.InScript
+style_in (Some e) = style_of e.now.style
+
+abbrev pub cell_context : Table → Context → Context
+cell_context t around = styled around (style_in t.environment)
+
+-- what follows its rows, where it stands in this context
+abbrev pub after_rows : Option (Bor Environment) → DefinedColumns → Context → Lines → ℕ → Rule
+after_rows None columns around lines at = gives (a_table None columns symbols.InScript around.style lines)
+after_rows (Some e) columns around lines at =
+    takes_found (BeforeArgument Name) at (λ other. ended_table at around (environment_of e.now) columns lines (bytes_eq other e.now.name.now))
+
+abbrev pub behind_rows : Table → Context → Lines → ℕ → Rule
+behind_rows t around = after_rows t.environment (columns_of t.columns) around
+
+-- where the outcome of rows leads
+abbrev pub RowsLead : (Lines → ℕ → Rule) → (Outcome Core → Type 0) → Outcome Lines → Type 0
+RowsLead then K (Read lines m) = (u : Unit) (n : Units) → past_space m ≡ Next u n → RuleLeads (then lines u.place) K n
+RowsLead then K (Refused r) = K (Refused r)
+
+-- .. of a cell, behind these rows and these cells
+abbrev pub CellMade : TableEnd → ℕ → DefinedColumns → Context → List Element → List Element → (Outcome Lines → Type 0) → Outcome Row → Type 0
+CellMade end place columns c rows cells K (Read row m) = (o : Outcome Lines) → ReadsBehindCell end place columns c rows cells row.elements m o → K o
+CellMade end place columns c rows cells K (Refused r) = K (Refused r)
+
+-- the rows of a table and the cells of the next one, whose elements are the first of these
+abbrev pub cells_of : Table → List Element → List Element
+cells_of t xs = take t.cells xs
+
+abbrev pub rows_of : Table → List Element → List Element
+rows_of t xs = take t.rows (drop t.cells xs)
+
+-- where the outcome of the next cell leads, where the table stands in this context
+abbrev pub TableMade : Table → ℕ → List Element → Context → (Outcome Core → Type 0) → Outcome Row → Type 0
+TableMade t place xs around K =
+    CellMade (table_end t) place (columns_of t.columns) (cell_context t around) (rows_of t xs) (cells_of t xs) (RowsLead (behind_rows t around) K)

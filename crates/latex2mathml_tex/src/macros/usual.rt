@@ -1,0 +1,121 @@
+//! The usual macros.
+ghost use Rattle.std.specs.Prelude.{◌≡◌, IfOk, [], map, option_map};
+ghost use Rattle.std.specs.Option.{is_some, unwrap_or};
+ghost use Rattle.std.specs.Str.{chars};
+ghost use Rattle.latex2mathml_tex_grammar.specs.{Cutting.units_of, Definitions.parts_of, UsualMacros.entry_macro, UsualMacros.listed, UsualMacros.macro_with, UsualMacros.usual_entries, UsualMacros.usual_macros};
+ghost use Rattle.latex2mathml_tex.specs.{Bodies.entry_of, Bodies.macro_of, Bodies.parts_in, Taking.unit_of};
+
+use crate::macros::part::{Macro, Part, parts_of};
+use crate::reader::Reader;
+use crate::unit::{Next, Unit};
+use std::alloc::{AllocError, Global};
+
+/// A usual macro: its name, how many arguments it takes, and the text of its body.
+#[derive(Clone, Copy)]
+struct Usual {
+    name: &'static str,
+    arity: usize,
+    body: &'static str,
+}
+
+/// The entries.
+#[tactic(auto, unfolding(latex2mathml_tex_grammar::specs::UsualMacros::usual_entries))]
+fn entries() -> &'static [Usual]
+    ensures { map entry_of result.now ≡ usual_entries }
+{
+    &ENTRIES
+}
+
+/// An entry for each macro, in the order of their names' bytes.
+#[rattlefmt::skip]
+static ENTRIES: [Usual; 28] = [
+    Usual { name: "Bbbk", arity: 0, body: "\\mathbb{k}" },
+    Usual { name: "LaTeX", arity: 0, body: "\\text{LaTeX}" },
+    Usual { name: "TeX", arity: 0, body: "\\text{TeX}" },
+    Usual { name: "bmod", arity: 0, body: "\\mathbin{\\operatorname{mod}}" },
+    Usual { name: "bra", arity: 1, body: "\\langle #1|" },
+    Usual { name: "braket", arity: 1, body: "\\langle #1\\rangle" },
+    Usual { name: "coloneq", arity: 0, body: "\\mathrel{:=}" },
+    Usual { name: "coloneqq", arity: 0, body: "\\mathrel{:=}" },
+    Usual { name: "dots", arity: 0, body: "\\ldots" },
+    Usual { name: "dotsb", arity: 0, body: "\\cdots" },
+    Usual { name: "dotsc", arity: 0, body: "\\ldots" },
+    Usual { name: "dotsi", arity: 0, body: "\\cdots" },
+    Usual { name: "dotsm", arity: 0, body: "\\cdots" },
+    Usual { name: "dotso", arity: 0, body: "\\ldots" },
+    Usual { name: "hdots", arity: 0, body: "\\ldots" },
+    Usual { name: "iff", arity: 0, body: "\\;\\Longleftrightarrow\\;" },
+    Usual { name: "impliedby", arity: 0, body: "\\;\\Longleftarrow\\;" },
+    Usual { name: "implies", arity: 0, body: "\\;\\Longrightarrow\\;" },
+    Usual { name: "ket", arity: 1, body: "|#1\\rangle" },
+    Usual { name: "mod", arity: 1, body: "\\quad\\operatorname{mod}\\;#1" },
+    Usual { name: "pmod", arity: 1, body: "\\quad(\\operatorname{mod}\\;#1)" },
+    Usual { name: "pod", arity: 1, body: "\\quad(#1)" },
+    Usual { name: "qed", arity: 0, body: "\\square" },
+    Usual { name: "sfrac", arity: 2, body: "#1/#2" },
+    Usual { name: "varDelta", arity: 0, body: "\\mathit{\\Delta}" },
+    Usual { name: "varGamma", arity: 0, body: "\\mathit{\\Gamma}" },
+    Usual { name: "varOmega", arity: 0, body: "\\mathit{\\Omega}" },
+    Usual { name: "varSigma", arity: 0, body: "\\mathit{\\Sigma}" },
+];
+
+/// The entry of this name, if there is one.
+fn find(table: &[Usual], name: &str) -> Option<Usual>
+    ensures { option_map (λ entry. macro_with entry.arity entry.body.now) result
+        ≡ entry_macro (map entry_of table.now) name.now }
+{
+    for entry in table {
+        if entry.name == name {
+            return Some(*entry);
+        }
+    }
+    None
+}
+
+/// Whether a usual macro has this name.
+pub(crate) fn is_usual(name: &str) -> bool
+    ensures { result ≡ is_some (usual_macros name.now) }
+{
+    find(entries(), name).is_some()
+}
+
+/// The usual macro of this name, if there is one.
+pub(crate) fn usual_macro<'a>(alloc: Global, name: &str) -> Result<Option<Macro<'a>>, AllocError>
+    ensures { IfOk result (λ found. option_map macro_of found ≡ usual_macros name.now) }
+{
+    let Some(entry) = find(entries(), name) else {
+        return Ok(None);
+    };
+    let body = body_of(alloc, entry.arity, entry.body)?;
+    Ok(Some(Macro {
+        arity: entry.arity,
+        body,
+    }))
+}
+
+/// The body that has this text, where there are so many arguments.
+fn body_of<'a>(alloc: Global, arity: usize, text: &'a str) -> Result<Vec<Part<'a>>, AllocError>
+    ensures { IfOk result (λ parts. parts_in parts
+        ≡ unwrap_or (parts_of arity (listed (units_of 0 (chars text.now)))) []) }
+{
+    let units = units_of(alloc, text)?;
+    match parts_of(alloc, arity, &units)? {
+        Some(parts) => Ok(parts),
+        None => Ok(Vec::new(alloc)),
+    }
+}
+
+/// The units of a text.
+fn units_of<'a>(alloc: Global, text: &'a str) -> Result<Vec<Unit<'a>>, AllocError>
+    ensures { IfOk result (λ units.
+        map unit_of units.items ≡ listed (units_of 0 (chars text.now))) }
+{
+    let mut reader = Reader::new(text);
+    let mut units = Vec::new(alloc);
+    'units: loop {
+        match reader.take() {
+            Next::Unit(unit) => units.push(unit)?,
+            Next::End(_) | Next::Fault(_, _) => return Ok(units),
+        }
+    }
+}

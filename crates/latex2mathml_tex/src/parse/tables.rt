@@ -1,0 +1,449 @@
+//! Tables: how they begin, how each cell ends, and what is made of them.
+ghost use Rattle.std.specs.Prelude.{◌≡◌, ◌+◌, ◌∷◌, ◌<◌, ◌≤◌, IfOk, MatchBool, MatchOption, OnOk, Some, drop, false, length, option_map, reverse, string_bytes, take, true, nat_le};
+ghost use Rattle.latex2mathml_builder.specs.{Built.elements_in, Columns.column_of, Columns.columns_of, Stacks.table_with};
+ghost use Rattle.latex2mathml_elements.specs.{Attributes.styled, Columns.Listed};
+ghost use Rattle.latex2mathml_builder.specs.Names.{math_style_of};
+ghost use Rattle.latex2mathml_tex_grammar.specs.Environments;
+ghost use Rattle.latex2mathml_tex_grammar.specs.Scanning.{BeforeArgument, ColumnList, Number};
+ghost use Rattle.latex2mathml_tex_grammar.specs.Tables;
+ghost use Rattle.latex2mathml_tex_grammar.specs.{Meaning.BeginTable, Meaning.Substack, Starts.cell_end, Tables.a_row, Rows.row_element};
+ghost use Rattle.latex2mathml_tex_grammar.specs.Rules.{argument_rule, environment_rule, listed_rule, meaning_rule, most_columns, rows_rule, takes_found};
+ghost use Rattle.latex2mathml_tex.specs.{Meanings.style_of, Models.context_of, Taking.piece_of};
+ghost use Rattle.latex2mathml_tex.specs.Scans.{argument_of, spot_of};
+ghost use Rattle.latex2mathml_tex.specs.Tables.{cell_end_of, delimiter_texts, environment_of};
+ghost use Rattle.latex2mathml_tex.specs.Steps.{BeginsIn, CanBegin, CanMake, ClosesCell, EndsRows, GoesOnTable, IsStep, LeadsOn, MakesTable, TookText, core_made};
+
+use crate::atoms::{Context, Core, Kind, Row};
+use crate::environments;
+use crate::environments::Environment;
+use crate::error::TexErrorKind;
+use crate::meaning::{Class, Style};
+use crate::parse::frames::{Ending, Frame, Table};
+use crate::parse::{Parser, State};
+use crate::scanning::{Argument, Spot};
+use crate::shapes::{enclose, put_row};
+use crate::unit::{Piece, Unit};
+use latex2mathml_builder::attributes::{Attributes, MathStyle};
+use latex2mathml_builder::builder::Builder;
+use latex2mathml_builder::columns::{Column, Columns};
+use latex2mathml_builder::tag::Container;
+use std::alloc::AllocError;
+
+/// What ends a cell.
+#[derive(Clone, Copy)]
+enum CellEnd {
+    PartsCells,
+    EndsRow,
+    EndsTable,
+}
+
+impl<'a> Parser<'a> {
+    /// Begins the table whose name stands next.
+    pub(crate) fn begin_table(
+        &mut self,
+        place: usize,
+        context: Context,
+    ) -> Result<State, AllocError>
+        requires begin { CanBegin 0 self.old }
+        ensures holds { LeadsOn
+            (BeginsIn context (meaning_rule place (context_of context) BeginTable) 0)
+            self.old self.new result }
+        ensures step { IsStep 13 self.old self.new result }
+    {
+        let spot = Spot::BeforeArgument(Argument::Name);
+        let Some(name) = self.take_text(place, spot)? else {
+            return Ok(State::Refused);
+        };
+        let Some(environment) = environments::look_up(name.as_str()) else {
+            return Ok(self.refuse(TexErrorKind::UnknownEnvironment(name), place));
+        };
+        self.begin_placed(environment, place, context)
+    }
+
+    /// Takes the text that is found from this spot on. Where it does not stand here, the formula is refused, and nothing is
+    /// returned.
+    fn take_text(&mut self, place: usize, spot: Spot) -> Result<Option<String>, AllocError>
+        ensures { IfOk result (λ text. TookText place (spot_of spot) self.old self.new
+            (option_map string_bytes text)) }
+    {
+        let mut text = String::new(self.alloc);
+        let mut ahead = self.input;
+        if let Some(error) = ahead.scan(place, spot, &mut text)? {
+            self.refusal = error;
+            return Ok(None);
+        }
+        self.input = ahead;
+        Ok(Some(text))
+    }
+
+    /// Begins an environment, behind its name.
+    fn begin_placed(
+        &mut self,
+        environment: &'static Environment,
+        place: usize,
+        context: Context,
+    ) -> Result<State, AllocError>
+        requires begin { CanBegin 0 self.old }
+        ensures holds { LeadsOn
+            (BeginsIn context (environment_rule place (context_of context) environment.now.name.now
+            (Some (environment_of environment.now))) 0)
+            self.old self.new result }
+        ensures step { IsStep 13 self.old self.new result }
+    {
+        if environment.may_have_position {
+            self.input.pass(self.alloc, Spot::BeforePosition)?;
+            return self.begin_environment(environment, place, context);
+        }
+        self.begin_environment(environment, place, context)
+    }
+
+    /// Begins an environment, behind its name and the letter that says how it stands in its line.
+    fn begin_environment(
+        &mut self,
+        environment: &'static Environment,
+        place: usize,
+        context: Context,
+    ) -> Result<State, AllocError>
+        requires begin { CanBegin 0 self.old }
+        ensures holds { LeadsOn
+            (BeginsIn context (argument_rule place (context_of context) environment.now.name.now
+            (environment_of environment.now) (environment_of environment.now).argument) 0)
+            self.old self.new result }
+        ensures step { IsStep 13 self.old self.new result }
+    {
+        match environment.argument {
+            Some(argument) => self.begin_argument(argument, environment, place, context),
+            None => self.begin_rows(environment, environment.layout.columns(), place, context),
+        }
+    }
+
+    /// Begins an environment that takes this argument.
+    fn begin_argument(
+        &mut self,
+        argument: Argument,
+        environment: &'static Environment,
+        place: usize,
+        context: Context,
+    ) -> Result<State, AllocError>
+        requires begin { CanBegin 0 self.old }
+        ensures holds { LeadsOn
+            (BeginsIn context (argument_rule place (context_of context) environment.now.name.now
+            (environment_of environment.now) (Some (argument_of argument))) 0)
+            self.old self.new result }
+        ensures step { IsStep 13 self.old self.new result }
+    {
+        match argument {
+            Argument::ColumnList => self.begin_listed(environment, place, context),
+            Argument::Number => self.begin_numbered(environment, place, context),
+            Argument::Name => {
+                self.begin_rows(environment, environment.layout.columns(), place, context)
+            }
+        }
+    }
+
+    /// Begins an environment behind whose name a number stands, which means nothing.
+    fn begin_numbered(
+        &mut self,
+        environment: &'static Environment,
+        place: usize,
+        context: Context,
+    ) -> Result<State, AllocError>
+        requires begin { CanBegin 0 self.old }
+        ensures holds { LeadsOn
+            (BeginsIn context (takes_found (BeforeArgument Number) place
+            (λ number. rows_rule place (context_of context) environment.now.name.now
+            (environment_of environment.now) (environment_of environment.now).columns)) 0)
+            self.old self.new result }
+        ensures step { IsStep 13 self.old self.new result }
+    {
+        let spot = Spot::BeforeArgument(Argument::Number);
+        let Some(_number) = self.take_text(place, spot)? else {
+            return Ok(State::Refused);
+        };
+        self.begin_rows(environment, environment.layout.columns(), place, context)
+    }
+
+    /// Begins an environment whose columns stand next.
+    fn begin_listed(
+        &mut self,
+        environment: &'static Environment,
+        place: usize,
+        context: Context,
+    ) -> Result<State, AllocError>
+        requires begin { CanBegin 0 self.old }
+        ensures holds { LeadsOn
+            (BeginsIn context (takes_found (BeforeArgument ColumnList) place
+            (λ letters. listed_rule place (context_of context) environment.now.name.now
+            (environment_of environment.now) letters)) 0)
+            self.old self.new result }
+        ensures step { IsStep 13 self.old self.new result }
+    {
+        let spot = Spot::BeforeArgument(Argument::ColumnList);
+        let Some(letters) = self.take_text(place, spot)? else {
+            return Ok(State::Refused);
+        };
+        let Some(columns) = listed(letters.as_str()) else {
+            return Ok(self.refuse(TexErrorKind::TooManyColumns, place));
+        };
+        self.begin_rows(environment, columns, place, context)
+    }
+
+    /// Begins the rows of an environment.
+    fn begin_rows(
+        &mut self,
+        environment: &'static Environment,
+        columns: Columns,
+        place: usize,
+        context: Context,
+    ) -> Result<State, AllocError>
+        requires begin { CanBegin 0 self.old }
+        ensures holds { LeadsOn
+            (BeginsIn context (rows_rule place (context_of context) environment.now.name.now
+            (environment_of environment.now) (columns_of columns)) 0)
+            self.old self.new result }
+        ensures step { IsStep 12 self.old self.new result }
+    {
+        self.input.pass(self.alloc, Spot::BeforeRow)?;
+        let table = Table {
+            environment: Some(environment),
+            columns,
+            rows: 0,
+            cells: 0,
+        };
+        self.begin_cell(table, place)
+    }
+
+    /// Begins rows in braces.
+    pub(crate) fn begin_substack(
+        &mut self,
+        place: usize,
+        context: Context,
+    ) -> Result<State, AllocError>
+        requires begin { CanBegin 0 self.old }
+        ensures holds { LeadsOn
+            (BeginsIn context (meaning_rule place (context_of context) Substack) 0)
+            self.old self.new result }
+        ensures step { IsStep 13 self.old self.new result }
+    {
+        let Some(_brace) = self.take_text(place, Spot::BeforeBrace)? else {
+            return Ok(State::Refused);
+        };
+        self.input.pass(self.alloc, Spot::BeforeRow)?;
+        let table = Table {
+            environment: None,
+            columns: Columns::alike(Column::Dense),
+            rows: 0,
+            cells: 0,
+        };
+        self.begin_cell(table, place)
+    }
+
+    /// Begins the next cell of a table.
+    fn begin_cell(&mut self, table: Table, place: usize) -> Result<State, AllocError>
+        requires can { CanMake core_made (table.cells + table.rows) self.old }
+        ensures holds { LeadsOn (GoesOnTable table place) self.old self.new result }
+        ensures step { IsStep 6 self.old self.new result }
+    {
+        let around = self.frames.innermost(self.style).context();
+        let context = around.styled(table.style());
+        self.open(Frame::Row(Ending::Cell(table), place, context, table.begun_cell()))
+    }
+
+    /// Ends a cell with this unit, which was taken. The frame of the cell was taken off.
+    pub(crate) fn close_cell(
+        &mut self,
+        table: Table,
+        place: usize,
+        row: Row,
+        unit: Unit<'a>,
+    ) -> Result<State, AllocError>
+        requires can { CanMake core_made (row.count + (table.cells + table.rows)) self.old }
+        ensures holds { LeadsOn (ClosesCell table place row unit.entry) self.old self.new result }
+        ensures step { IsStep 13 self.old self.new result }
+    {
+        match cell_end(unit.piece) {
+            CellEnd::PartsCells => {
+                put_row(&mut self.builder, row.count)?;
+                // all cells are among the elements of the builder, so their number has room in a `usize`
+                let _ = self.builder.len();
+                let cells = table.cells + 1;
+                self.begin_cell(Table { cells, ..table }, place)
+            }
+            CellEnd::EndsRow => {
+                put_last(&mut self.builder, row.count, table.cells)?;
+                self.input.pass_break(self.alloc)?;
+                let _ = self.builder.len();
+                let rows = table.rows + 1;
+                self.begin_cell(
+                    Table {
+                        rows,
+                        cells: 0,
+                        ..table
+                    },
+                    place,
+                )
+            }
+            CellEnd::EndsTable => {
+                // an empty last row is none
+                if is_no_row(row.count, table) {
+                    return self.end_table(table.environment, table.columns, table.rows, unit.place);
+                }
+                put_last(&mut self.builder, row.count, table.cells)?;
+                let _ = self.builder.len();
+                let rows = table.rows + 1;
+                self.end_table(table.environment, table.columns, rows, unit.place)
+            }
+        }
+    }
+
+    /// Ends a table of so many rows, whose end was taken at this place.
+    fn end_table(
+        &mut self,
+        environment: Option<&'static Environment>,
+        columns: Columns,
+        rows: usize,
+        at: usize,
+    ) -> Result<State, AllocError>
+        requires can { CanMake core_made rows self.old }
+        requires some { 0 < rows }
+        ensures holds { LeadsOn (EndsRows environment.entry columns rows at) self.old self.new result }
+        ensures step { IsStep 13 self.old self.new result }
+    {
+        match environment {
+            Some(environment) => self.end_environment(environment, columns, rows, at),
+            None => self.make_table(None, columns, Style::InScript, rows),
+        }
+    }
+
+    /// Ends an environment, whose name must stand next.
+    fn end_environment(
+        &mut self,
+        environment: &'static Environment,
+        columns: Columns,
+        rows: usize,
+        at: usize,
+    ) -> Result<State, AllocError>
+        requires can { CanMake core_made rows self.old }
+        requires some { 0 < rows }
+        ensures holds { LeadsOn (EndsRows (Some environment.entry) columns rows at) self.old self.new result }
+        ensures step { IsStep 13 self.old self.new result }
+    {
+        let spot = Spot::BeforeArgument(Argument::Name);
+        let Some(name) = self.take_text(at, spot)? else {
+            return Ok(State::Refused);
+        };
+        if name.as_str() == environment.name {
+            return self.make_table(environment.delimiters, columns, environment.style, rows);
+        }
+        Ok(self.refuse(TexErrorKind::OtherName, at))
+    }
+
+    /// Makes a table of so many rows, whose cells have this style.
+    fn make_table(
+        &mut self,
+        delimiters: Option<(Option<char>, Option<char>)>,
+        columns: Columns,
+        style: Style,
+        rows: usize,
+    ) -> Result<State, AllocError>
+        requires can { CanMake core_made rows self.old }
+        requires some { 0 < rows }
+        ensures holds { LeadsOn (MakesTable delimiters columns style rows) self.old self.new result }
+        ensures step { IsStep 13 self.old self.new result }
+    {
+        let around = self.frames.innermost(self.style).context();
+        let said = said_style(style, around.style);
+        put_table(&mut self.builder, delimiters, columns, said, rows)?;
+        Ok(State::Core(Core::new(Kind::Plain(Class::Inner), true)))
+    }
+}
+
+/// Makes a table of so many elements, which are its rows, between its delimiters, if it has any.
+fn put_table(
+    builder: &mut Builder,
+    delimiters: Option<(Option<char>, Option<char>)>,
+    columns: Columns,
+    style: Option<MathStyle>,
+    rows: usize,
+) -> Result<(), AllocError>
+    requires some { 0 < rows }
+    requires all { rows ≤ length (elements_in builder.old) }
+    ensures { OnOk result (elements_in builder.new
+        ≡ Tables.between_any (option_map delimiter_texts delimiters)
+        (table_with (styled (option_map math_style_of style)) (columns_of columns)
+        (reverse (take rows (elements_in builder.old))))
+        ∷ drop rows (elements_in builder.old)) }
+{
+    builder.table(style, columns, rows)?;
+    if let Some((opening, closing)) = delimiters {
+        return enclose(builder, true, opening, closing);
+    }
+    Ok(())
+}
+
+/// Whether a last row is none: it is one empty cell, and other rows stand before it.
+fn is_no_row(count: usize, table: Table) -> bool
+    ensures { MatchBool result ((count ≡ 0) × (table.cells ≡ 0) × (0 < table.rows))
+        (count ≡ 0 → table.cells ≡ 0 → table.rows ≡ 0) }
+{
+    count == 0 && table.cells == 0 && table.rows > 0
+}
+
+/// What a unit does that ends a cell.
+fn cell_end(piece: Piece) -> CellEnd
+    ensures { cell_end_of result ≡ cell_end (piece_of piece.entry) }
+{
+    match piece {
+        Piece::Character('&') => CellEnd::PartsCells,
+        Piece::Command("\\" | "cr" | "newline") => CellEnd::EndsRow,
+        _ => CellEnd::EndsTable,
+    }
+}
+
+/// Makes a row of the cell of so many elements and so many cells before it.
+fn put_last(builder: &mut Builder, count: usize, cells: usize) -> Result<(), AllocError>
+    requires { count + cells ≤ length (elements_in builder.old) }
+    ensures { OnOk result (elements_in builder.new
+        ≡ a_row (row_element (take count (elements_in builder.old)) ∷ take cells (drop count (elements_in builder.old)))
+        ∷ drop cells (drop count (elements_in builder.old))) }
+{
+    put_row(builder, count)?;
+    let _ = builder.len();
+    builder.container(Container::Mrow, Attributes::plain(), cells + 1)
+}
+
+/// The column that a letter says.
+fn column(letter: u8) -> Column
+    ensures { column_of result ≡ Environments.column_of letter }
+{
+    match letter {
+        b'l' => Column::LeftAligned,
+        b'r' => Column::RightAligned,
+        _ => Column::Centered,
+    }
+}
+
+/// The columns that these letters say, unless there are too many.
+fn listed(letters: &str) -> Option<Columns>
+    ensures { MatchOption result (nat_le (length letters.now) most_columns ≡ false)
+        (λ columns. (nat_le (length letters.now) most_columns ≡ true)
+        × (columns_of columns ≡ Listed (Environments.columns_of letters.now))) }
+{
+    let mut columns = Columns::none();
+    'letters: for &letter in letters.as_bytes() {
+        if !columns.push(column(letter)) {
+            return None;
+        }
+    }
+    Some(columns)
+}
+
+/// The style that a table says, where its cells have the first one, and the second stands around it.
+fn said_style(style: Style, around: Style) -> Option<MathStyle>
+    ensures { option_map math_style_of result ≡ Tables.said_style (style_of style) (style_of around) }
+{
+    match (style, around) {
+        (Style::InText, Style::InDisplay | Style::InText) => None,
+        _ => Some(style.math_style()),
+    }
+}

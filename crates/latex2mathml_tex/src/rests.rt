@@ -1,0 +1,136 @@
+//! What a change makes of the row before what stands after it, and what a row is at the end of its group.
+ghost use Rattle.std.specs.Prelude.{◌≡◌, ◌≤◌, IfOk, List, None, Some, drop, length};
+ghost use Rattle.latex2mathml_elements.specs.Element.{Element};
+ghost use Rattle.latex2mathml_builder.specs.Built.{elements_in};
+ghost use Rattle.latex2mathml_tex_grammar.specs.Rests;
+ghost use Rattle.latex2mathml_tex_grammar.specs.Rows;
+ghost use Rattle.latex2mathml_tex.specs.{Meanings.fraction_rule_of, Meanings.style_of};
+ghost use Rattle.latex2mathml_tex.specs.Models.{row_count, row_with};
+
+use crate::atoms::{Before, Row};
+use crate::fractions::{put_fraction, style_attributes};
+use crate::meaning::{Class, FractionRule, Style};
+use crate::shapes::put_row;
+use latex2mathml_builder::builder::Builder;
+use latex2mathml_builder::tag::Container;
+use std::alloc::AllocError;
+
+impl Row {
+    /// The style of the row's group, where the row is now read in this one.
+    pub(crate) fn group_style(self, style: Style) -> Style
+        ensures { (xs : List Element) → style_of result
+            ≡ Rests.style_of_group (row_with self xs).restyled (style_of style) }
+    {
+        match self.restyled {
+            Some(group) => group,
+            None => style,
+        }
+    }
+}
+
+/// Makes one element of what a row that is read in this style has after its last change of style, if there was one.
+fn settle(builder: &mut Builder, style: Style, row: Row) -> Result<Row, AllocError>
+    requires { row_count row ≤ length (elements_in builder.old) }
+    ensures row { IfOk result (λ whole. row_with whole (elements_in builder.new)
+        ≡ Rests.settled (style_of style) (row_with row (elements_in builder.old))) }
+    ensures below { IfOk result (λ whole. drop (row_count whole) (elements_in builder.new)
+        ≡ drop (row_count row) (elements_in builder.old)) }
+    ensures restyled { IfOk result (λ whole. whole.restyled ≡ None) }
+    ensures under { IfOk result (λ whole. whole.under ≡ row.under) }
+    ensures count { IfOk result (λ whole. row_count whole ≤ length (elements_in builder.new)) }
+{
+    let Some(_) = row.restyled else {
+        return Ok(row);
+    };
+    builder.container(Container::Mstyle, style_attributes(style), row.count)?;
+    // all elements of a row are among those of the builder, so their number has room in a `usize`
+    let _ = builder.len();
+    Ok(Row {
+        count: row.settled + 1,
+        class: Class::Ordinary,
+        restyled: None,
+        settled: 0,
+        ..row
+    })
+}
+
+/// A row that was read in this style, before what stands after a change of style.
+pub(crate) fn restyle(builder: &mut Builder, style: Style, row: Row) -> Result<Row, AllocError>
+    requires { row_count row ≤ length (elements_in builder.old) }
+    ensures row { IfOk result (λ begun. row_with begun (elements_in builder.new)
+        ≡ Rests.restyled (style_of style) (row_with row (elements_in builder.old))) }
+    ensures below { IfOk result (λ begun. drop (row_count begun) (elements_in builder.new)
+        ≡ drop (row_count row) (elements_in builder.old)) }
+    ensures count { IfOk result (λ begun. row_count begun ≤ length (elements_in builder.new)) }
+{
+    let group = row.group_style(style);
+    let whole = settle(builder, style, row)?;
+    Ok(Row {
+        count: 0,
+        ends_in_word: false,
+        high: true,
+        restyled: Some(group),
+        settled: whole.count,
+        ..whole
+    })
+}
+
+/// The row of the lower part of a fraction, whose upper part is a row that was read in this style.
+pub(crate) fn divide(
+    builder: &mut Builder,
+    style: Style,
+    row: Row,
+    rule: FractionRule,
+) -> Result<Row, AllocError>
+    requires count { row_count row ≤ length (elements_in builder.old) }
+    requires none { row.under ≡ None }
+    ensures row { IfOk result (λ begun. row_with begun (elements_in builder.new)
+        ≡ Rests.begun_below (fraction_rule_of rule)
+        (Rests.settled (style_of style) (row_with row (elements_in builder.old)))) }
+    ensures below { IfOk result (λ begun. drop (row_count begun) (elements_in builder.new)
+        ≡ drop (row_count row) (elements_in builder.old)) }
+    ensures count { IfOk result (λ begun. row_count begun ≤ length (elements_in builder.new)) }
+{
+    let whole = settle(builder, style, row)?;
+    put_row(builder, whole.count)?;
+    Ok(Row {
+        under: Some(rule),
+        ..Row::empty()
+    })
+}
+
+/// A row that was read in this style, at the end of its group.
+pub(crate) fn finish(builder: &mut Builder, style: Style, row: Row) -> Result<Row, AllocError>
+    requires { row_count row ≤ length (elements_in builder.old) }
+    ensures row { IfOk result (λ whole. row_with whole (elements_in builder.new)
+        ≡ Rests.finished (style_of style) (row_with row (elements_in builder.old))) }
+    ensures below { IfOk result (λ whole. drop whole.count (elements_in builder.new)
+        ≡ drop (row_count row) (elements_in builder.old)) }
+    ensures count { IfOk result (λ whole. whole.count ≤ length (elements_in builder.new)) }
+{
+    let row = settle(builder, style, row)?;
+    close_fraction(builder, row)
+}
+
+/// A row whose last change of style is settled, as a fraction if it is the lower part of one.
+fn close_fraction(builder: &mut Builder, row: Row) -> Result<Row, AllocError>
+    requires count { row_count row ≤ length (elements_in builder.old) }
+    requires none { row.restyled ≡ None }
+    ensures row { IfOk result (λ whole. row_with whole (elements_in builder.new)
+        ≡ Rests.whole_fraction (row_with row (elements_in builder.old))) }
+    ensures below { IfOk result (λ whole. drop whole.count (elements_in builder.new)
+        ≡ drop (row_count row) (elements_in builder.old)) }
+    ensures count { IfOk result (λ whole. whole.count ≤ length (elements_in builder.new)) }
+{
+    let Some(rule) = row.under else {
+        return Ok(row);
+    };
+    put_row(builder, row.count)?;
+    put_fraction(builder, rule, None)?;
+    Ok(Row {
+        count: 1,
+        before: Before::After(Class::Inner),
+        high: true,
+        ..Row::empty()
+    })
+}

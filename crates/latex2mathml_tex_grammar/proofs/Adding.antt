@@ -1,0 +1,295 @@
+-- What expansion adds to units: nothing but what stands in them and in macros.
+use Rattle.std.proofs.Common.{ℕ, zero, suc, ◌+◌, ◌≡◌, Bool, true, false, List, [], ◌∷◌, ◌++◌, length, codes, Option, Some, None, refl, subst}
+use Rattle.std.specs.Prelude.{IsTrue, ⊤, nat_lt, if◌then◌else◌}
+use Rattle.std.specs.Str.{byte, bytes_eq}
+use Rattle.latex2mathml_tex_grammar.specs.Arguments.{Brace, Opening, Closing, NoBrace, brace_of, and_then, with_first, in_group, group, argument_of, argument_here, argument, arguments}
+use Rattle.latex2mathml_tex_grammar.specs.Definitions.{Word, NewCommand, ProvideCommand, Def, DeclareOperator, Definition, is_character, sign_here, sign, digit_of, digit_found, digit_here, digit, name_in, name_read, name_of, without_default, number_closed, number_in, number_opened, number_of, numbered, parameter, parameters, argument_part, parameter_part, part_before, parts_behind, parts_of, body_read, body, is_delimited, body_in_braces, command_definition, plain_definition, operator_definition, definition_of, operator_parts, provided, behind_definition}
+use Rattle.latex2mathml_tex_grammar.specs.Expansion.{name_role, role_of, word_role, Turn, Stays, Turns, Fails, with_arguments, used, defined, turn_of, Expands, at_end, at_stop, stays, turns, fails}
+use Rattle.latex2mathml_tex_grammar.specs.ExpansionLaws.{EachPiece, EachFixed, EachInTable, AddsNothing}
+use Rattle.latex2mathml_tex_grammar.specs.Macros.{Part, Fixed, Argument, Macro, Table, with_macro, argument_at, put, before}
+use Rattle.latex2mathml_tex_grammar.specs.{Next.is_space_piece, Next.past_space, Reading.Outcome, Reading.Read, Reading.Refused, Refusal.Refusal}
+use Rattle.latex2mathml_tex_grammar.specs.Units.{Piece, Space, Open, Close, Command, Character, Unit, Units, Next, End, Stop}
+use Rattle.latex2mathml_tex_grammar.proofs.Choices.{of_either}
+
+module _ (P : Piece → Type 0) where
+  abbrev pub EachOf : List Unit → Type 0
+  EachOf [] = ⊤
+  EachOf (u ∷ us) = P u.piece × EachOf us
+
+  abbrev EachList : List (List Unit) → Type 0
+  EachList [] = ⊤
+  EachList (us ∷ lists) = EachOf us × EachList lists
+
+  -- what is read passes, and what is left
+  abbrev pub Passes : {A : Type 0} → (A → Type 0) → Outcome A → Type 0
+  Passes Q (Read x l) = Q x × EachPiece P l
+  Passes Q (Refused r) = ⊤
+
+  abbrev Anything : {A : Type 0} → A → Type 0
+  Anything x = ⊤
+
+  after : {A B : Type 0} (Q : A → Type 0) (R : B → Type 0) (o : Outcome A) (more : A → Units → Outcome B) → Passes Q o → ((x : A) (l : Units) → Q x → EachPiece P l → Passes R (more x l)) → Passes R (and_then o more)
+  after Q R (Read x l) more h f = f x l h.0 h.1
+  after Q R (Refused r) more h f = tt
+
+  first : (u : Unit) (o : Outcome (List Unit)) → P u.piece → Passes EachOf o → Passes EachOf (with_first u o)
+  first u (Read us l) p h = ((p, h.0), h.1)
+  first u (Refused r) p h = tt
+
+  first_list : (us : List Unit) (o : Outcome (List (List Unit))) → EachOf us → Passes EachList o → Passes EachList (with_first us o)
+  first_list us (Read lists l) p h = ((p, h.0), h.1)
+  first_list us (Refused r) p h = tt
+
+  past : (l : Units) → EachPiece P l → EachPiece P (past_space l)
+  past (Next u l) h = of_either (EachPiece P) (is_space_piece u.piece) (past l h.1) h
+  past (End place) h = h
+  past (Stop r) h = h
+
+  unit_in_group : (b : Brace) (u : Unit) (l : Units) (depth : ℕ) (more : ℕ → Outcome (List Unit)) → P u.piece → EachPiece P l → ((d : ℕ) → Passes EachOf (more d)) → Passes EachOf (in_group b u l depth more)
+  unit_in_group Opening u l depth more p h f = first u (more (suc depth)) p (f (suc depth))
+  unit_in_group Closing u l zero more p h f = (tt, h)
+  unit_in_group Closing u l (suc depth) more p h f = first u (more depth) p (f depth)
+  unit_in_group NoBrace u l depth more p h f = first u (more depth) p (f depth)
+
+  of_group : (place : ℕ) (l : Units) (depth : ℕ) → EachPiece P l → Passes EachOf (group place l depth)
+  of_group place (Next u l) depth h = unit_in_group (brace_of u.piece) u l depth (group place l) h.0 h.1 (λ d. of_group place l d h.1)
+  of_group place (End at) depth h = tt
+  of_group place (Stop r) depth h = tt
+
+  of_brace : (b : Brace) (place : ℕ) (u : Unit) (l : Units) → P u.piece → EachPiece P l → Passes EachOf (argument_of b place u l)
+  of_brace Opening place u l p h = of_group u.place l 0 h
+  of_brace Closing place u l p h = tt
+  of_brace NoBrace place u l p h = ((p, tt), h)
+
+  of_here : (place : ℕ) (l : Units) → EachPiece P l → Passes EachOf (argument_here place l)
+  of_here place (Next u l) h = of_brace (brace_of u.piece) place u l h.0 h.1
+  of_here place (End at) h = tt
+  of_here place (Stop r) h = tt
+
+  of_argument : (place : ℕ) (l : Units) → EachPiece P l → Passes EachOf (argument place l)
+  of_argument place l h = of_here place (past_space l) (past l h)
+
+  of_arguments : (place n : ℕ) (l : Units) → EachPiece P l → Passes EachList (arguments place n l)
+  of_arguments place zero l h = (tt, h)
+  of_arguments place (suc n) l h = after EachOf EachList (argument place l) (λ arg rest. with_first arg (arguments place n rest)) (of_argument place l h)
+      (λ arg rest p q. first_list arg (arguments place n rest) p (of_arguments place n rest q))
+
+  -- Definitions
+
+  of_sign_here : (c : ℕ) (l : Units) → EachPiece P l → EachPiece P (sign_here c l).1
+  of_sign_here c (Next u l) h = of_either (λ (p : Bool × Units). EachPiece P p.1) (is_character c u.piece) h.1 h
+  of_sign_here c (End place) h = h
+  of_sign_here c (Stop r) h = h
+
+  of_sign : (c : ℕ) (l : Units) → EachPiece P l → EachPiece P (sign c l).1
+  of_sign c l h = of_sign_here c (past_space l) (past l h)
+
+  of_digit_found : (d : Option ℕ) (u : Unit) (l : Units) → EachPiece P (Next u l) → EachPiece P (digit_found d u l).1
+  of_digit_found (Some d) u l h = h.1
+  of_digit_found None u l h = h
+
+  of_digit_here : (l : Units) → EachPiece P l → EachPiece P (digit_here l).1
+  of_digit_here (Next u l) h = of_digit_found (digit_of u.piece) u l h
+  of_digit_here (End place) h = h
+  of_digit_here (Stop r) h = h
+
+  of_digit : (l : Units) → EachPiece P l → EachPiece P (digit l).1
+  of_digit l h = of_digit_here (past_space l) (past l h)
+
+  of_name_read : (place : ℕ) (name : Option (List ℕ)) (l : Units) → EachPiece P l → Passes Anything (name_read place name l)
+  of_name_read place (Some name) l h = (tt, h)
+  of_name_read place None l h = tt
+
+  of_name : (place : ℕ) (l : Units) → EachPiece P l → Passes Anything (name_of place l)
+  of_name place l h = after EachOf Anything (argument place l) (λ us m. name_read place (name_in us) m) (of_argument place l h) (λ us m p q. of_name_read place (name_in us) m q)
+
+  of_default : (place n : ℕ) (p : Bool × Units) → EachPiece P p.1 → Passes Anything (without_default place n p)
+  of_default place n (true, l) h = tt
+  of_default place n (false, l) h = (tt, h)
+
+  of_closed : (place n : ℕ) (p : Bool × Units) → EachPiece P p.1 → Passes Anything (number_closed place n p)
+  of_closed place n (true, l) h = of_default place n (sign (byte "[") l) (of_sign (byte "[") l h)
+  of_closed place n (false, l) h = tt
+
+  of_number_in : (place : ℕ) (p : Option ℕ × Units) → EachPiece P p.1 → Passes Anything (number_in place p)
+  of_number_in place (Some n, l) h = of_closed place n (sign (byte "]") l) (of_sign (byte "]") l h)
+  of_number_in place (None, l) h = tt
+
+  of_opened : (place : ℕ) (p : Bool × Units) → EachPiece P p.1 → Passes Anything (number_opened place p)
+  of_opened place (true, l) h = of_number_in place (digit l) (of_digit l h)
+  of_opened place (false, l) h = (tt, h)
+
+  of_number : (place : ℕ) (l : Units) → EachPiece P l → Passes Anything (number_of place l)
+  of_number place l h = of_opened place (sign (byte "[") l) (of_sign (byte "[") l h)
+
+  of_numbered : (place : ℕ) (p : Bool × Units) (more : Units → Outcome ℕ) → EachPiece P p.1 → ((l : Units) → EachPiece P l → Passes Anything (more l)) → Passes Anything (numbered place p more)
+  of_numbered place (true, l) more h f = f l h
+  of_numbered place (false, l) more h f = tt
+
+  of_parameter : (place n : ℕ) (p : Bool × Units) (more : Units → Outcome ℕ) → EachPiece P p.1 → ((l : Units) → EachPiece P l → Passes Anything (more l)) → Passes Anything (parameter place n p more)
+  of_parameter place n (true, l) more h f = of_numbered place (sign (byte "1" + n) l) more (of_sign (byte "1" + n) l h) f
+  of_parameter place n (false, l) more h f = (tt, h)
+
+  of_parameters : (place more n : ℕ) (l : Units) → EachPiece P l → Passes Anything (parameters place more n l)
+  unfolding parameters
+  of_parameters place zero n l h = (tt, h)
+  of_parameters place (suc more) n l h = of_parameter place n (sign (byte "#") l) (parameters place more (suc n)) (of_sign (byte "#") l h) (of_parameters place more (suc n))
+
+  -- parts, where there are some
+  abbrev pub IfParts : Option (List Part) → Type 0
+  IfParts (Some parts) = EachFixed P parts
+  IfParts None = ⊤
+
+  abbrev IfPart : Option Part → Type 0
+  IfPart (Some (Fixed p)) = P p
+  IfPart (Some (Argument k)) = ⊤
+  IfPart None = ⊤
+
+  of_before : (x : Option Part) (o : Option (List Part)) → IfPart x → IfParts o → IfParts (part_before x o)
+  of_before (Some (Fixed p)) (Some parts) h k = (h, k)
+  of_before (Some (Argument n)) (Some parts) h k = k
+  of_before (Some part) None h k = tt
+  of_before None o h k = tt
+
+  of_argument_part : (n : ℕ) (d : Option ℕ) → IfPart (argument_part n d)
+  of_argument_part n (Some zero) = tt
+  of_argument_part n (Some (suc k)) = of_either IfPart (nat_lt k n) tt tt
+  of_argument_part n None = tt
+
+  pub of_parts : (b : Bool) (n : ℕ) (us : List Unit) → EachOf us → IfParts (parts_behind b n us)
+  of_parts true n [] h = tt
+  of_parts false n [] h = tt
+  of_parts true n (u ∷ us) h = of_before (parameter_part n u.piece) (parts_behind false n us) (of_either IfPart (is_character (byte "#") u.piece) h.0 (of_argument_part n (digit_of u.piece))) (of_parts false n us h.1)
+  of_parts false n (u ∷ us) h = of_either IfParts (is_character (byte "#") u.piece) (of_parts true n us h.1) (of_before (Some (Fixed u.piece)) (parts_behind false n us) h.0 (of_parts false n us h.1))
+
+  of_body_read : (place : ℕ) (parts : Option (List Part)) (l : Units) → IfParts parts → EachPiece P l → Passes (EachFixed P) (body_read place parts l)
+  of_body_read place (Some parts) l h k = (h, k)
+  of_body_read place None l h k = tt
+
+  of_body : (place n : ℕ) (l : Units) → EachPiece P l → Passes (EachFixed P) (body place n l)
+  of_body place n l h = after EachOf (EachFixed P) (argument place l) (λ us m. body_read place (parts_of n us) m) (of_argument place l h) (λ us m p q. of_body_read place (parts_of n us) m (of_parts false n us p) q)
+
+  of_braces : (place n : ℕ) (l : Units) → EachPiece P l → Passes (EachFixed P) (body_in_braces place n l)
+  of_braces place n l h = of_either (Passes (EachFixed P)) (is_delimited (past_space l)) tt (of_body place n l h)
+
+  -- a definition whose body passes
+  abbrev pub IsPassed : Definition → Type 0
+  IsPassed d = EachFixed P d.stands_for.body
+
+  of_command : (place : ℕ) (l : Units) → EachPiece P l → Passes IsPassed (command_definition place l)
+  of_command place l h =
+      after Anything IsPassed (name_of place (sign (byte "*") l).1) _ (of_name place (sign (byte "*") l).1 (of_sign (byte "*") l h)) (λ name m t k.
+      after Anything IsPassed (number_of place m) _ (of_number place m k) (λ n j s i.
+      after (EachFixed P) IsPassed (body place n j) _ (of_body place n j i) (λ parts rest p q. (p, q))))
+
+  of_plain : (place : ℕ) (l : Units) → EachPiece P l → Passes IsPassed (plain_definition place l)
+  of_plain place l h =
+      after Anything IsPassed (name_of place l) _ (of_name place l h) (λ name m t k.
+      after Anything IsPassed (parameters place 9 0 m) _ (of_parameters place 9 0 m k) (λ n j s i.
+      after (EachFixed P) IsPassed (body_in_braces place n j) _ (of_braces place n j i) (λ parts rest p q. (p, q))))
+
+  -- of the macro that is found, whichever it is
+  pub of_found : (b : Bool) (m found : Macro) (x : Option Macro) → EachFixed P m.body → ((y : Macro) → x ≡ Some y → EachFixed P y.body) → (if b then Some m else x) ≡ Some found → EachFixed P found.body
+  of_found true m found x h t e = (let same : m ≡ found = cc in subst (λ y. EachFixed P y.body) same h)
+  of_found false m found x h t e = t found e
+
+  fixed_both : (xs ys : List Part) → EachFixed P xs → EachFixed P ys → EachFixed P (xs ++ ys)
+  fixed_both [] ys h k = k
+  fixed_both (Fixed p ∷ xs) ys h k = (h.0, fixed_both xs ys h.1 k)
+  fixed_both (Argument n ∷ xs) ys h k = fixed_both xs ys h k
+
+  module _ (o : P Open) (c : P Close) (name_allowed : P (Command (codes "operatorname"))) (star_allowed : P (Character (byte "*"))) where
+    of_operator_parts : (star : Bool) (parts : List Part) → EachFixed P parts → EachFixed P (operator_parts star parts)
+    of_operator_parts true parts h = (name_allowed, (star_allowed, (o, fixed_both parts (Fixed Close ∷ []) h (c, tt))))
+    of_operator_parts false parts h = (name_allowed, (o, fixed_both parts (Fixed Close ∷ []) h (c, tt)))
+
+    of_operator : (place : ℕ) (l : Units) → EachPiece P l → Passes IsPassed (operator_definition place l)
+    of_operator place l h =
+        after Anything IsPassed (name_of place (sign (byte "*") l).1) _ (of_name place (sign (byte "*") l).1 (of_sign (byte "*") l h)) (λ name m t k.
+        after (EachFixed P) IsPassed (body place 0 m) _ (of_body place 0 m k) (λ parts rest p q. (of_operator_parts (sign (byte "*") l).0 parts p, q)))
+
+    pub of_definition : (word : Word) (place : ℕ) (l : Units) → EachPiece P l → Passes IsPassed (definition_of word place l)
+    of_definition NewCommand place l h = of_command place l h
+    of_definition ProvideCommand place l h = of_command place l h
+    of_definition Def place l h = of_plain place l h
+    of_definition DeclareOperator place l h = of_operator place l h
+
+    in_table : (name : List ℕ) (m : Macro) (table : Table) → EachFixed P m.body → EachInTable P table → EachInTable P (with_macro name m table)
+    in_table name m table h t other found e = of_found (bytes_eq name other) m found (table other) h (t other) e
+
+    of_provided : (d : Definition) (found : Option Macro) (table : Table) → IsPassed d → EachInTable P table → EachInTable P (provided d found table)
+    of_provided d (Some m) table h t = t
+    of_provided d None table h t = in_table d.name d.stands_for table h t
+
+    pub behind : (word : Word) (d : Definition) (table : Table) → IsPassed d → EachInTable P table → EachInTable P (behind_definition word d table)
+    behind ProvideCommand d table h t = of_provided d (table d.name) table h t
+    behind NewCommand d table h t = in_table d.name d.stands_for table h t
+    behind Def d table h t = in_table d.name d.stands_for table h t
+    behind DeclareOperator d table h t = in_table d.name d.stands_for table h t
+
+    -- Expansion
+
+    both : (us vs : List Unit) → EachOf us → EachOf vs → EachOf (us ++ vs)
+    both [] vs h k = k
+    both (u ∷ us) vs h k = (h.0, both us vs h.1 k)
+
+    of_number_at : (args : List (List Unit)) (k : ℕ) → EachList args → EachOf (argument_at args k)
+    of_number_at [] k h = tt
+    of_number_at (arg ∷ args) zero h = h.0
+    of_number_at (arg ∷ args) (suc k) h = of_number_at args k h.1
+
+    of_put : (args : List (List Unit)) (place : ℕ) (parts : List Part) → EachList args → EachFixed P parts → EachOf (put args place parts)
+    of_put args place [] h k = tt
+    of_put args place (Fixed p ∷ parts) h k = (k.0, of_put args place parts h k.1)
+    of_put args place (Argument n ∷ parts) h k = both (argument_at args n) (put args place parts) (of_number_at args n h) (of_put args place parts h k)
+
+    of_units_before : (us : List Unit) (l : Units) → EachOf us → EachPiece P l → EachPiece P (before us l)
+    of_units_before [] l h k = k
+    of_units_before (u ∷ us) l h k = (h.0, of_units_before us l h.1 k)
+
+    abbrev TurnPasses : Turn → Type 0
+    TurnPasses Stays = ⊤
+    TurnPasses (Turns table uses room l) = EachInTable P table × EachPiece P l
+    TurnPasses (Fails r) = ⊤
+
+    of_arguments_read : (table : Table) (uses room : ℕ) (u : Unit) (m : Macro) (x : Outcome (List (List Unit))) → EachInTable P table → EachFixed P m.body → Passes EachList x → TurnPasses (with_arguments table uses room u m x)
+    of_arguments_read table uses room u m (Read args l) t b h = either (nat_lt room (length (put args u.place m.body))) _ _ _ table (before (put args u.place m.body) l) (t, of_units_before (put args u.place m.body) l (of_put args u.place m.body h.0 b) h.1)
+      where
+        either : (b : Bool) (r : Refusal) (uses room : ℕ) (table : Table) (l : Units) → EachInTable P table × EachPiece P l → TurnPasses (if b then Fails r else Turns table uses room l)
+        either true r uses room table l h = tt
+        either false r uses room table l h = h
+    of_arguments_read table uses room u m (Refused r) t b h = tt
+
+    of_used : (table : Table) (uses room : ℕ) (u : Unit) (m : Macro) (l : Units) → EachInTable P table → EachFixed P m.body → EachPiece P l → TurnPasses (used table uses room u m l)
+    of_used table zero room u m l t b h = tt
+    of_used table (suc uses) room u m l t b h = of_arguments_read table uses room u m (arguments u.place m.arity l) t b (of_arguments u.place m.arity l h)
+
+    of_defined : (table : Table) (uses room : ℕ) (word : Word) (x : Outcome Definition) → EachInTable P table → Passes IsPassed x → TurnPasses (defined table uses room word x)
+    of_defined table uses room word (Read d l) t h = (behind word d table h.0 t, h.1)
+    of_defined table uses room word (Refused r) t h = tt
+
+    of_word : (table : Table) (uses room : ℕ) (u : Unit) (l : Units) (w : Option Word) → EachInTable P table → EachPiece P l → TurnPasses (turn_of (word_role w) table uses room u l)
+    of_word table uses room u l (Some word) t h = of_defined table uses room word (definition_of word u.place l) t (of_definition word u.place l h)
+    of_word table uses room u l None t h = tt
+
+    of_name_turn : (table : Table) (uses room : ℕ) (u : Unit) (l : Units) (name : List ℕ) (found : Option Macro) → table name ≡ found → EachInTable P table → EachPiece P l → TurnPasses (turn_of (name_role found name) table uses room u l)
+    of_name_turn table uses room u l name (Some m) e t h = of_used table uses room u m l t (t name m e) h
+    of_name_turn table uses room u l name None e t h = of_word table uses room u l _ t h
+
+    of_turn : (p : Piece) (table : Table) (uses room : ℕ) (u : Unit) (l : Units) → EachInTable P table → EachPiece P l → TurnPasses (turn_of (role_of table p) table uses room u l)
+    of_turn (Command name) table uses room u l t h = of_name_turn table uses room u l name (table name) refl t h
+    of_turn Space table uses room u l t h = tt
+    of_turn Open table uses room u l t h = tt
+    of_turn Close table uses room u l t h = tt
+    of_turn (Character d) table uses room u l t h = tt
+
+    pub pieces_of : {table : Table} {uses room : ℕ} {l m : Units} → Expands table uses room l m → EachInTable P table → EachPiece P l → EachPiece P m
+    pieces_of at_end t h = h
+    pieces_of at_stop t h = h
+    pieces_of (stays e d) t h = (h.0, pieces_of d t h.1)
+    pieces_of (turns {table = table} {uses = uses} {room = room} {u = u} {l = l} e d) t h =
+        let turned = subst TurnPasses e (of_turn u.piece table uses room u l t h.1) in pieces_of d turned.0 turned.1
+    pieces_of (fails e) t h = tt
+
+pub adds_nothing : AddsNothing
+adds_nothing = λ test table uses room l m marks t h d. pieces_of (λ p. IsTrue (test p)) marks.0 marks.1.0 marks.1.1.0 marks.1.1.1.0 d t h

@@ -1,0 +1,69 @@
+-- No macro that a text defines puts a character that XML forbids, and none of the usual ones does.
+use Rattle.std.proofs.Common.{ℕ, false, List, [], ◌∷◌, codes, Option, Some, None, refl, subst}
+use Rattle.std.specs.Prelude.{⊤}
+use Rattle.std.specs.{Option.unwrap_or, Str.bytes_eq, Str.chars}
+use Rattle.latex2mathml_elements.proofs.Characters.{allowed_plain}
+use Rattle.latex2mathml_tex_grammar.specs.DefinitionTexts.{ReadsDefinitions, no_more, stopped, defines, no_definition, definition_refused, Defines}
+use Rattle.latex2mathml_tex_grammar.specs.Definitions.{Word, definition_of, parts_of}
+use Rattle.latex2mathml_tex_grammar.specs.ExpansionLaws.{EachFixed, EachInTable}
+use Rattle.latex2mathml_tex_grammar.specs.{Cutting.units_of, Expansion.Expands, Macros.Part, Macros.Table}
+use Rattle.latex2mathml_tex_grammar.specs.{Reading.Outcome, Reading.Read, Reading.Refused}
+use Rattle.latex2mathml_tex_grammar.specs.Units.{Command, Units, Next, End, Stop}
+use Rattle.latex2mathml_tex_grammar.specs.UsualMacros.{entry_macro, listed, macro_with, usual_entries, usual_macros}
+use Rattle.latex2mathml_tex_grammar.proofs.Adding.{EachOf, IfParts, IsPassed, Passes, behind, of_definition, of_found, of_parts, pieces_of}
+use Rattle.latex2mathml_tex_grammar.proofs.{Allowed.AreAllowedUnits, Allowed.IsAllowedPiece, AllowedUnits.next_allowed, AllowedUnits.units_allowed, OneList.has_units}
+
+-- The usual macros
+
+listed_allowed : (l : Units) → AreAllowedUnits l → EachOf IsAllowedPiece (listed l)
+listed_allowed (Next u l) h = (h.0, listed_allowed l h.1)
+listed_allowed (End place) h = tt
+listed_allowed (Stop r) h = tt
+
+parts_allowed : (parts : Option (List Part)) → IfParts IsAllowedPiece parts → EachFixed IsAllowedPiece (unwrap_or parts [])
+parts_allowed (Some parts) h = h
+parts_allowed None h = tt
+
+body_allowed : (arity : ℕ) (text : List ℕ) → EachFixed IsAllowedPiece (macro_with arity text).body
+body_allowed arity text =
+    let units = units_of 0 (chars text) in
+    let each = listed_allowed units (units_allowed (has_units 0 (chars text))) in
+    parts_allowed (parts_of arity (listed units)) (of_parts IsAllowedPiece false arity (listed units) each)
+
+entries_allowed : (entries : List (List ℕ × ℕ × List ℕ)) → EachInTable IsAllowedPiece (entry_macro entries)
+entries_allowed [] name m e = cc
+entries_allowed (entry ∷ entries) name m e =
+    of_found IsAllowedPiece (bytes_eq entry.0 name) (macro_with entry.1 entry.2) m (entry_macro entries name) (body_allowed entry.1 entry.2) (entries_allowed entries name) e
+
+usual_allowed : EachInTable IsAllowedPiece usual_macros
+unfolding usual_macros
+usual_allowed = entries_allowed usual_entries
+
+-- What a text defines
+
+-- the pieces that definitions of operators add
+operator_name : IsAllowedPiece (Command (codes "operatorname"))
+operator_name = allowed_plain (codes "operatorname") refl
+
+abbrev IfMacros : Outcome Table → Type 0
+IfMacros (Read table l) = EachInTable IsAllowedPiece table
+IfMacros (Refused r) = ⊤
+
+definition_allowed : (word : Word) (place : ℕ) (l : Units) → AreAllowedUnits l → Passes IsAllowedPiece (IsPassed IsAllowedPiece) (definition_of word place l)
+definition_allowed word place l h = of_definition IsAllowedPiece tt tt operator_name refl word place l h
+
+read_allowed : {table : Table} {l : Units} {o : Outcome Table} → ReadsDefinitions table l o → EachInTable IsAllowedPiece table → AreAllowedUnits l → IfMacros o
+read_allowed (no_more e) t h = t
+read_allowed (stopped e) t h = tt
+read_allowed (defines {table = table} {l = l} {m = m} {u = u} {word = word} {d = d} e w g ds) t h =
+    let read = subst (Passes IsAllowedPiece (IsPassed IsAllowedPiece)) g (definition_allowed word u.place m (next_allowed l e h).1) in
+    read_allowed ds (behind IsAllowedPiece tt tt operator_name refl word d table read.0 t) read.1
+read_allowed (no_definition e w) t h = tt
+read_allowed (definition_refused e w g) t h = tt
+
+pub macros_allowed : {text : List ℕ} {macros : Table} → Defines text macros → EachInTable IsAllowedPiece macros
+macros_allowed h = read_allowed h.read usual_allowed (units_allowed h.spelled)
+
+-- the pieces of an expansion
+pub expansion_allowed : {macros : Table} {uses room : ℕ} {l m : Units} → Expands macros uses room l m → EachInTable IsAllowedPiece macros → AreAllowedUnits l → AreAllowedUnits m
+expansion_allowed e t h = pieces_of IsAllowedPiece tt tt operator_name refl e t h

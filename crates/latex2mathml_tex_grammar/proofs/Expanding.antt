@@ -1,0 +1,104 @@
+-- Units have one expansion, and it is the one that is computed.
+use Rattle.std.proofs.Common.{ℕ, zero, suc, ◌+◌, ◌<◌, ◌≤◌, ◌≡◌, List, length, refl, ap, subst, arith}
+use Rattle.std.proofs.{lemmas.Bool.Decides.nat_tests}
+use Rattle.std.specs.Prelude.{⊤, nat_lt}
+use Rattle.latex2mathml_tex_grammar.specs.Arguments.{arguments}
+use Rattle.latex2mathml_tex_grammar.specs.Definitions.{Word, Definition, definition_of}
+use Rattle.latex2mathml_tex_grammar.specs.Expanding.{turned, expansion_within, expansion}
+use Rattle.latex2mathml_tex_grammar.specs.Expansion.{Role, Uses, Defines, Stands, role_of, Turn, Stays, Turns, Fails, replaced, with_arguments, used, defined, turn_of, turn, Expands, at_end, at_stop, stays, turns, fails}
+use Rattle.latex2mathml_tex_grammar.specs.Macros.{Macro, Table, put, count}
+use Rattle.latex2mathml_tex_grammar.specs.{Reading.Outcome, Reading.Read, Reading.Refused, Refusal.Refusal}
+use Rattle.latex2mathml_tex_grammar.specs.Units.{Unit, Units, Next, End, Stop}
+use Rattle.latex2mathml_tex_grammar.proofs.Choices.{of_chosen}
+use Rattle.latex2mathml_tex_grammar.proofs.Shrinking.{Leaves, arguments_leave, definition_leaves, count-before}
+
+-- what is expanded instead, with what can still be put, is at most so much
+abbrev pub Shrinks : ℕ → Turn → Type 0
+Shrinks n Stays = ⊤
+Shrinks n (Turns table uses room l) = count l + room ≤ n
+Shrinks n (Fails r) = ⊤
+
+replaced_shrinks : (n : ℕ) (table : Table) (uses room : ℕ) (u : Unit) (us : List Unit) (l : Units) → count l + room ≤ n → Shrinks n (replaced table uses room u us l)
+replaced_shrinks n table uses room u us l h = of_chosen (Shrinks n) (nat_lt room (length us)) (λ e. tt) (λ e.
+    let fits : length us ≤ room = grind (arith, nat_tests) in
+    omega (arith, h, fits, count-before us l))
+
+with_arguments_shrinks : (n k : ℕ) (table : Table) (uses room : ℕ) (u : Unit) (m : Macro) (o : Outcome (List (List Unit))) → Leaves k o → k + room ≤ n → Shrinks n (with_arguments table uses room u m o)
+with_arguments_shrinks n k table uses room u m (Read args l) left h = replaced_shrinks n table uses room u (put args u.place m.body) l (omega (arith, left, h))
+with_arguments_shrinks n k table uses room u m (Refused r) left h = tt
+
+used_shrinks : (table : Table) (uses room : ℕ) (u : Unit) (m : Macro) (l : Units) → Shrinks (count l + room) (used table uses room u m l)
+used_shrinks table zero room u m l = tt
+used_shrinks table (suc uses) room u m l = with_arguments_shrinks (count l + room) (count l) table uses room u m (arguments u.place m.arity l) (arguments_leave u.place m.arity l) (omega arith)
+
+defined_shrinks : (n k : ℕ) (table : Table) (uses room : ℕ) (word : Word) (o : Outcome Definition) → Leaves k o → k + room ≤ n → Shrinks n (defined table uses room word o)
+defined_shrinks n k table uses room word (Read d l) left h = omega (arith, left, h)
+defined_shrinks n k table uses room word (Refused r) left h = tt
+
+pub turn_shrinks : (role : Role) (table : Table) (uses room : ℕ) (u : Unit) (l : Units) → Shrinks (count l + room) (turn_of role table uses room u l)
+turn_shrinks (Uses m) table uses room u l = used_shrinks table uses room u m l
+turn_shrinks (Defines word) table uses room u l = defined_shrinks (count l + room) (count l) table uses room word (definition_of word u.place l) (definition_leaves word u.place l) (omega arith)
+turn_shrinks Stands table uses room u l = tt
+
+-- Units have an expansion
+
+turned_expands : (n : ℕ) (table : Table) (uses room : ℕ) (u : Unit) (l : Units) (t : Turn) → turn table uses room u l ≡ t → Shrinks (count l + room) t → count l + room < n
+    → ((table : Table) (uses room : ℕ) (l : Units) → count l + room < n → Expands table uses room l (expansion_within n table uses room l))
+    → Expands table uses room (Next u l) (turned t table uses room u l (expansion_within n))
+turned_expands n table uses room u l Stays e s h more = stays e (more table uses room l h)
+turned_expands n table uses room u l (Turns next uses_left room_left m) e s h more = turns e (more next uses_left room_left m (omega (arith, s, h)))
+turned_expands n table uses room u l (Fails r) e s h more = fails e
+
+expands_within : (n : ℕ) (table : Table) (uses room : ℕ) (l : Units) → count l + room < n → Expands table uses room l (expansion_within n table uses room l)
+unfolding expansion_within
+expands_within zero table uses room l h = absurd (omega (arith, h))
+expands_within (suc n) table uses room (Next u l) h = turned_expands n table uses room u l (turn table uses room u l) refl (turn_shrinks (role_of table u.piece) table uses room u l) (omega (arith, h)) (expands_within n)
+expands_within (suc n) table uses room (End place) h = at_end
+expands_within (suc n) table uses room (Stop r) h = at_stop
+
+pub is_expanded : (table : Table) (uses room : ℕ) (l : Units) → Expands table uses room l (expansion table uses room l)
+unfolding expansion
+is_expanded table uses room l = expands_within (suc (count l + room)) table uses room l (omega arith)
+
+-- and no other
+
+turns_moved : (t : Turn) {table next : Table} {uses room uses_left room_left : ℕ} {l m n : Units} → t ≡ Turns table uses room l → t ≡ Turns next uses_left room_left m → Expands next uses_left room_left m n → Expands table uses room l n
+turns_moved t {table} {next} {uses} {room} {uses_left} {room_left} {l} {m} {n} e f d =
+    let tables : next ≡ table = cc in
+    let uses_same : uses_left ≡ uses = cc in
+    let rooms : room_left ≡ room = cc in
+    let units : m ≡ l = cc in
+    subst (λ k. Expands table uses room k n) units (subst (λ k. Expands table uses k m n) rooms (subst (λ k. Expands table k room_left m n) uses_same (subst (λ k. Expands k uses_left room_left m n) tables d)))
+
+pub expands_once : {table : Table} {uses room : ℕ} {l m n : Units} → Expands table uses room l m → Expands table uses room l n → m ≡ n
+expands_once at_end at_end = refl
+expands_once at_stop at_stop = refl
+expands_once (stays {u = u} e d) (stays f d') = ap (Next u) (expands_once d d')
+expands_once (stays e d) (turns f d') = cc
+expands_once (stays e d) (fails f) = cc
+expands_once (turns e d) (stays f d') = cc
+expands_once (turns {table = table} {uses = uses} {room = room} {u = u} {l = l} e d) (turns f d') = expands_once d (turns_moved (turn table uses room u l) e f d')
+expands_once (turns e d) (fails f) = cc
+expands_once (fails e) (stays f d') = cc
+expands_once (fails e) (turns f d') = cc
+expands_once (fails {r = r} e) (fails {r = q} f) = let same : r ≡ q = cc in ap Stop same
+
+pub expansion_is : {table : Table} {uses room : ℕ} {l m : Units} → Expands table uses room l m → expansion table uses room l ≡ m
+expansion_is {table} {uses} {room} {l} d = expands_once (is_expanded table uses room l) d
+
+-- The expansion, step by step
+
+pub expansion_end : (table : Table) (uses room place : ℕ) → expansion table uses room (End place) ≡ End place
+expansion_end table uses room place = expansion_is at_end
+
+pub expansion_stop : (table : Table) (uses room : ℕ) (r : Refusal) → expansion table uses room (Stop r) ≡ Stop r
+expansion_stop table uses room r = expansion_is at_stop
+
+pub expansion_stays : (table : Table) (uses room : ℕ) (u : Unit) (l : Units) → turn table uses room u l ≡ Stays → expansion table uses room (Next u l) ≡ Next u (expansion table uses room l)
+expansion_stays table uses room u l e = expansion_is (stays e (is_expanded table uses room l))
+
+pub expansion_turns : (table : Table) (uses room : ℕ) (u : Unit) (l : Units) (next : Table) (uses_left room_left : ℕ) (m : Units) → turn table uses room u l ≡ Turns next uses_left room_left m → expansion table uses room (Next u l) ≡ expansion next uses_left room_left m
+expansion_turns table uses room u l next uses_left room_left m e = expansion_is (turns e (is_expanded next uses_left room_left m))
+
+pub expansion_fails : (table : Table) (uses room : ℕ) (u : Unit) (l : Units) (r : Refusal) → turn table uses room u l ≡ Fails r → expansion table uses room (Next u l) ≡ Stop r
+expansion_fails table uses room u l r e = expansion_is (fails e)

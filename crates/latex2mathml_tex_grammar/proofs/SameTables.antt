@@ -1,0 +1,78 @@
+-- Tables in which each name stands for the same expand units to the same.
+use Rattle.std.proofs.Common.{ℕ, zero, suc, ◌+◌, ◌-◌, ◌≡◌, Bool, true, false, List, length, Option, Some, None, refl, ap, ◌∙◌}
+use Rattle.std.specs.Prelude.{nat_lt, if◌then◌else◌}
+use Rattle.std.specs.Str.{bytes_eq}
+use Rattle.latex2mathml_tex_grammar.specs.Arguments.{arguments}
+use Rattle.latex2mathml_tex_grammar.specs.Definitions.{Word, NewCommand, ProvideCommand, Def, DeclareOperator, Definition, definition_of, provided, behind_definition}
+use Rattle.latex2mathml_tex_grammar.specs.Expanding.{turned, expansion_within, expansion}
+use Rattle.latex2mathml_tex_grammar.specs.Expansion.{Role, Uses, Defines, Stands, name_role, role_of, Turn, Turns, Fails, with_arguments, used, defined, turn_of}
+use Rattle.latex2mathml_tex_grammar.specs.Macros.{Macro, SameMacros, Table, with_macro, put, before, count}
+use Rattle.latex2mathml_tex_grammar.specs.{Reading.Outcome, Reading.Read, Reading.Refused, Refusal.Refusal, Refusal.TooManyExpansions, Refusal.refusal_at}
+use Rattle.latex2mathml_tex_grammar.specs.Units.{Piece, Space, Open, Close, Command, Character, Unit, Units, Next, End, Stop}
+
+pub with_macro_same : (name : List ℕ) (m : Macro) (t v : Table) → SameMacros t v → SameMacros (with_macro name m t) (with_macro name m v)
+with_macro_same name m t v h other = ap (λ (x : Option Macro). if bytes_eq name other then Some m else x) (h other)
+
+provided_same : (d : Definition) (found other : Option Macro) (t v : Table) → found ≡ other → SameMacros t v → SameMacros (provided d found t) (provided d other v)
+provided_same d (Some m) (Some m') t v e h = h
+provided_same d None None t v e h = with_macro_same d.name d.stands_for t v h
+provided_same d (Some m) None t v e h = absurd (cc)
+provided_same d None (Some m) t v e h = absurd (cc)
+
+pub behind_same : (word : Word) (d : Definition) (t v : Table) → SameMacros t v → SameMacros (behind_definition word d t) (behind_definition word d v)
+behind_same ProvideCommand d t v h = provided_same d (t d.name) (v d.name) t v (h d.name) h
+behind_same NewCommand d t v h = with_macro_same d.name d.stands_for t v h
+behind_same Def d t v h = with_macro_same d.name d.stands_for t v h
+behind_same DeclareOperator d t v h = with_macro_same d.name d.stands_for t v h
+
+role_same : (p : Piece) (t v : Table) → SameMacros t v → role_of t p ≡ role_of v p
+role_same (Command name) t v h = ap (λ found. name_role found name) (h name)
+role_same Space t v h = refl
+role_same Open t v h = refl
+role_same Close t v h = refl
+role_same (Character c) t v h = refl
+
+-- what is expanded from here on is the same
+abbrev SameFrom : ℕ → Type 0
+SameFrom n = (t v : Table) (uses room : ℕ) (l : Units) → SameMacros t v → expansion_within n t uses room l ≡ expansion_within n v uses room l
+
+-- the outcomes of a turn are the same
+abbrev SameTurns : ℕ → Table → Table → ℕ → ℕ → Unit → Units → Turn → Turn → Type 0
+SameTurns n t v uses room u l a b = turned a t uses room u l (expansion_within n) ≡ turned b v uses room u l (expansion_within n)
+
+either_same : (n : ℕ) (t v : Table) (uses room uses_left room_left : ℕ) (u : Unit) (l m : Units) (b : Bool) (r : Refusal) → SameFrom n → SameMacros t v
+    → SameTurns n t v uses room u l (if b then Fails r else Turns t uses_left room_left m) (if b then Fails r else Turns v uses_left room_left m)
+either_same n t v uses room uses_left room_left u l m true r more h = refl
+either_same n t v uses room uses_left room_left u l m false r more h = more t v uses_left room_left m h
+
+arguments_same : (n : ℕ) (t v : Table) (uses room uses_left : ℕ) (u : Unit) (l : Units) (m : Macro) (o : Outcome (List (List Unit))) → SameFrom n → SameMacros t v
+    → SameTurns n t v uses room u l (with_arguments t uses_left room u m o) (with_arguments v uses_left room u m o)
+arguments_same n t v uses room uses_left u l m (Read args rest) more h =
+    either_same n t v uses room uses_left (room - length (put args u.place m.body)) u l (before (put args u.place m.body) rest) (nat_lt room (length (put args u.place m.body))) (refusal_at TooManyExpansions u.place) more h
+arguments_same n t v uses room uses_left u l m (Refused r) more h = refl
+
+used_same : (n : ℕ) (t v : Table) (uses room : ℕ) (u : Unit) (l : Units) (m : Macro) → SameFrom n → SameMacros t v → SameTurns n t v uses room u l (used t uses room u m l) (used v uses room u m l)
+used_same n t v zero room u l m more h = refl
+used_same n t v (suc uses) room u l m more h = arguments_same n t v (suc uses) room uses u l m (arguments u.place m.arity l) more h
+
+defined_same : (n : ℕ) (t v : Table) (uses room : ℕ) (u : Unit) (l : Units) (word : Word) (o : Outcome Definition) → SameFrom n → SameMacros t v → SameTurns n t v uses room u l (defined t uses room word o) (defined v uses room word o)
+defined_same n t v uses room u l word (Read d rest) more h = more (behind_definition word d t) (behind_definition word d v) uses room rest (behind_same word d t v h)
+defined_same n t v uses room u l word (Refused r) more h = refl
+
+turn_same : (n : ℕ) (t v : Table) (uses room : ℕ) (u : Unit) (l : Units) (role : Role) → SameFrom n → SameMacros t v → SameTurns n t v uses room u l (turn_of role t uses room u l) (turn_of role v uses room u l)
+turn_same n t v uses room u l (Uses m) more h = used_same n t v uses room u l m more h
+turn_same n t v uses room u l (Defines word) more h = defined_same n t v uses room u l word (definition_of word u.place l) more h
+turn_same n t v uses room u l Stands more h = ap (Next u) (more t v uses room l h)
+
+same_within : (n : ℕ) → SameFrom n
+unfolding expansion_within
+same_within zero t v uses room l h = refl
+same_within (suc n) t v uses room (Next u l) h =
+    turn_same n t v uses room u l (role_of t u.piece) (same_within n) h
+    ∙ ap (λ role. turned (turn_of role v uses room u l) v uses room u l (expansion_within n)) (role_same u.piece t v h)
+same_within (suc n) t v uses room (End place) h = refl
+same_within (suc n) t v uses room (Stop r) h = refl
+
+pub expansion_same : (t v : Table) (uses room : ℕ) (l : Units) → SameMacros t v → expansion t uses room l ≡ expansion v uses room l
+unfolding expansion
+expansion_same t v uses room l h = same_within (suc (count l + room)) t v uses room l h

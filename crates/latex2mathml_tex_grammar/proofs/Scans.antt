@@ -1,0 +1,223 @@
+-- What is taken unit by unit among units that are alike but for white space.
+use Rattle.std.proofs.Common.{◌≡◌, ◌==◌, ◌||◌, ℕ, Bool, true, false, inl, inr, List, [], ◌++◌, Option, Some, None, codes, refl, sym, ap, subst, ◌∙◌, if◌then◌else◌}
+use Rattle.std.proofs.{lemmas.Bool.cases_Bool}
+use Rattle.std.specs.{Char.encode_utf8, Str.byte}
+use Rattle.latex2mathml_tex_grammar.specs.{Commands.command_entries, Commands.meaning_of, CommandsFromM.commands_from_m, CommandsUpToL.commands_up_to_l}
+use Rattle.latex2mathml_tex_grammar.specs.Meaning.{Meaning, Shows, FunctionName, Spacing, Styled, Words as TakesWordsIn, Fraction, Root, Accent, Brace, Stack, StackedRelation, OperatorName, Negation, Slash, Sized, Left, Middle, Right, Limits, NoLimits, Classed, Changes, BeginTable, EndTable, LineBreak, Substack}
+use Rattle.latex2mathml_tex_grammar.specs.Refusal.{UnknownColumn, Refusal}
+use Rattle.latex2mathml_tex_grammar.specs.Scanning.{Name, ColumnList, Number, Spot, BeforeArgument, InArgument, BeforeGap, InGap, BeforeWidth, InWidth, BeforeBrace, BeforePosition, InPosition, BehindPosition, BeforeStar, BehindStar, BeforeLength, InLength, BehindSign, InNumber, BehindLetter, BehindLength, BeforeRow, Deed, Passes, Adds, Ends, Leaves, Misses, Refuses, deed, done, is_spacing, is_line, may_end, found_at_end, with_character, Found, Given, Missing, scan, behind_found, past, past_break}
+use Rattle.latex2mathml_tex_grammar.specs.Spacing.{Standing, standing_behind, takes_words, AreAlike, both_end, both_stop, same_piece, space_before, space_behind}
+use Rattle.latex2mathml_tex_grammar.specs.Units.{Piece, Space, Open, Close, Command, Character, Unit, Units, Next}
+use Rattle.latex2mathml_tex_grammar.proofs.{OneList.is_byte, Plain.TakesNone, Plain.takes_none, Plain.open_plain, Plain.close_plain, Plain.is_named}
+use Rattle.latex2mathml_tex_grammar.proofs.Spaces.{IsCalm, IsPlain, behind_plain, character_plain}
+
+-- Units that are taken are plain
+
+abbrev takes : Deed → Bool
+takes (Passes spot) = true
+takes (Adds c spot) = true
+takes Ends = true
+takes Leaves = false
+takes Misses = false
+takes (Refuses kind) = false
+
+-- no dollar sign is taken
+no_dollar_taken : (spot : Spot) → takes (deed spot (Character (byte "$"))) ≡ false
+no_dollar_taken (BeforeArgument a) = refl
+no_dollar_taken (InArgument Name) = refl
+no_dollar_taken (InArgument ColumnList) = refl
+no_dollar_taken (InArgument Number) = refl
+no_dollar_taken BeforeGap = refl
+no_dollar_taken InGap = refl
+no_dollar_taken BeforeWidth = refl
+no_dollar_taken InWidth = refl
+no_dollar_taken BeforeBrace = refl
+no_dollar_taken BeforePosition = refl
+no_dollar_taken InPosition = refl
+no_dollar_taken BehindPosition = refl
+no_dollar_taken BeforeStar = refl
+no_dollar_taken BehindStar = refl
+no_dollar_taken BeforeLength = refl
+no_dollar_taken InLength = refl
+no_dollar_taken BehindSign = refl
+no_dollar_taken InNumber = refl
+no_dollar_taken (BehindLetter first) = refl
+no_dollar_taken BehindLength = refl
+no_dollar_taken BeforeRow = refl
+
+character_taken : (spot : Spot) (c : ℕ) → takes (deed spot (Character c)) ≡ true → IsPlain (Character c)
+character_taken spot c h = elim (cases_Bool (c == byte "$")) [
+  | inl s ↦ (let same = ap (λ c. takes (deed spot (Character c))) (is_byte c (byte "$") s) in let none = no_dollar_taken spot in absurd (cc))
+  | inr s ↦ character_plain c s
+]
+
+-- nor a command that takes words
+
+spaces_take_none : (meaning : Option Meaning) → is_spacing meaning ≡ true → takes_words meaning ≡ false
+spaces_take_none (Some (Spacing width)) h = refl
+spaces_take_none None h = cc
+spaces_take_none (Some (Shows s)) h = cc
+spaces_take_none (Some (FunctionName limits name)) h = cc
+spaces_take_none (Some (Styled alphabet)) h = cc
+spaces_take_none (Some (TakesWordsIn alphabet)) h = cc
+spaces_take_none (Some (Fraction rule own)) h = cc
+spaces_take_none (Some Root) h = cc
+spaces_take_none (Some (Accent side mark width)) h = cc
+spaces_take_none (Some (Brace side mark)) h = cc
+spaces_take_none (Some (Stack side)) h = cc
+spaces_take_none (Some StackedRelation) h = cc
+spaces_take_none (Some OperatorName) h = cc
+spaces_take_none (Some Negation) h = cc
+spaces_take_none (Some Slash) h = cc
+spaces_take_none (Some (Sized size class)) h = cc
+spaces_take_none (Some Left) h = cc
+spaces_take_none (Some Middle) h = cc
+spaces_take_none (Some Right) h = cc
+spaces_take_none (Some Limits) h = cc
+spaces_take_none (Some NoLimits) h = cc
+spaces_take_none (Some (Classed class)) h = cc
+spaces_take_none (Some (Changes change)) h = cc
+spaces_take_none (Some BeginTable) h = cc
+spaces_take_none (Some EndTable) h = cc
+spaces_take_none (Some LineBreak) h = cc
+spaces_take_none (Some Substack) h = cc
+
+hline_plain : TakesNone (codes "hline")
+unfolding meaning_of command_entries commands_up_to_l commands_from_m
+hline_plain = refl
+
+hdashline_plain : TakesNone (codes "hdashline")
+unfolding meaning_of command_entries commands_up_to_l commands_from_m
+hdashline_plain = refl
+
+toprule_plain : TakesNone (codes "toprule")
+unfolding meaning_of command_entries commands_up_to_l commands_from_m
+toprule_plain = refl
+
+midrule_plain : TakesNone (codes "midrule")
+unfolding meaning_of command_entries commands_up_to_l commands_from_m
+midrule_plain = refl
+
+bottomrule_plain : TakesNone (codes "bottomrule")
+unfolding meaning_of command_entries commands_up_to_l commands_from_m
+bottomrule_plain = refl
+
+-- one of two holds
+pub either_holds : {A : Type 0} (a b : Bool) → (a ≡ true → A) → (b ≡ true → A) → a || b ≡ true → A
+either_holds true b f g h = f refl
+either_holds false b f g h = g h
+
+line_plain : (name : List ℕ) → is_line name ≡ true → TakesNone name
+line_plain name h =
+    either_holds _ _
+    (either_holds _ _
+    (either_holds _ _
+    (either_holds _ _ (is_named (codes "hline") name hline_plain) (is_named (codes "hdashline") name hdashline_plain))
+    (is_named (codes "toprule") name toprule_plain))
+    (is_named (codes "midrule") name midrule_plain))
+    (is_named (codes "bottomrule") name bottomrule_plain) h
+
+taken_if : (b : Bool) (x y : Deed) → takes y ≡ false → takes (if b then x else y) ≡ true → b ≡ true
+taken_if true x y none h = refl
+taken_if false x y none h = cc
+
+command_taken : (spot : Spot) (name : List ℕ) → takes (deed spot (Command name)) ≡ true → TakesNone name
+command_taken InGap name h = spaces_take_none (meaning_of name) (taken_if (is_spacing (meaning_of name)) (Passes InGap) (Refuses UnknownColumn) refl h)
+command_taken BeforeRow name h = line_plain name (taken_if (is_line name) (Passes BeforeRow) Leaves refl h)
+command_taken (BeforeArgument a) name h = cc
+command_taken (InArgument Name) name h = cc
+command_taken (InArgument ColumnList) name h = cc
+command_taken (InArgument Number) name h = cc
+command_taken BeforeGap name h = cc
+command_taken BeforeWidth name h = cc
+command_taken InWidth name h = cc
+command_taken BeforeBrace name h = cc
+command_taken BeforePosition name h = cc
+command_taken InPosition name h = cc
+command_taken BehindPosition name h = cc
+command_taken BeforeStar name h = cc
+command_taken BehindStar name h = cc
+command_taken BeforeLength name h = cc
+command_taken InLength name h = cc
+command_taken BehindSign name h = cc
+command_taken InNumber name h = cc
+command_taken (BehindLetter first) name h = cc
+command_taken BehindLength name h = cc
+
+taken_plain : (spot : Spot) (piece : Piece) → takes (deed spot piece) ≡ true → IsPlain piece
+taken_plain spot Space h = λ at calm. refl
+taken_plain spot Open h = open_plain
+taken_plain spot Close h = close_plain
+taken_plain spot (Command name) h = takes_none name (command_taken spot name h)
+taken_plain spot (Character c) h = character_taken spot c h
+
+-- What is found
+
+-- the same is found, with alike units behind it, or it is refused for the same reason
+data FoundAlike (at : Standing) : Found → Found → Type 0 where
+  both_given : {l m : Units} (text : List ℕ) → AreAlike at l m → FoundAlike at (Given text l) (Given text m)
+  both_missing : {r q : Refusal} → r.kind ≡ q.kind → FoundAlike at (Missing r) (Missing q)
+
+longer : {at : Standing} {x y : Found} (c : ℕ) → FoundAlike at x y → FoundAlike at (with_character c x) (with_character c y)
+longer c (both_given text h) = both_given (encode_utf8 c ++ text) h
+longer c (both_missing e) = both_missing e
+
+ended : {at : Standing} {l m : Units} (r q : Refusal) (b : Bool) → AreAlike at l m → r.kind ≡ q.kind → FoundAlike at (found_at_end b l r) (found_at_end b m q)
+ended r q true h e = both_given [] h
+ended r q false h e = both_missing e
+
+done_alike : {at : Standing} {l m : Units} (p q : ℕ) (spot : Spot) (u v : Unit) → u.piece ≡ v.piece → AreAlike (standing_behind u.piece at) l m → IsCalm at → (standing_behind u.piece at ≡ at → (next : Spot) → FoundAlike at (scan p l next) (scan q m next)) → (d : Deed) → (takes d ≡ true → IsPlain u.piece) → FoundAlike at (done p spot d u l (scan p l)) (done q spot d v m (scan q m))
+done_alike {at = at} p q spot u v e h calm more (Passes next) plain = more (plain refl at calm) next
+done_alike {at = at} p q spot u v e h calm more (Adds c next) plain = longer c (more (plain refl at calm) next)
+done_alike p q spot u v e h calm more Ends plain = both_given [] (behind_plain u.piece (plain refl) calm h)
+done_alike p q spot u v e h calm more Leaves plain = both_given [] (same_piece e h)
+done_alike p q spot u v e h calm more Misses plain = both_missing refl
+done_alike p q spot u v e h calm more (Refuses kind) plain = both_missing refl
+
+scan_alike : {at : Standing} {l m : Units} (p q : ℕ) → IsCalm at → AreAlike at l m → (spot : Spot) → FoundAlike at (scan p l spot) (scan q m spot)
+scan_alike p q calm both_end spot = ended _ _ (may_end spot) both_end refl
+scan_alike p q calm (both_stop e) spot = ended _ _ (may_end spot) (both_stop e) e
+scan_alike {at = at} {m = m} p q calm (space_before {u = u} {l = l} w e h) spot =
+    let same : scan p l spot ≡ scan p (Next u l) spot = rw e refl in subst (λ k. FoundAlike at k (scan q m spot)) same (scan_alike p q calm h spot)
+scan_alike {at = at} {l = l} p q calm (space_behind {u = u} {m = m} w e h) spot =
+    let same : scan q m spot ≡ scan q (Next u m) spot = rw e refl in subst (λ k. FoundAlike at (scan p l spot) k) same (scan_alike p q calm h spot)
+scan_alike {at = at} p q calm (same_piece {u = u} {v = v} {l = l} {m = m} e h) spot =
+    let here = done_alike p q spot u v e h calm (λ same next. subst (λ k. FoundAlike k (scan p l next) (scan q m next)) same (scan_alike p q (subst IsCalm (sym same) calm) h next)) (deed spot u.piece) (taken_plain spot u.piece) in
+    subst (λ d. FoundAlike at (scan p (Next u l) spot) (done q spot d v m (scan q m))) (ap (deed spot) e) here
+
+-- what is found in the one is found in the other
+
+pub record FoundToo (at : Standing) (spot : Spot) (place : ℕ) (text : List ℕ) (l m : Units) : Type 0 where
+  pub rest : Units
+  pub is : scan place m spot ≡ Given text rest
+  pub alike : AreAlike at l rest
+
+given_there : {at : Standing} {spot : Spot} {place : ℕ} {text : List ℕ} {k m : Units} {x y : Found} → FoundAlike at x y → x ≡ Given text k → y ≡ scan place m spot → FoundToo at spot place text k m
+given_there {at = at} {spot = spot} {place = place} {text = text} {k = k} {m = m} (both_given {l = j} {m = n} other h) p q =
+    let same : other ≡ text = cc in
+    let rest : j ≡ k = cc in
+    subst (λ t. FoundToo at spot place t k m) same (subst (λ j. FoundToo at spot place other j m) rest (record { rest = n; is = sym q; alike = h }))
+given_there (both_missing e) p q = cc
+
+pub found_too : {at : Standing} {l m k : Units} {text : List ℕ} (p q : ℕ) (spot : Spot) → IsCalm at → AreAlike at l m → scan p l spot ≡ Given text k → FoundToo at spot q text k m
+found_too p q spot calm h e = given_there (scan_alike p q calm h spot) e refl
+
+same_refusal : {r q : Refusal} → Missing r ≡ Missing q → r.kind ≡ q.kind
+same_refusal {r} {q} e = (let same : r ≡ q = cc in ap (λ r. r.kind) same)
+
+missing_there : {at : Standing} {x y : Found} {r : Refusal} → FoundAlike at x y → x ≡ Missing r → (q : Refusal) × (r.kind ≡ q.kind) × (y ≡ Missing q)
+missing_there (both_given text h) p = cc
+missing_there (both_missing {q = q} e) p = (q, sym (same_refusal p) ∙ e, refl)
+
+pub refused_too : {at : Standing} {l m : Units} {r : Refusal} (p q : ℕ) (spot : Spot) → IsCalm at → AreAlike at l m → scan p l spot ≡ Missing r → (t : Refusal) × (r.kind ≡ t.kind) × (scan q m spot ≡ Missing t)
+refused_too p q spot calm h e = missing_there (scan_alike p q calm h spot) e
+
+behind_alike : {at : Standing} {l m : Units} {x y : Found} → FoundAlike at x y → AreAlike at l m → AreAlike at (behind_found l x) (behind_found m y)
+behind_alike (both_given text k) h = k
+behind_alike (both_missing e) h = h
+
+pub past_too : {at : Standing} {l m : Units} (spot : Spot) → IsCalm at → AreAlike at l m → AreAlike at (past spot l) (past spot m)
+past_too spot calm h = behind_alike (scan_alike 0 0 calm h spot) h
+
+pub past_break_too : {at : Standing} {l m : Units} → IsCalm at → AreAlike at l m → AreAlike at (past_break l) (past_break m)
+past_break_too calm h = past_too BeforeRow calm (past_too BeforeLength calm (past_too BeforeStar calm h))

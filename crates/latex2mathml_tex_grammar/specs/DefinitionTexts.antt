@@ -1,0 +1,44 @@
+-- Texts of definitions: nothing else stands in them but white space. A text is its characters here.
+use Rattle.std.specs.Prelude.{◌≡◌, ℕ, List, Some, None}
+use Rattle.latex2mathml_tex_grammar.specs.Definitions.{Word, word_of, Definition, definition_of, behind_definition}
+use Rattle.latex2mathml_tex_grammar.specs.{Macros.Table, Next.past_space, Reading.Outcome, Reading.Read, Reading.Refused}
+use Rattle.latex2mathml_tex_grammar.specs.Refusal.{NoDefinition, Refusal, refusal_at}
+use Rattle.latex2mathml_tex_grammar.specs.Units.{Unit, Units, Next, End, Stop, HasUnits}
+use Rattle.latex2mathml_tex_grammar.specs.UsualMacros.{usual_macros}
+
+-- the macros that hold behind the definitions that these units are, where these held before, or the refusal of them
+pub data ReadsDefinitions : Table → Units → Outcome Table → Type 0 where
+  no_more : {table : Table} {l : Units} {place : ℕ}
+      → past_space l ≡ End place
+      → ReadsDefinitions table l (Read table (End place))
+  stopped : {table : Table} {l : Units} {r : Refusal}
+      → past_space l ≡ Stop r
+      → ReadsDefinitions table l (Refused r)
+  defines : {table : Table} {l m n : Units} {u : Unit} {word : Word} {d : Definition} {o : Outcome Table}
+      → past_space l ≡ Next u m
+      → word_of u.piece ≡ Some word
+      → definition_of word u.place m ≡ Read d n
+      → ReadsDefinitions (behind_definition word d table) n o
+      → ReadsDefinitions table l o
+  no_definition : {table : Table} {l m : Units} {u : Unit}
+      → past_space l ≡ Next u m
+      → word_of u.piece ≡ None
+      → ReadsDefinitions table l (Refused (refusal_at NoDefinition u.place))
+  definition_refused : {table : Table} {l m : Units} {u : Unit} {word : Word} {r : Refusal}
+      → past_space l ≡ Next u m
+      → word_of u.piece ≡ Some word
+      → definition_of word u.place m ≡ Refused r
+      → ReadsDefinitions table l (Refused r)
+
+-- these macros hold behind the text, where the usual ones held before
+pub record Defines (text : List ℕ) (macros : Table) : Type 0 where
+  pub units : Units
+  pub end : ℕ
+  pub spelled : HasUnits 0 text units
+  pub read : ReadsDefinitions usual_macros units (Read macros (End end))
+
+-- the text is refused
+pub record AreRefused (text : List ℕ) (refusal : Refusal) : Type 0 where
+  pub units : Units
+  pub spelled : HasUnits 0 text units
+  pub refused : ReadsDefinitions usual_macros units (Refused refusal)

@@ -1,0 +1,233 @@
+-- Definitions, which stand in the text. Each is a word, a name, how many arguments the macro takes, and its body. What is
+-- none is refused: where the word stands, or at a brace that is not closed. White space between its parts is nothing.
+use Rattle.std.specs.Prelude.{ℕ, zero, suc, ◌+◌, ◌-◌, Bool, true, false, ◌&&◌, nat_lt, List, [], ◌∷◌, ◌++◌, ◌==◌, codes, Option, Some, None, if◌then◌else◌}
+use Rattle.std.specs.{Char.is_ascii_digit, Str.byte, Str.bytes_eq}
+use Rattle.latex2mathml_tex_grammar.specs.Arguments.{NoBrace, Brace, brace_of, argument, and_then}
+use Rattle.latex2mathml_tex_grammar.specs.Macros.{Part, Fixed, Argument, Macro, macro, Table, with_macro}
+use Rattle.latex2mathml_tex_grammar.specs.{Next.is_space_piece, Next.past_space, Reading.Outcome, Reading.Read, Reading.Refused}
+use Rattle.latex2mathml_tex_grammar.specs.Refusal.{MissingMacroName, WrongParameters, OptionalArgument, DelimitedArgument, UnknownParameter, refusal_at}
+use Rattle.latex2mathml_tex_grammar.specs.Units.{Piece, Open, Close, Command, Character, Unit, Units, Next, End, Stop}
+
+-- the words that define
+pub data Word : Type 0 where
+  -- `\newcommand` and `\renewcommand`. Either defines a name anew that stands for a macro.
+  NewCommand : Word
+  -- `\providecommand`, which leaves such a name as it is
+  ProvideCommand : Word
+  -- `\def`
+  Def : Word
+  -- `\DeclareMathOperator`
+  DeclareOperator : Word
+
+abbrev pub word_named : List ℕ → Option Word
+word_named name =
+    if bytes_eq name (codes "newcommand") then Some NewCommand
+    else if bytes_eq name (codes "renewcommand") then Some NewCommand
+    else if bytes_eq name (codes "providecommand") then Some ProvideCommand
+    else if bytes_eq name (codes "def") then Some Def
+    else if bytes_eq name (codes "DeclareMathOperator") then Some DeclareOperator
+    else None
+
+-- what is defined
+pub record Definition : Type 0 where
+  pub name : List ℕ
+  pub stands_for : Macro
+
+abbrev pub definition : List ℕ → Macro → Definition
+definition name m = record { name = name; stands_for = m }
+
+-- Signs between the parts
+
+abbrev pub is_character : ℕ → Piece → Bool
+is_character c (Character d) = d == c
+is_character c piece = false
+
+abbrev pub sign_here : ℕ → Units → Bool × Units
+sign_here c (Next u l) = if is_character c u.piece then (true, l) else (false, Next u l)
+sign_here c (End place) = (false, End place)
+sign_here c (Stop r) = (false, Stop r)
+
+-- whether this character stands next, and the units behind it, where it does
+abbrev pub sign : ℕ → Units → Bool × Units
+sign c l = sign_here c (past_space l)
+
+abbrev pub digit_of : Piece → Option ℕ
+digit_of (Character c) = if is_ascii_digit c then Some (c - byte "0") else None
+digit_of piece = None
+
+abbrev pub digit_found : Option ℕ → Unit → Units → Option ℕ × Units
+digit_found (Some d) u l = (Some d, l)
+digit_found None u l = (None, Next u l)
+
+abbrev pub digit_here : Units → Option ℕ × Units
+digit_here (Next u l) = digit_found (digit_of u.piece) u l
+digit_here (End place) = (None, End place)
+digit_here (Stop r) = (None, Stop r)
+
+-- the number that stands next, which is one digit, and the units behind it
+abbrev pub digit : Units → Option ℕ × Units
+digit l = digit_here (past_space l)
+
+-- The name, which may stand between braces
+
+abbrev pub are_space : List Unit → Bool
+are_space [] = true
+are_space (u ∷ us) = is_space_piece u.piece && are_space us
+
+abbrev pub only_name : Piece → List Unit → Option (List ℕ)
+only_name (Command name) us = if are_space us then Some name else None
+only_name piece us = None
+
+-- the one command that these units are, white space aside
+abbrev pub name_in : List Unit → Option (List ℕ)
+name_in [] = None
+name_in (u ∷ us) = if is_space_piece u.piece then name_in us else only_name u.piece us
+
+abbrev pub name_read : ℕ → Option (List ℕ) → Units → Outcome (List ℕ)
+name_read place (Some name) l = Read name l
+name_read place None l = Refused (refusal_at MissingMacroName place)
+
+abbrev pub name_of : ℕ → Units → Outcome (List ℕ)
+name_of place l = and_then (argument place l) (λ us m. name_read place (name_in us) m)
+
+-- How many arguments: a digit between brackets
+
+-- a second bracket begins what stands for an argument that is left out
+abbrev pub without_default : ℕ → ℕ → Bool × Units → Outcome ℕ
+without_default place n (true, l) = Refused (refusal_at OptionalArgument place)
+without_default place n (false, l) = Read n l
+
+abbrev pub number_closed : ℕ → ℕ → Bool × Units → Outcome ℕ
+number_closed place n (true, l) = without_default place n (sign (byte "[") l)
+number_closed place n (false, l) = Refused (refusal_at WrongParameters place)
+
+abbrev pub number_in : ℕ → Option ℕ × Units → Outcome ℕ
+number_in place (Some n, l) = number_closed place n (sign (byte "]") l)
+number_in place (None, l) = Refused (refusal_at WrongParameters place)
+
+abbrev pub number_opened : ℕ → Bool × Units → Outcome ℕ
+number_opened place (true, l) = number_in place (digit l)
+number_opened place (false, l) = Read 0 l
+
+abbrev pub number_of : ℕ → Units → Outcome ℕ
+number_of place l = number_opened place (sign (byte "[") l)
+
+-- .. or `#1`, `#2` and so on, in this order
+
+abbrev pub numbered : ℕ → Bool × Units → (Units → Outcome ℕ) → Outcome ℕ
+numbered place (true, l) more = more l
+numbered place (false, l) more = Refused (refusal_at WrongParameters place)
+
+abbrev pub parameter : ℕ → ℕ → Bool × Units → (Units → Outcome ℕ) → Outcome ℕ
+parameter place n (true, l) more = numbered place (sign (byte "1" + n) l) more
+parameter place n (false, l) more = Read n l
+
+-- the parameters behind n others, of which there can be so many more
+unfoldable pub parameters : ℕ → ℕ → ℕ → Units → Outcome ℕ
+parameters place zero n l = Read n l
+parameters place (suc more) n l = parameter place n (sign (byte "#") l) (parameters place more (suc n))
+
+-- The body
+
+-- the argument with this number, which is counted from 1, of so many
+abbrev pub argument_part : ℕ → Option ℕ → Option Part
+argument_part n (Some zero) = None
+argument_part n (Some (suc k)) = if nat_lt k n then Some (Argument k) else None
+argument_part n None = None
+
+-- what stands for a piece behind a number sign: an argument, or a number sign
+abbrev pub parameter_part : ℕ → Piece → Option Part
+parameter_part n piece =
+    if is_character (byte "#") piece then Some (Fixed piece) else argument_part n (digit_of piece)
+
+abbrev pub part_before : Option Part → Option (List Part) → Option (List Part)
+part_before (Some part) (Some parts) = Some (part ∷ parts)
+part_before (Some part) None = None
+part_before None parts = None
+
+-- the parts that units are, the first of which may stand behind a number sign, where there are so many arguments
+abbrev pub parts_behind : Bool → ℕ → List Unit → Option (List Part)
+parts_behind true n [] = None
+parts_behind false n [] = Some []
+parts_behind true n (u ∷ us) = part_before (parameter_part n u.piece) (parts_behind false n us)
+parts_behind false n (u ∷ us) =
+    if is_character (byte "#") u.piece then parts_behind true n us
+    else part_before (Some (Fixed u.piece)) (parts_behind false n us)
+
+abbrev pub parts_of : ℕ → List Unit → Option (List Part)
+parts_of = parts_behind false
+
+abbrev pub body_read : ℕ → Option (List Part) → Units → Outcome (List Part)
+body_read place (Some parts) l = Read parts l
+body_read place None l = Refused (refusal_at UnknownParameter place)
+
+-- a body, of a macro with so many arguments
+abbrev pub body : ℕ → ℕ → Units → Outcome (List Part)
+body place n l = and_then (argument place l) (λ us m. body_read place (parts_of n us) m)
+
+-- another sign than a brace stands next
+abbrev pub is_delimited : Units → Bool
+is_delimited (Next u l) = is_no_brace (brace_of u.piece)
+  where
+    is_no_brace : Brace → Bool
+    is_no_brace NoBrace = true
+    is_no_brace brace = false
+is_delimited l = false
+
+-- .. which is between braces
+abbrev pub body_in_braces : ℕ → ℕ → Units → Outcome (List Part)
+body_in_braces place n l =
+    if is_delimited (past_space l) then Refused (refusal_at DelimitedArgument place) else body place n l
+
+-- what the name of an operator stands for; with a star it has limits
+abbrev pub operator_parts : Bool → List Part → List Part
+operator_parts star parts =
+    Fixed (Command (codes "operatorname")) ∷ (starred star ++ Fixed Open ∷ (parts ++ Fixed Close ∷ []))
+  where
+    starred : Bool → List Part
+    starred true = Fixed (Character (byte "*")) ∷ []
+    starred false = []
+
+-- the word that a piece is
+abbrev pub word_of : Piece → Option Word
+word_of (Command name) = word_named name
+word_of piece = None
+
+-- The definitions that stand behind their words
+
+abbrev pub command_definition : ℕ → Units → Outcome Definition
+command_definition place l =
+    and_then (name_of place (sign (byte "*") l).1) (λ name m.
+    and_then (number_of place m) (λ n k.
+    and_then (body place n k) (λ parts rest. Read (definition name (macro n parts)) rest)))
+
+abbrev pub plain_definition : ℕ → Units → Outcome Definition
+plain_definition place l =
+    and_then (name_of place l) (λ name m.
+    and_then (parameters place 9 0 m) (λ n k.
+    and_then (body_in_braces place n k) (λ parts rest. Read (definition name (macro n parts)) rest)))
+
+abbrev pub operator_definition : ℕ → Units → Outcome Definition
+operator_definition place l =
+    and_then (name_of place (sign (byte "*") l).1) (λ name m.
+    and_then (body place 0 m) (λ parts rest.
+    Read (definition name (macro 0 (operator_parts (sign (byte "*") l).0 parts))) rest))
+
+-- the definition behind a word at this place
+abbrev pub definition_of : Word → ℕ → Units → Outcome Definition
+definition_of NewCommand place l = command_definition place l
+definition_of ProvideCommand place l = command_definition place l
+definition_of Def place l = plain_definition place l
+definition_of DeclareOperator place l = operator_definition place l
+
+-- the macros that hold behind a definition
+
+abbrev pub provided : Definition → Option Macro → Table → Table
+provided d (Some m) table = table
+provided d None table = with_macro d.name d.stands_for table
+
+abbrev pub behind_definition : Word → Definition → Table → Table
+behind_definition ProvideCommand d table = provided d (table d.name) table
+behind_definition NewCommand d table = with_macro d.name d.stands_for table
+behind_definition Def d table = with_macro d.name d.stands_for table
+behind_definition DeclareOperator d table = with_macro d.name d.stands_for table

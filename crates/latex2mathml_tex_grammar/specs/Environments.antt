@@ -1,0 +1,100 @@
+-- The environments: each is a table. A name is its bytes.
+use Rattle.std.specs.Prelude.{ℕ, ◌==◌, Bool, true, false, List, [], ◌∷◌, Option, Some, None, codes, if◌then◌else◌}
+use Rattle.std.specs.{Str.byte, Str.bytes_eq}
+use Rattle.latex2mathml_elements.specs.Columns.{Column, Centered, LeftAligned, RightAligned, SecondOfPair, Dense, Columns, Alike, InPairs, Listed}
+use Rattle.latex2mathml_tex_grammar.specs.Atoms.{Before, After, Nothing}
+use Rattle.latex2mathml_tex_grammar.specs.Scanning.{Argument, ColumnList, Number}
+use Rattle.latex2mathml_tex_grammar.specs.Symbols.{Style, InDisplay, InText, InScript, Ordinary}
+
+-- what the first atom of a cell stands behind: the second of a pair goes on with the first
+abbrev pub before_cell : Column → Before
+before_cell SecondOfPair = After Ordinary
+before_cell column = Nothing
+
+-- the column of a letter, and those of a text of letters
+abbrev pub column_of : ℕ → Column
+column_of c = if c == byte "l" then LeftAligned else if c == byte "r" then RightAligned else Centered
+
+abbrev pub columns_of : List ℕ → List Column
+columns_of [] = []
+columns_of (c ∷ cs) = column_of c ∷ columns_of cs
+
+pub record Environment : Type 0 where
+  -- the delimiters around it, where it has any; an empty text is none
+  pub delimiters : Option (List ℕ × List ℕ)
+  pub columns : Columns
+  -- the style of its cells
+  pub style : Style
+  -- whether a letter in brackets may say how it stands in its line
+  pub may_have_position : Bool
+  -- what stands in braces behind its name
+  pub argument : Option Argument
+
+abbrev pub cells_in : Columns → Style → Environment
+cells_in columns style = record { delimiters = None; columns = columns; style = style; may_have_position = false; argument = None }
+
+abbrev pub matrix : Environment
+matrix = cells_in (Alike Centered) InText
+
+abbrev pub between : List ℕ → List ℕ → Environment → Environment
+between opening closing e = record e { delimiters = Some (opening, closing) }
+
+abbrev pub lines : Environment
+lines = cells_in (Alike Centered) InDisplay
+
+abbrev pub pairs : Environment
+pairs = cells_in InPairs InDisplay
+
+abbrev pub placed : Environment → Environment
+placed e = record e { may_have_position = true }
+
+abbrev pub with_argument : Argument → Environment → Environment
+with_argument argument e = record e { argument = Some argument }
+
+-- the two sides of a relation, and the relation between them
+abbrev pub around_relation : Environment
+around_relation = cells_in (Listed (RightAligned ∷ Centered ∷ LeftAligned ∷ [])) InDisplay
+
+unfoldable pub environments : List (List ℕ × Environment)
+environments =
+    (codes "Bmatrix", between (codes "{") (codes "}") matrix) ∷
+    (codes "Vmatrix", between (0xE2 ∷ 0x80 ∷ 0x96 ∷ []) (0xE2 ∷ 0x80 ∷ 0x96 ∷ []) matrix) ∷  -- ‖
+    (codes "align", pairs) ∷
+    (codes "align*", pairs) ∷
+    (codes "alignat", with_argument Number pairs) ∷
+    (codes "alignat*", with_argument Number pairs) ∷
+    (codes "aligned", placed pairs) ∷
+    (codes "alignedat", with_argument Number (placed pairs)) ∷
+    (codes "array", with_argument ColumnList (placed matrix)) ∷
+    (codes "bmatrix", between (codes "[") (codes "]") matrix) ∷
+    (codes "cases", between (codes "{") [] (cells_in (Alike LeftAligned) InText)) ∷
+    (codes "dcases", between (codes "{") [] (cells_in (Alike LeftAligned) InDisplay)) ∷
+    (codes "drcases", between [] (codes "}") (cells_in (Alike LeftAligned) InDisplay)) ∷
+    (codes "eqnarray", around_relation) ∷
+    (codes "eqnarray*", around_relation) ∷
+    (codes "equation", lines) ∷
+    (codes "equation*", lines) ∷
+    (codes "flalign", pairs) ∷
+    (codes "flalign*", pairs) ∷
+    (codes "gather", lines) ∷
+    (codes "gather*", lines) ∷
+    (codes "gathered", placed lines) ∷
+    (codes "matrix", matrix) ∷
+    (codes "multline", cells_in (Alike LeftAligned) InDisplay) ∷
+    (codes "multline*", cells_in (Alike LeftAligned) InDisplay) ∷
+    (codes "pmatrix", between (codes "(") (codes ")") matrix) ∷
+    (codes "rcases", between [] (codes "}") (cells_in (Alike LeftAligned) InText)) ∷
+    (codes "smallmatrix", cells_in (Alike Dense) InScript) ∷
+    (codes "split", pairs) ∷
+    (codes "subarray", with_argument ColumnList (cells_in (Alike Dense) InScript)) ∷
+    (codes "substack", cells_in (Alike Dense) InScript) ∷
+    (codes "vmatrix", between (codes "|") (codes "|") matrix) ∷
+    []
+
+-- the entry with this name, where there is one
+abbrev pub entry_environment : List (List ℕ × Environment) → List ℕ → Option Environment
+entry_environment [] name = None
+entry_environment (entry ∷ entries) name = if bytes_eq entry.0 name then Some entry.1 else entry_environment entries name
+
+unfoldable pub environment_of : List ℕ → Option Environment
+environment_of name = entry_environment environments name

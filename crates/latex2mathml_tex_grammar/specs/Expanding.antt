@@ -1,0 +1,22 @@
+-- The expansion of units, computed, so that what is left of a text can be seen as what it expands to. `Expands` says what
+-- it is: nothing that is promised rests on how it is found here.
+use Rattle.std.specs.Prelude.{ℕ, zero, suc, ◌+◌}
+use Rattle.latex2mathml_tex_grammar.specs.Expansion.{Turn, Stays, Turns, Fails, turn}
+use Rattle.latex2mathml_tex_grammar.specs.Macros.{Table, count}
+use Rattle.latex2mathml_tex_grammar.specs.Units.{Unit, Units, Next, End, Stop}
+
+abbrev pub turned : Turn → Table → ℕ → ℕ → Unit → Units → (Table → ℕ → ℕ → Units → Units) → Units
+turned Stays table uses room u l more = Next u (more table uses room l)
+turned (Turns next uses_left room_left m) table uses room u l more = more next uses_left room_left m
+turned (Fails r) table uses room u l more = Stop r
+
+-- the expansion, where so many steps are enough
+unfoldable pub expansion_within : ℕ → Table → ℕ → ℕ → Units → Units
+expansion_within zero table uses room l = l
+expansion_within (suc n) table uses room (Next u l) = turned (turn table uses room u l) table uses room u l (expansion_within n)
+expansion_within (suc n) table uses room (End place) = End place
+expansion_within (suc n) table uses room (Stop r) = Stop r
+
+-- the expansion of units
+unfoldable pub expansion : Table → ℕ → ℕ → Units → Units
+expansion table uses room l = expansion_within (suc (count l + room)) table uses room l

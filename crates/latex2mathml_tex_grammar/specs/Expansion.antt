@@ -1,0 +1,90 @@
+-- Expansion: what units come to when the macros that they use are replaced, and the definitions among them taken. What is
+-- refused ends the units, as what is no unit does.
+use Rattle.std.specs.Prelude.{◌≡◌, ℕ, zero, suc, ◌-◌, nat_lt, List, length, Option, Some, None, if◌then◌else◌}
+use Rattle.latex2mathml_tex_grammar.specs.Arguments.{arguments}
+use Rattle.latex2mathml_tex_grammar.specs.Definitions.{Word, word_named, Definition, definition_of, behind_definition}
+use Rattle.latex2mathml_tex_grammar.specs.Macros.{Macro, Table, put, before}
+use Rattle.latex2mathml_tex_grammar.specs.Reading.{Outcome, Read, Refused}
+use Rattle.latex2mathml_tex_grammar.specs.Refusal.{TooManyExpansions, Refusal, refusal_at}
+use Rattle.latex2mathml_tex_grammar.specs.Units.{Piece, Command, Unit, Units, Next, End, Stop}
+
+-- how many macros a text can use, and how many units can be put in place of them: the expansion of each text ends
+abbrev pub most_uses : ℕ
+most_uses = 1000
+
+abbrev pub most_units : ℕ
+most_units = 100000
+
+-- what a unit is to the macros that hold
+pub data Role : Type 0 where
+  -- the use of a macro
+  Uses : Macro → Role
+  -- the word of a definition
+  Defines : Word → Role
+  -- neither
+  Stands : Role
+
+abbrev pub word_role : Option Word → Role
+word_role (Some word) = Defines word
+word_role None = Stands
+
+abbrev pub name_role : Option Macro → List ℕ → Role
+name_role (Some m) name = Uses m
+name_role None name = word_role (word_named name)
+
+-- a macro may have the name of any command, and comes first
+abbrev pub role_of : Table → Piece → Role
+role_of table (Command name) = name_role (table name) name
+role_of table piece = Stands
+
+-- What becomes of a unit before others
+pub data Turn : Type 0 where
+  -- it stands, and the units after it are expanded
+  Stays : Turn
+  -- these units are expanded in place of it and those after it: with these macros, and so many of them more that can
+  -- be used and units that can be put
+  Turns : Table → ℕ → ℕ → Units → Turn
+  -- it is refused
+  Fails : Refusal → Turn
+
+-- these units take the place of the macro that is used here, if so many can be put
+abbrev pub replaced : Table → ℕ → ℕ → Unit → List Unit → Units → Turn
+replaced table uses room u us l =
+    if nat_lt room (length us) then Fails (refusal_at TooManyExpansions u.place)
+    else Turns table uses (room - length us) (before us l)
+
+abbrev pub with_arguments : Table → ℕ → ℕ → Unit → Macro → Outcome (List (List Unit)) → Turn
+with_arguments table uses room u m (Read args l) = replaced table uses room u (put args u.place m.body) l
+with_arguments table uses room u m (Refused r) = Fails r
+
+abbrev pub used : Table → ℕ → ℕ → Unit → Macro → Units → Turn
+used table zero room u m l = Fails (refusal_at TooManyExpansions u.place)
+used table (suc uses) room u m l = with_arguments table uses room u m (arguments u.place m.arity l)
+
+abbrev pub defined : Table → ℕ → ℕ → Word → Outcome Definition → Turn
+defined table uses room word (Read d l) = Turns (behind_definition word d table) uses room l
+defined table uses room word (Refused r) = Fails r
+
+abbrev pub turn_of : Role → Table → ℕ → ℕ → Unit → Units → Turn
+turn_of (Uses m) table uses room u l = used table uses room u m l
+turn_of (Defines word) table uses room u l = defined table uses room word (definition_of word u.place l)
+turn_of Stands table uses room u l = Stays
+
+abbrev pub turn : Table → ℕ → ℕ → Unit → Units → Turn
+turn table uses room u l = turn_of (role_of table u.piece) table uses room u l
+
+-- what units expand to where these macros hold, so many of them can be used, and so many units be put
+pub data Expands : Table → ℕ → ℕ → Units → Units → Type 0 where
+  at_end : {table : Table} {uses room place : ℕ} → Expands table uses room (End place) (End place)
+  at_stop : {table : Table} {uses room : ℕ} {r : Refusal} → Expands table uses room (Stop r) (Stop r)
+  stays : {table : Table} {uses room : ℕ} {u : Unit} {l m : Units}
+      → turn table uses room u l ≡ Stays
+      → Expands table uses room l m
+      → Expands table uses room (Next u l) (Next u m)
+  turns : {table next : Table} {uses room uses_left room_left : ℕ} {u : Unit} {l m n : Units}
+      → turn table uses room u l ≡ Turns next uses_left room_left n
+      → Expands next uses_left room_left n m
+      → Expands table uses room (Next u l) m
+  fails : {table : Table} {uses room : ℕ} {u : Unit} {l : Units} {r : Refusal}
+      → turn table uses room u l ≡ Fails r
+      → Expands table uses room (Next u l) (Stop r)

@@ -1,0 +1,23 @@
+-- What some texts expand to.
+use Rattle.std.specs.Prelude.{ℕ, List, codes}
+use Rattle.std.specs.Str.{byte}
+use Rattle.latex2mathml_tex_grammar.specs.{Cutting.units_of, Expansion.Expands, UsualMacros.usual_macros}
+use Rattle.latex2mathml_tex_grammar.specs.Refusal.{MissingArgument, TooManyExpansions, refusal_at}
+use Rattle.latex2mathml_tex_grammar.specs.Units.{Open, Command, Character, Units, Next, End, Stop, unit}
+
+-- the text comes to these units, where only the usual macros hold, four can be used and ten units be put
+abbrev pub ExpandsTo : List ℕ → Units → Type 0
+ExpandsTo text units = Expands usual_macros 4 10 (units_of 0 text) units
+
+pub record AreExpansionExamples : Type 0 where
+  -- a definition is nothing, and holds from there on. A body has the place of the use, an argument its own.
+  pub defined : ExpandsTo (codes "\\R\\def\\R#1{x#1}\\R y")
+      (Next (unit (Command (codes "R")) 0) (Next (unit (Character (byte "x")) 15) (Next (unit (Character (byte "y")) 18) (End 19))))
+  -- what takes the place of a macro is read again
+  pub again : ExpandsTo (codes "\\def\\a{\\b}\\def\\b{z}\\a")
+      (Next (unit (Character (byte "z")) 19) (End 21))
+  -- a macro that uses itself is refused
+  pub endless : ExpandsTo (codes "\\def\\a{x\\a}\\a")
+      (Next (unit (Character (byte "x")) 11) (Next (unit (Character (byte "x")) 11) (Next (unit (Character (byte "x")) 11) (Next (unit (Character (byte "x")) 11) (Stop (refusal_at TooManyExpansions 11))))))
+  -- and so is one that lacks an argument
+  pub lacking : ExpandsTo (codes "{\\bra}") (Next (unit Open 0) (Stop (refusal_at MissingArgument 1)))

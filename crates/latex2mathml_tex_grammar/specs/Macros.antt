@@ -1,0 +1,62 @@
+-- Macros: what a name stands for, and what takes the place of its use.
+use Rattle.std.specs.Prelude.{◌≡◌, ℕ, zero, suc, List, [], ◌∷◌, ◌++◌, Option, Some, None, if◌then◌else◌}
+use Rattle.std.specs.Str.{bytes_eq}
+use Rattle.latex2mathml_tex_grammar.specs.Units.{Piece, Command, Unit, unit, Units, Next}
+
+-- a part of a body
+pub data Part : Type 0 where
+  -- a piece that stands there as it is
+  Fixed : Piece → Part
+  -- an argument, by its number, which is counted from 0
+  Argument : ℕ → Part
+
+-- how many arguments a macro takes, and what takes its place
+pub record Macro : Type 0 where
+  pub arity : ℕ
+  pub body : List Part
+
+abbrev pub macro : ℕ → List Part → Macro
+macro arity body = record { arity = arity; body = body }
+
+-- the macros that hold: what each name stands for, where it is a macro's. A name is its bytes, without the backslash.
+abbrev pub Table : Type 0
+Table = List ℕ → Option Macro
+
+-- each name stands for the same
+abbrev pub SameMacros : Table → Table → Type 0
+SameMacros macros others = (name : List ℕ) → macros name ≡ others name
+
+-- from here on the name stands for this macro, whatever it stood for
+abbrev pub with_macro : List ℕ → Macro → Table → Table
+with_macro name m table other = if bytes_eq name other then Some m else table other
+
+-- the macro that a unit uses
+abbrev pub macro_of : Table → Piece → Option Macro
+macro_of table (Command name) = table name
+macro_of table piece = None
+
+-- the argument with this number
+abbrev pub argument_at : List (List Unit) → ℕ → List Unit
+argument_at [] k = []
+argument_at (arg ∷ args) zero = arg
+argument_at (arg ∷ args) (suc k) = argument_at args k
+
+-- what a part of a body puts. Pieces of a body have the place of the macro's use, units of arguments keep theirs.
+abbrev pub put_part : List (List Unit) → ℕ → Part → List Unit
+put_part args place (Fixed piece) = unit piece place ∷ []
+put_part args place (Argument k) = argument_at args k
+
+-- what takes the place of a macro that is used with these arguments at this place
+abbrev pub put : List (List Unit) → ℕ → List Part → List Unit
+put args place [] = []
+put args place (part ∷ parts) = put_part args place part ++ put args place parts
+
+-- these units, and then those
+abbrev pub before : List Unit → Units → Units
+before [] l = l
+before (u ∷ us) l = Next u (before us l)
+
+-- how many units there are
+abbrev pub count : Units → ℕ
+count (Next u l) = suc (count l)
+count l = 0

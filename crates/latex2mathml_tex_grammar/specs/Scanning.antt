@@ -1,0 +1,252 @@
+-- What is taken unit by unit: the name of an environment, its columns, a length. Each unit has a spot, which says what the
+-- unit does there. White space is nothing.
+use Rattle.std.specs.Prelude.{ℕ, ◌==◌, ◌&&◌, ◌||◌, Bool, true, false, List, [], ◌++◌, Option, Some, if◌then◌else◌, codes}
+use Rattle.std.specs.{Char.encode_utf8, Char.is_ascii_digit, Str.byte, Str.bytes_eq}
+use Rattle.latex2mathml_tex_grammar.specs.{Commands.meaning_of, Meaning.Meaning, Meaning.Spacing}
+use Rattle.latex2mathml_tex_grammar.specs.Refusal.{Kind, MissingArgument, MissingName, UnknownColumn, Refusal, refusal_at}
+use Rattle.latex2mathml_tex_grammar.specs.Units.{Piece, Space, Open, Close, Command, Character, Unit, Units, Next, End, Stop}
+
+-- what stands in braces behind `\begin` and its like
+pub data Argument : Type 0 where
+  -- the name of an environment
+  Name : Argument
+  -- the columns of a table
+  ColumnList : Argument
+  -- a number, which means nothing here
+  Number : Argument
+
+-- where a unit stands
+pub data Spot : Type 0 where
+  -- before the brace of an argument, and behind it
+  BeforeArgument : Argument → Spot
+  InArgument : Argument → Spot
+  -- in columns: before the brace of a space between two, and behind it
+  BeforeGap : Spot
+  InGap : Spot
+  -- .. and of the width of one
+  BeforeWidth : Spot
+  InWidth : Spot
+  -- before a brace that is all
+  BeforeBrace : Spot
+  -- before a letter in brackets, which says how a table stands in its line
+  BeforePosition : Spot
+  InPosition : Spot
+  BehindPosition : Spot
+  -- behind the sign that ends a row: before its star, and behind it
+  BeforeStar : Spot
+  BehindStar : Spot
+  -- before a length in brackets, behind the bracket, behind a sign, in the number, behind the first letter of a unit of
+  -- length, and behind the second
+  BeforeLength : Spot
+  InLength : Spot
+  BehindSign : Spot
+  InNumber : Spot
+  BehindLetter : ℕ → Spot
+  BehindLength : Spot
+  -- before a row, where lines may be drawn
+  BeforeRow : Spot
+
+-- what a unit does
+pub data Deed : Type 0 where
+  -- it is nothing, and the next unit stands there
+  Passes : Spot → Deed
+  -- it adds this character, and the next unit stands there
+  Adds : ℕ → Spot → Deed
+  -- it is the last one
+  Ends : Deed
+  -- the unit before it is the last one
+  Leaves : Deed
+  -- what was to be taken does not stand here
+  Misses : Deed
+  -- the unit is refused
+  Refuses : Kind → Deed
+
+abbrev pub passes_if : Bool → Spot → Deed
+passes_if true spot = Passes spot
+passes_if false spot = Misses
+
+abbrev pub ends_if : Bool → Deed
+ends_if true = Ends
+ends_if false = Misses
+
+-- The characters of an argument
+
+-- a dollar sign is no part of a name
+abbrev pub name_deed : ℕ → Deed
+name_deed c = if c == byte "$" then Misses else Adds c (InArgument Name)
+
+-- a column on the left, in the middle, or on the right; the width of one says nothing, but that it is on the left
+abbrev pub column_deed : ℕ → Deed
+column_deed c =
+    if c == byte "l" || c == byte "c" || c == byte "r" then Adds c (InArgument ColumnList)
+    else if c == byte "|" then Passes (InArgument ColumnList)
+    else if c == byte "p" then Adds (byte "l") BeforeWidth
+    else if c == byte "@" then Passes BeforeGap
+    else Refuses UnknownColumn
+
+abbrev pub character_deed : Argument → ℕ → Deed
+character_deed Name c = name_deed c
+character_deed ColumnList c = column_deed c
+character_deed Number c = passes_if (is_ascii_digit c) (InArgument Number)
+
+-- any unit but a character and the brace that ends the argument
+abbrev pub other_deed : Argument → Deed
+other_deed Name = Misses
+other_deed ColumnList = Refuses UnknownColumn
+other_deed Number = Misses
+
+abbrev pub argument_deed : Argument → Piece → Deed
+argument_deed a (Character c) = character_deed a c
+argument_deed a Close = Ends
+argument_deed a Open = other_deed a
+argument_deed a Space = other_deed a
+argument_deed a (Command name) = other_deed a
+
+-- between columns stand spaces alone
+abbrev pub is_spacing : Option Meaning → Bool
+is_spacing (Some (Spacing width)) = true
+is_spacing meaning = false
+
+abbrev pub gap_deed : Piece → Deed
+gap_deed Close = Passes (InArgument ColumnList)
+gap_deed (Command name) = if is_spacing (meaning_of name) then Passes InGap else Refuses UnknownColumn
+gap_deed piece = Refuses UnknownColumn
+
+abbrev pub width_deed : Piece → Deed
+width_deed Close = Passes (InArgument ColumnList)
+width_deed (Character c) = if c == byte "$" then Refuses UnknownColumn else Passes InWidth
+width_deed piece = Refuses UnknownColumn
+
+abbrev pub brace_deed : Deed → Deed → Piece → Deed
+brace_deed opened otherwise Open = opened
+brace_deed opened otherwise piece = otherwise
+
+-- Lengths
+
+abbrev pub is_sign : ℕ → Bool
+is_sign c = c == byte "-" || c == byte "+"
+
+abbrev pub is_in_number : ℕ → Bool
+is_in_number c = is_ascii_digit c || c == byte "."
+
+-- the units of length of TeX, and pixels
+abbrev pub is_unit_of_length : ℕ → ℕ → Bool
+is_unit_of_length c d =
+    (d == byte "c" && (c == byte "c" || c == byte "p"))
+    || (d == byte "d" && c == byte "d")
+    || (d == byte "m" && (c == byte "c" || c == byte "e" || c == byte "m"))
+    || (d == byte "n" && c == byte "i")
+    || (d == byte "p" && (c == byte "b" || c == byte "s"))
+    || (d == byte "t" && c == byte "p")
+    || (d == byte "u" && c == byte "m")
+    || (d == byte "x" && (c == byte "e" || c == byte "p"))
+
+abbrev pub begins_unit_of_length : ℕ → Bool
+begins_unit_of_length c =
+    c == byte "b" || c == byte "c" || c == byte "d" || c == byte "e" || c == byte "i" || c == byte "m" || c == byte "p" || c == byte "s"
+
+abbrev pub is_position : ℕ → Bool
+is_position c = c == byte "t" || c == byte "b" || c == byte "c"
+
+-- what a character does in brackets and before them
+abbrev pub bracket_deed : Spot → ℕ → Deed
+bracket_deed BeforePosition c = passes_if (c == byte "[") InPosition
+bracket_deed InPosition c = passes_if (is_position c) BehindPosition
+bracket_deed BehindPosition c = ends_if (c == byte "]")
+bracket_deed BeforeLength c = passes_if (c == byte "[") InLength
+bracket_deed InLength c = if is_sign c then Passes BehindSign else passes_if (is_in_number c) InNumber
+bracket_deed BehindSign c = passes_if (is_in_number c) InNumber
+bracket_deed InNumber c = if is_in_number c then Passes InNumber else passes_if (begins_unit_of_length c) (BehindLetter c)
+bracket_deed (BehindLetter first) c = passes_if (is_unit_of_length first c) BehindLength
+bracket_deed BehindLength c = ends_if (c == byte "]")
+bracket_deed spot c = Misses
+
+abbrev pub in_brackets : Spot → Piece → Deed
+in_brackets spot (Character c) = bracket_deed spot c
+in_brackets spot piece = Misses
+
+-- Rows
+
+abbrev pub star_deed : Piece → Deed
+star_deed (Character c) = if c == byte "*" then Passes BehindStar else Leaves
+star_deed piece = Leaves
+
+-- the lines between rows
+abbrev pub is_line : List ℕ → Bool
+is_line name = bytes_eq name (codes "hline") || bytes_eq name (codes "hdashline") || bytes_eq name (codes "toprule") || bytes_eq name (codes "midrule") || bytes_eq name (codes "bottomrule")
+
+abbrev pub row_deed : Piece → Deed
+row_deed (Command name) = if is_line name then Passes BeforeRow else Leaves
+row_deed piece = Leaves
+
+-- What the unit does that stands there
+
+abbrev pub deed_there : Spot → Piece → Deed
+deed_there (BeforeArgument a) piece = brace_deed (Passes (InArgument a)) Misses piece
+deed_there (InArgument a) piece = argument_deed a piece
+deed_there BeforeGap piece = brace_deed (Passes InGap) (Refuses UnknownColumn) piece
+deed_there InGap piece = gap_deed piece
+deed_there BeforeWidth piece = brace_deed (Passes InWidth) (Refuses UnknownColumn) piece
+deed_there InWidth piece = width_deed piece
+deed_there BeforeBrace piece = brace_deed Ends Misses piece
+deed_there BeforeStar piece = star_deed piece
+deed_there BehindStar piece = Leaves
+deed_there BeforeRow piece = row_deed piece
+deed_there spot piece = in_brackets spot piece
+
+abbrev pub deed : Spot → Piece → Deed
+deed spot Space = Passes spot
+deed spot piece = deed_there spot piece
+
+-- whether nothing has to follow
+abbrev pub may_end : Spot → Bool
+may_end BeforeStar = true
+may_end BehindStar = true
+may_end BeforeRow = true
+may_end spot = false
+
+-- why it is refused that what was to be taken does not stand there
+abbrev pub missing : Spot → Kind
+missing (BeforeArgument Name) = MissingName
+missing (InArgument Name) = MissingName
+missing spot = MissingArgument
+
+-- What was taken: a text, as its bytes, and the units behind it; or why it is refused
+pub data Found : Type 0 where
+  Given : List ℕ → Units → Found
+  Missing : Refusal → Found
+
+abbrev pub with_character : ℕ → Found → Found
+with_character c (Given more l) = Given (encode_utf8 c ++ more) l
+with_character c (Missing r) = Missing r
+
+-- what comes of a unit, where `behind` gives what is found behind it from each spot on; `place` is of what takes it
+abbrev pub done : ℕ → Spot → Deed → Unit → Units → (Spot → Found) → Found
+done place spot (Passes next) u l behind = behind next
+done place spot (Adds c next) u l behind = with_character c (behind next)
+done place spot Ends u l behind = Given [] l
+done place spot Leaves u l behind = Given [] (Next u l)
+done place spot Misses u l behind = Missing (refusal_at (missing spot) place)
+done place spot (Refuses kind) u l behind = Missing (refusal_at kind u.place)
+
+abbrev pub found_at_end : Bool → Units → Refusal → Found
+found_at_end true l refusal = Given [] l
+found_at_end false l refusal = Missing refusal
+
+-- what is found among these units from this spot on
+abbrev pub scan : ℕ → Units → Spot → Found
+scan place (Next u us) spot = done place spot (deed spot u.piece) u us (scan place us)
+scan place (End at) spot = found_at_end (may_end spot) (End at) (refusal_at (missing spot) place)
+scan place (Stop refusal) spot = found_at_end (may_end spot) (Stop refusal) refusal
+
+-- the units behind it, or all of them, where it does not stand here
+abbrev pub behind_found : Units → Found → Units
+behind_found l (Given text m) = m
+behind_found l (Missing refusal) = l
+
+abbrev pub past : Spot → Units → Units
+past spot l = behind_found l (scan 0 l spot)
+
+-- behind the sign that ends a row: its star, a length, and the lines before the next row are nothing
+abbrev pub past_break : Units → Units
+past_break l = past BeforeRow (past BeforeLength (past BeforeStar l))

@@ -1,0 +1,55 @@
+-- The usual macros, which hold in every text, in the order of their names' bytes. A name and a body are their bytes, a name
+-- without its backslash. A definition of the author's comes first.
+use Rattle.std.specs.Prelude.{ℕ, List, [], ◌∷◌, Some, None, codes, if◌then◌else◌}
+use Rattle.std.specs.{Option.unwrap_or, Str.bytes_eq, Str.chars}
+use Rattle.latex2mathml_tex_grammar.specs.{Cutting.units_of, Definitions.parts_of, Macros.Macro, Macros.macro, Macros.Table}
+use Rattle.latex2mathml_tex_grammar.specs.Units.{Unit, Units, Next}
+
+-- the name, how many arguments the macro takes, and the text of its body
+unfoldable pub usual_entries : List (List ℕ × ℕ × List ℕ)
+usual_entries =
+    (codes "Bbbk", 0, codes "\\mathbb{k}") ∷
+    (codes "LaTeX", 0, codes "\\text{LaTeX}") ∷
+    (codes "TeX", 0, codes "\\text{TeX}") ∷
+    (codes "bmod", 0, codes "\\mathbin{\\operatorname{mod}}") ∷
+    (codes "bra", 1, codes "\\langle #1|") ∷
+    (codes "braket", 1, codes "\\langle #1\\rangle") ∷
+    (codes "coloneq", 0, codes "\\mathrel{:=}") ∷
+    (codes "coloneqq", 0, codes "\\mathrel{:=}") ∷
+    (codes "dots", 0, codes "\\ldots") ∷
+    (codes "dotsb", 0, codes "\\cdots") ∷
+    (codes "dotsc", 0, codes "\\ldots") ∷
+    (codes "dotsi", 0, codes "\\cdots") ∷
+    (codes "dotsm", 0, codes "\\cdots") ∷
+    (codes "dotso", 0, codes "\\ldots") ∷
+    (codes "hdots", 0, codes "\\ldots") ∷
+    (codes "iff", 0, codes "\\;\\Longleftrightarrow\\;") ∷
+    (codes "impliedby", 0, codes "\\;\\Longleftarrow\\;") ∷
+    (codes "implies", 0, codes "\\;\\Longrightarrow\\;") ∷
+    (codes "ket", 1, codes "|#1\\rangle") ∷
+    (codes "mod", 1, codes "\\quad\\operatorname{mod}\\;#1") ∷
+    (codes "pmod", 1, codes "\\quad(\\operatorname{mod}\\;#1)") ∷
+    (codes "pod", 1, codes "\\quad(#1)") ∷
+    (codes "qed", 0, codes "\\square") ∷
+    (codes "sfrac", 2, codes "#1/#2") ∷
+    (codes "varDelta", 0, codes "\\mathit{\\Delta}") ∷
+    (codes "varGamma", 0, codes "\\mathit{\\Gamma}") ∷
+    (codes "varOmega", 0, codes "\\mathit{\\Omega}") ∷
+    (codes "varSigma", 0, codes "\\mathit{\\Sigma}") ∷
+    []
+
+-- the units as a list
+abbrev pub listed : Units → List Unit
+listed (Next u l) = u ∷ listed l
+listed l = []
+
+-- the macro with so many arguments, whose body has this text
+abbrev pub macro_with : ℕ → List ℕ → Macro
+macro_with arity text = macro arity (unwrap_or (parts_of arity (listed (units_of 0 (chars text)))) [])
+
+abbrev pub entry_macro : List (List ℕ × ℕ × List ℕ) → Table
+entry_macro [] name = None
+entry_macro (entry ∷ entries) name = if bytes_eq entry.0 name then Some (macro_with entry.1 entry.2) else entry_macro entries name
+
+unfoldable pub usual_macros : Table
+usual_macros name = entry_macro usual_entries name

@@ -1,0 +1,160 @@
+"""How instructions, memory and requests for memory of `tex2mathml` grow with the text, and what a second formula takes.
+
+Each count is that of a run whose answer is whole: a program that answers nothing would count as cheap.
+"""
+import unittest
+
+import pytest
+
+from tests import faulty, support
+from tests.instructions import instructions
+from tests.test_tex_depth import CONSTRUCTS
+
+pytestmark = [pytest.mark.long, pytest.mark.timeout(1800)]
+
+# Four times the text takes at most this many times as much.
+MOST_TIMES = 4.1
+# what every run takes, whatever its input
+OWN_BYTES = 64 << 10
+# The text, its units, the answer, the elements and what is in them, the frames, and what is still to be written: each of these lists
+# asks once more where it doubles, which it does at most 17 times. So 100 kB of one text were counted with at most 131 requests.
+MOST_REQUESTS = 150
+# Of a second formula that is the same as the first only the input and the answers need more room, each once.
+MOST_FOR_ANOTHER = 3
+
+PIECES = ["x", "1", "1.5 ", "+", "x+", "\\alpha ", "x_1^2", "x''", "\\sin x", "\\frac12", "{ab}", "\\left(x\\right)", "\\text{a b}", "\\mathrm{ab}",
+          "\\operatorname{ab}", "% c\n", "\\not=", " x", "\\,", "𝑥"]
+IN_WORDS = ["a", "$x$", "{a}", "\\textbf{a}", "\\alpha", " ", "a "]
+BETWEEN_DELIMITERS = ["x", "\\middle|", "\\frac12\\middle|"]
+# each of these looks for a mark, or for an operand, behind the white space
+BEFORE_SPACES = ["\\hat ", "\\sqrt ", "\\frac1", "\\overset y"]
+
+
+def repeat(before, piece, behind):
+    return lambda count: before + piece * count + behind
+
+
+def nest(kind):
+    return lambda count: kind.before * count + "x" + kind.behind * count
+
+
+def before_spaces(piece):
+    """Each piece is at the end of what ends before white space, and none may look through all of it again."""
+    return lambda count: piece * count + "x" + " " * (8 * count) + "y"
+
+
+# a name, and a text of so many pieces
+TEXTS = {
+    **{f"{piece} side by side": repeat("", piece, "") for piece in PIECES},
+    **{f"{piece} in words": repeat("\\text{", piece, "}") for piece in IN_WORDS},
+    **{f"{piece} between delimiters": repeat("\\left(", piece, "\\right)") for piece in BETWEEN_DELIMITERS},
+    **{f"white space behind {piece}": before_spaces(piece) for piece in BEFORE_SPACES},
+    **{f"{name} in itself": nest(kind) for name, kind in CONSTRUCTS.items()},
+    "white space": repeat("x", " ", "y"),
+    "a long name": repeat("\\operatorname{", "a", "}"),
+}
+
+
+def pieces_in(text_of, size):
+    """How many pieces there are in a text of about so many bytes."""
+    few, many = (len(text_of(count).encode()) for count in (1, 1001))
+    return max(size * 1000 // (many - few), 1)
+
+
+class Growth(support.Case):
+    def is_answered(self, done, formulas=1):
+        self.assertEqual((done.returncode, done.stderr), (0, b""))
+        self.assertEqual([done.stdout.count(it) for it in (b"<math ", b"</math>")], [formulas] * 2, support.show(done.stdout))
+
+    def count(self, text):
+        """The counts of a run on one formula."""
+        done, counts = faulty.counts_of([support.tex_program()], stdin=text.encode())
+        self.is_answered(done)
+        return counts
+
+    def count_many(self, texts):
+        """The counts of a run on many formulas."""
+        done, counts = faulty.counts_of([support.tex_program(), "--null"], stdin="\0".join(texts).encode())
+        self.is_answered(done, len(texts))
+        return counts
+
+
+@support.requires("valgrind")
+class Instructions(Growth):
+    """Four times the text takes at most about four times the instructions."""
+
+    def judge(self, text_of):
+        self.is_answered(support.run([support.tex_program()], stdin=text_of(8_000).encode()))
+        few, many = (instructions([support.tex_program()], stdin=text_of(count).encode(), timeout=600) for count in (2_000, 8_000))
+        self.assertLessEqual(many, MOST_TIMES * few, f"{few:,} for 2,000 pieces, {many:,} for 8,000")
+
+    def test_many_formulas(self):
+        """So do four times the formulas."""
+        counted = []
+        for formulas in (500, 2_000):
+            given = b"x_1^2\0{\0" * formulas
+            done = support.run([support.tex_program(), "--null"], stdin=given)
+            self.is_answered(done, formulas)
+            counted.append(instructions([support.tex_program(), "--null"], stdin=given))
+        self.assertLessEqual(counted[1], MOST_TIMES * counted[0])
+
+
+@support.requires("cc")
+class Memory(Growth):
+    """Four times the text takes at most about four times the memory."""
+
+    def judge(self, text_of):
+        pieces = pieces_in(text_of, 25_000)
+        few, many = (self.count(text_of(count))["peak"] for count in (pieces, 4 * pieces))
+        self.assertLessEqual(many, MOST_TIMES * few + OWN_BYTES)
+
+
+@support.requires("cc")
+class Requests(Growth):
+    """Memory is asked for only where a text or a list is full."""
+
+    def judge(self, text_of):
+        self.assertLessEqual(self.count(text_of(pieces_in(text_of, 100_000)))["requests"], MOST_REQUESTS)
+
+
+@support.requires("cc")
+class Another(Growth):
+    """A second formula is converted in the room of the first, and a third one in that of both."""
+
+    def judge(self, text_of):
+        text = text_of(pieces_in(text_of, 20_000))
+        one, two, three = (self.count_many([text] * formulas)["requests"] for formulas in (1, 2, 3))
+        self.assertLessEqual(two - one, MOST_FOR_ANOTHER)
+        self.assertLessEqual(three - two, MOST_FOR_ANOTHER)
+
+    def test_many_formulas(self):
+        """A thousand formulas need room for the input and the answers."""
+        for text in ("x", "x_1^2", "\\frac12", "\\text{ab}", "\\left(x\\right)"):
+            with self.subTest(text):
+                few, many = (self.count_many([text] * formulas)["requests"] for formulas in (1_000, 2_000))
+                self.assertLessEqual(many - few, MOST_FOR_ANOTHER)
+
+    def test_behind_a_refused_one(self):
+        """A formula that is refused leaves its room too."""
+        text = "{" * 10_000
+        few, many = (faulty.counts_of([support.tex_program(), "--null"], stdin="\0".join([text] * formulas + ["x"]).encode())
+                     for formulas in (1, 20))
+        for (done, _), formulas in ((few, 1), (many, 20)):
+            self.is_answered(done)
+            self.assertEqual(done.stdout.count(b"error\n{ is not closed at "), formulas)
+        self.assertLessEqual(many[1]["requests"] - few[1]["requests"], 3 * MOST_FOR_ANOTHER)
+
+
+def add_cases():
+    for way in (Instructions, Memory, Requests, Another):
+        for number, (name, text_of) in enumerate(TEXTS.items()):
+            def case(self, way=way, name=name, text_of=text_of):
+                with self.subTest(name):
+                    way.judge(self, text_of)
+            setattr(way, f"test_{number}", case)
+
+
+add_cases()
+
+if __name__ == "__main__":
+    unittest.main()
