@@ -51,6 +51,11 @@ def count_instructions(command, word, text):
     return instructions([*command, word], text(COUNTED).encode())
 
 
+def count_tex(command, text):
+    """The instructions of a run of `tex2mathml` over a workload."""
+    return instructions([command], text(COUNTED).encode())
+
+
 def figures():
     """The instructions of each workload, by its name, as they stand in the file."""
     lines = [line.split(maxsplit=1) for line in FIGURES.read_text(encoding="utf-8").splitlines()]
@@ -58,8 +63,9 @@ def figures():
 
 
 def renew():
-    """Counts the instructions of each workload, and writes the file."""
+    """Counts the instructions of each workload of both programs, and writes the file."""
     counts = [(count_instructions([program.path()], word, text), name.strip()) for word, name, text in workloads.workloads()]
+    counts += [(count_tex(program.tex_path(), text), name.strip()) for name, text in workloads.tex_workloads()]
     FIGURES.write_text("".join(f"{count:,}  {name}\n" for count, name in counts), encoding="utf-8")
     print(FIGURES.read_text(encoding="utf-8"), end="")
 

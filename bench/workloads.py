@@ -64,5 +64,14 @@ def repeat(formula, size):
 def workloads():
     """What is measured: the program's argument, a name, and a function from a size to the text."""
     documents = [("prose", prose), ("prose and formulas", document), ("real formulas", real_formulas)]
-    return [("document", name, text) for name, text in documents] + [
-        ("inline", formula, lambda size, formula=formula: repeat(formula, size)) for formula in REPEATED]
+    return [("document", name, text) for name, text in documents] + [("inline", *load) for load in repeated()]
+
+
+def repeated():
+    """Formulas that repeat another one: its text as a name, and a function from a size to the formula."""
+    return [(formula, lambda size, formula=formula: repeat(formula, size)) for formula in REPEATED]
+
+
+def tex_workloads():
+    """What is counted of `tex2mathml`: the same formulas."""
+    return [(f"tex2mathml {formula}", text) for formula, text in repeated()]

@@ -12,6 +12,8 @@ from tests import cases
 ROOT = Path(__file__).resolve().parent.parent
 LAUNCHER = ROOT / "latex2mathml"
 BINARY = ROOT / "crates" / "latex2mathml_app" / "out" / "latex2mathml_app"
+TEX_LAUNCHER = ROOT / "tex2mathml"
+TEX_BINARY = ROOT / "crates" / "latex2mathml_tex_app" / "out" / "latex2mathml_tex_app"
 WRONG_WORDS = 2
 # Kinds of tokens that stand for themselves.
 PLAIN = ("Letter", "Operator", "Paren", "Function", "Space", "NewLine")
@@ -35,6 +37,12 @@ def path():
     """The built program. The launcher builds it first if it is missing or older than its sources."""
     subprocess.run([LAUNCHER, "inline"], input=b"", stdout=subprocess.DEVNULL, check=True)
     return BINARY
+
+
+def tex_path():
+    """The built `tex2mathml`, in the same way."""
+    subprocess.run([TEX_LAUNCHER], input=b"", stdout=subprocess.DEVNULL, check=True)
+    return TEX_BINARY
 
 
 def knows(program, word):

@@ -22,6 +22,8 @@ class Code(enum.IntEnum):
     NOT_UTF8 = 2
     TOO_SMALL = 3
     OUT_OF_MEMORY = 4
+    DEFINITION_REFUSED = 5
+    UNKNOWN_FLAGS = 6
 
 
 def by_program(word, given):
@@ -39,9 +41,10 @@ def by_program(word, given):
 @functools.cache
 def library():
     loaded = ctypes.CDLL(str(c_library() / "liblatex2mathml.so"))
-    room = [ctypes.c_char_p, ctypes.c_size_t, ctypes.POINTER(ctypes.c_size_t)]
-    for call, more in ((loaded.latex2mathml_formula, [ctypes.c_bool]), (loaded.latex2mathml_document, [])):
-        call.argtypes = [ctypes.c_char_p, ctypes.c_size_t, *more, *room]
+    text, size = [ctypes.c_char_p, ctypes.c_size_t], ctypes.POINTER(ctypes.c_size_t)
+    for call, given, places in ((loaded.latex2mathml_formula, [*text, ctypes.c_bool], []), (loaded.latex2mathml_document, text, []),
+                                (loaded.latex2mathml_tex, [*text, *text, ctypes.c_bool, ctypes.c_uint32], [size])):
+        call.argtypes = [*given, *text, size, *places]
         call.restype = ctypes.c_uint32
     return loaded
 
@@ -49,14 +52,24 @@ def library():
 def by_library(word, given):
     """The result of the library for C for the input. The first call has a buffer of one byte, the second one of the size needed."""
     if word == "document":
-        call, more = library().latex2mathml_document, []
-    else:
-        call, more = library().latex2mathml_formula, [word == "block"]
+        return answer_of(library().latex2mathml_document, [given, len(given)])
+    return answer_of(library().latex2mathml_formula, [given, len(given), word == "block"])
+
+
+def tex_by_library(word, given, definitions=b""):
+    """The same for LaTeX as authors write it, and the place of what is refused."""
+    place = ctypes.c_size_t(1)
+    texts = [definitions, len(definitions), given, len(given)]
+    code, text = answer_of(library().latex2mathml_tex, [*texts, word == "block", 0], ctypes.byref(place))
+    return code, text, place.value
+
+
+def answer_of(call, given, *places):
     needed = ctypes.c_size_t(1)
     code = Code.TOO_SMALL
     while code == Code.TOO_SMALL:
         room = ctypes.create_string_buffer(max(needed.value, 1))
-        code = call(given, len(given), *more, room, needed.value, ctypes.byref(needed))
+        code = call(*given, room, needed.value, ctypes.byref(needed), *places)
     return Code(code), ctypes.string_at(room, needed.value)
 
 

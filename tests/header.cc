@@ -21,4 +21,12 @@ int main() {
         return 1;
     room.resize(needed);
     std::puts(room.c_str());
+    std::string definitions = "\\def\\less{<}", tex = "x\\less y";
+    size_t place;
+    room.resize(LATEX2MATHML_ROOM(tex.size()));
+    if (latex2mathml_tex(definitions.data(), definitions.size(), tex.data(), tex.size(), true, 0, &room[0], room.size(), &needed,
+                         &place) != LATEX2MATHML_DONE)
+        return 1;
+    room.resize(needed);
+    std::puts(room.c_str());
 }

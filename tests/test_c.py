@@ -7,6 +7,7 @@ import shutil
 
 from tests.cases import every_rule
 from tests.support import Case, ROOT, c_library, requires, run, scratch
+from tests.test_tex_depth import CONSTRUCTS
 
 CC = shlex.split(os.environ.get("CC", "cc"))
 CXX = shlex.split(os.environ.get("CXX", "c++"))
@@ -21,7 +22,7 @@ def math(display):
 
 INLINE, BLOCK = math("inline"), math("block")
 REASON = b'The token "RBrace" is expected, but the token "EOF" is found."'
-CALLS = {"latex2mathml_formula", "latex2mathml_document"}
+CALLS = {"latex2mathml_formula", "latex2mathml_document", "latex2mathml_tex"}
 
 # Lines of `readelf`, and of a shared library whose name is another, that binds late, or leaves writable what was bound or the stack
 # executable.
@@ -37,7 +38,7 @@ class Folder(Case):
         self.expect(done, 1, b"", None)
 
     def test_names(self):
-        """A program can link only to the two calls."""
+        """A program can link only to the three calls."""
         for name, words in [("liblatex2mathml.a", ["nm", "-g"]), ("liblatex2mathml.so", ["nm", "-D"])]:
             with self.subTest(name):
                 done = run([*words, "--defined-only", "--format=posix", c_library() / name])
@@ -71,7 +72,7 @@ class Folder(Case):
         program = folder / "header"
         self.expect(run([*CXX, "-std=c++11", "-pedantic", "-Wall", "-Wextra", "-Werror", "-I", c_library(), ROOT / "tests/header.cc",
                          c_library() / "liblatex2mathml.a", "-o", program]))
-        self.expect(run([program]), stdout=f"{BLOCK}\na {INLINE}\n".encode())
+        self.expect(run([program]), stdout=f"{BLOCK}\na {INLINE}\n{BLOCK}\n".encode())
 
     def test_a_caller_of_the_shared_library(self):
         """It is linked by the library's name, and finds the library again as it starts."""
@@ -129,6 +130,9 @@ class Calls(Built):
 
     def test_every_rule_with_memory_refused(self):
         self.judge("rules", "".join(f"{formula}\n" for formula, _ in every_rule()).encode())
+
+    def test_each_construct_of_tex_with_memory_refused(self):
+        self.judge("tex_rules", "".join(f"{each.before}x{each.behind}\n" for each in CONSTRUCTS.values()).encode())
 
     def test_threads(self):
         self.judge("threads")
@@ -190,6 +194,15 @@ class Examples(Case):
     def test_c(self):
         self.check_example(self.folder / "examples/formula")
 
+    def test_tex_in_c(self):
+        """A refusal is shown at its place, in the formula or in the definitions."""
+        program = self.folder / "examples/tex"
+        self.expect(run([program, "\\def\\less{<}", "x\\less y", "x<y"]), stdout=f"{INLINE}\n{INLINE}\n".encode())
+        for words, reason in [(["", "é\\foo"], "unknown command \\foo at 2\né >>> \\foo\n"),
+                              (["\\def\\a{x} y", "\\a"], "not a definition at 10\n\\def\\a{x}  >>> y\n")]:
+            with self.subTest(reason):
+                self.expect(run([program, *words]), 1, b"", reason.encode())
+
     def python(self, expression):
         words = ["python3", "-c", f"import latex2mathml; print({expression})"]
         return run(words, cwd=self.folder / "examples")
@@ -199,9 +212,20 @@ class Examples(Case):
         with self.subTest("as a program"):
             self.check_example("python3", self.folder / "examples/latex2mathml.py")
         for expression, answer in [("latex2mathml.document('a $x<y$')", f"a {INLINE}"), ("latex2mathml.formula('x<y')", INLINE),
-                                   ("latex2mathml.formula('x<y', True)", BLOCK), ("latex2mathml.formula(b'x<y', block=False)", INLINE)]:
+                                   ("latex2mathml.formula('x<y', True)", BLOCK), ("latex2mathml.formula(b'x<y', block=False)", INLINE),
+                                   ("latex2mathml.tex('x<y')", INLINE), ("latex2mathml.tex(b'x<y', True, b'% none')", BLOCK),
+                                   (r"latex2mathml.tex(r'x\less y', definitions=r'\def\less{<}')", INLINE)]:
             with self.subTest(expression):
                 self.expect(self.python(expression), stdout=f"{answer}\n".encode())
+
+    @requires("python3")
+    def test_refused_tex_in_python(self):
+        for words, place, is_definition in [("r'x+\\foo'", 2, False), ("'x', definitions=' x'", 1, True)]:
+            with self.subTest(words):
+                script = f"import latex2mathml as it\ntry:\n    it.tex({words})\nexcept it.TexRefused as refused:\n" \
+                         "    print(refused.place, refused.is_definition)"
+                done = run(["python3", "-c", script], cwd=self.folder / "examples")
+                self.expect(done, stdout=f"{place} {is_definition}\n".encode())
 
     @requires("python3")
     def test_python_with_a_library_elsewhere(self):

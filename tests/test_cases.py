@@ -3,7 +3,7 @@ import functools
 import unittest
 
 from tests import cases
-from tests.answers import WAYS, AnswerCase, Code, show
+from tests.answers import WAYS, AnswerCase, Code, show, tex_by_library
 from tests.support import build, run, scratch, tex_program
 
 WHITE_SPACE = [space * count for space in (b" ", b"\t", b"\n", b"\r") for count in (1, 1000)]
@@ -61,14 +61,21 @@ class CaseOfFile(AnswerCase):
         self.tex_block(case)
 
     def tex_inline(self, case):
-        self.assertEqual(tex_reply(case, "inline"), b"mathml\n" + cases.math("inline", case.answer), case.place)
+        self.tex_comes_to(case, "inline")
 
     def tex_block(self, case):
-        self.assertEqual(tex_reply(case, "block"), b"mathml\n" + cases.math("block", case.answer), case.place)
+        self.tex_comes_to(case, "block")
+
+    def tex_comes_to(self, case, display):
+        markup = cases.math(display, case.answer)
+        self.assertEqual(tex_reply(case, display), b"mathml\n" + markup, case.place)
+        self.assertEqual(tex_by_library(display, case.input), (Code.DONE, markup, 0), case.place)
 
     def tex_refusal(self, case):
+        place = int(case.answer.rpartition(b" at ")[2])
         for display in ("inline", "block"):
             self.assertEqual(tex_reply(case, display), b"error\n" + case.answer, case.place)
+            self.assertEqual(tex_by_library(display, case.input), (Code.REFUSED, case.answer, place), case.place)
 
 
 @functools.cache

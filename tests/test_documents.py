@@ -192,6 +192,22 @@ class Readme(Case):
             refused = run(["sh", "-c", f"{shown[1]} | {tex_program()}"])
             self.expect(refused, status=1, stdout=b"", stderr=f"{shown[2]}\n".encode())
 
+    def test_refused_definitions_are_those_that_are_shown(self):
+        text = (ROOT / "docs/TEX.md").read_text()
+        shown = re.findall(r"^    \$ (printf '.* \| )\./tex2mathml( --definitions .*)\n    (.*)\n", text, re.M)
+        self.assertEqual(len(shown), 2)
+        folder = self.enterContext(scratch())
+        for before, behind, line in shown:
+            self.expect(run(["sh", "-c", f"{before}{tex_program()}{behind}"], cwd=folder), 1, b"", f"{line}\n".encode())
+
+    def test_the_file_of_definitions_that_is_shown_is_read(self):
+        text = (ROOT / "docs/TEX.md").read_text()
+        shown = re.search(r"^    % macros\.tex\n((?:    .*\n)+)", text, re.M)[0]
+        folder = self.enterContext(scratch())
+        (folder / "macros.tex").write_text(shown)
+        done = run([tex_program(), "--definitions", "macros.tex"], stdin=b"\\R", cwd=folder)
+        self.assertEqual((done.returncode, done.stdout.count("<mi>ℝ</mi>".encode())), (0, 1), done)
+
     def test_its_words_are_all_that_there_are(self):
         words = re.findall(r"^\| `latex2mathml (\w+)(?: PATH)?` \|", self.text, re.M)
         usage = run([program()])
@@ -369,11 +385,25 @@ class Figures(Case):
         self.assertTrue(ratios)
         self.assertEqual((least, most), (f"{min(ratios):.1f}", f"{max(ratios):.1f}"))
 
+    @staticmethod
+    def counted():
+        """The instructions of each workload, by its name."""
+        lines = [line.split("  ", 1) for line in (ROOT / "bench/instructions.txt").read_text().splitlines()]
+        return {name.strip(): int(count.replace(",", "")) for count, name in lines}
+
+    def test_tex_ratios(self):
+        """How many times as many instructions `tex_to_mathml` executes as `latex_to_mathml`, for the same formulas."""
+        text = (ROOT / "README.md").read_text()
+        found = re.search(r"`tex_to_mathml` executes (\d\.\d) to (\d\.\d) times as many instructions as `latex_to_mathml`", text)
+        counted = self.counted()
+        ratios = [count / counted[name.removeprefix("tex2mathml ")] for name, count in counted.items() if name.startswith("tex2mathml ")]
+        self.assertEqual(found.groups(), (f"{min(ratios):.1f}", f"{max(ratios):.1f}"))
+
     def test_instructions(self):
-        counted = dict(reversed(line.split("  ", 1)) for line in (ROOT / "bench/instructions.txt").read_text().splitlines())
+        counted = {name: count for name, count in self.counted().items() if not name.startswith("tex2mathml ")}
         shown = re.findall(r"^\| (?:a document of )?`?([^|`]+?)`?(?:, over and over)? \| (\d+) million, ", (ROOT / "README.md").read_text(), re.M)
         self.assertEqual({name.strip(): int(millions) for name, millions in shown},
-                         {name.strip(): round(int(count.replace(",", "")) / 1e6) for name, count in counted.items()})
+                         {name: round(count / 1e6) for name, count in counted.items()})
 
     def test_instructions_of_a_call(self):
         counted = [line.split("  ", 1) for line in (ROOT / "bench/calls.txt").read_text().splitlines()]

@@ -16,12 +16,13 @@ import workloads  # noqa: E402
 
 MARGIN = 0.05
 LOADS = {name.strip(): (word, text) for word, name, text in workloads.workloads()}
+TEX_LOADS = {name.strip(): text for name, text in workloads.tex_workloads()}
 
 
 class Figures(support.Case):
     def test_names(self):
         """Each workload has a figure, and each figure a workload."""
-        self.assertEqual(list(measure.figures()), list(LOADS))
+        self.assertEqual(list(measure.figures()), [*LOADS, *TEX_LOADS])
 
     def test_formulas(self):
         """Each formula of `bench/calls.py` has a figure, and each figure a formula."""
@@ -42,6 +43,13 @@ class Instructions(Counted):
         self.compare(counted, measure.figures()[name], "measure.py", "instructions.txt")
 
 
+@support.requires("valgrind")
+class TexInstructions(Counted):
+    def judge(self, name):
+        counted = measure.count_tex(support.tex_program(), TEX_LOADS[name])
+        self.compare(counted, measure.figures()[name], "measure.py", "instructions.txt")
+
+
 @support.requires("cc", "valgrind")
 class Calls(Counted):
     """One call of the library for C: what a call does besides its formula does not show in long texts."""
@@ -56,6 +64,8 @@ class Calls(Counted):
 
 for number, name in enumerate(LOADS):
     setattr(Instructions, f"test_{number}", lambda self, name=name: self.judge(name))
+for number, name in enumerate(TEX_LOADS):
+    setattr(TexInstructions, f"test_{number}", lambda self, name=name: self.judge(name))
 for number, latex in enumerate(calls.FORMULAS):
     setattr(Calls, f"test_{number}", lambda self, latex=latex: self.judge(latex))
 

@@ -93,6 +93,9 @@ RUNS = {
     "a wrong word": ("inlines", "x", 2, b"", USAGE),
 }
 
+# the definitions of its own run
+MACROS = support.ROOT / "crates/latex2mathml_tex_app/data/macros.tex"
+
 # words of `tex2mathml` and its input
 TEX_RUNS = {
     "tex, a formula": ([], TEX),
@@ -101,12 +104,16 @@ TEX_RUNS = {
     "tex, a text that is none": ([], b"x\xff"),
     "tex, no formula": (["--null"], ""),
     "tex, many formulas": (["--null"], f"x\0{{\0{TEX}"),
+    "tex, definitions": (["--definitions", MACROS], r"\rank\half{\R} \pair xy"),
+    "tex, definitions that are refused": (["--definitions", "README.md"], "x"),
+    "tex, definitions that are not there": (["--definitions", "none.tex"], "x"),
     "tex, a wrong word": (["x"], "x"),
     "tex, its version": (["--version"], ""),
 }
 
-# its lines if memory runs out: before its words are read, as they are read, for the input, and for a formula
+# its lines if memory runs out: before its words are read, as they are read, for the input, for a formula, and for a file of definitions
 TEX_LINES = {b"tex2mathml: out of memory\n", b"error: out of memory\n", b"tex2mathml: Memory could not be found.\n"}
+TEX_LINES |= {f"tex2mathml: {name}: Memory could not be found.\n".encode() for name in (MACROS, "README.md")}
 NO_MEMORY_FOR_ONE = b"error\nout of memory"
 
 

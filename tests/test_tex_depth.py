@@ -1,4 +1,5 @@
-"""Formulas of `tex_to_mathml` that are a million levels deep, on a stack of 8 MiB, and a megabyte of each sign."""
+"""Formulas of `tex_to_mathml` that are a million levels deep, on a stack of 8 MiB, tables of a million cells, and a megabyte of each
+sign."""
 import resource
 import string
 import unittest
@@ -68,6 +69,13 @@ CONSTRUCTS = {
                             '<mo form="postfix" stretchy="false">)</mo></mrow>', "\\left without \\right", 0),
     "formula in words": Construct("\\text{$", "$}", "", "", "$ is not closed", 6),
     "words": Construct("\\text{", "}", "", "", OPEN_BRACE, 5, "<mtext>x</mtext>"),
+    "cell": Construct("\\begin{matrix}", "\\end{matrix}", "<mtable><mtr><mtd>", "</mtd></mtr></mtable>", "\\begin without \\end", 0),
+    "second cell": Construct("\\begin{matrix}y&", "\\end{matrix}", "<mtable><mtr><mtd><mi>y</mi></mtd><mtd>", "</mtd></mtr></mtable>",
+                             "\\begin without \\end", 0),
+    "second row": Construct("\\begin{matrix}y\\\\", "\\end{matrix}", "<mtable><mtr><mtd><mi>y</mi></mtd></mtr><mtr><mtd>",
+                            "</mtd></mtr></mtable>", "\\begin without \\end", 0),
+    "row in braces": Construct("\\substack{", "}", '<mtable displaystyle="false" scriptlevel="1"><mtr><mtd style="padding: 0.1em 0.3em">',
+                               "</mtd></mtr></mtable>", OPEN_BRACE, 0),
 }
 
 
@@ -91,6 +99,64 @@ class Deep(support.Case):
     def is_cut_off(self, kind):
         place = len(kind.before) * (LEVELS - 1) + kind.offset
         self.expect(ask(kind.before * LEVELS), 1, b"", f"tex2mathml: {kind.unended} at {place}\n".encode())
+
+
+class Wide(support.Case):
+    """Tables of a million cells."""
+
+    def answers(self, formula, contents):
+        done = ask(formula)
+        self.assertEqual((done.returncode, done.stderr), (0, b""))
+        self.assertTrue(done.stdout == (MATH.format(contents) + "\n").encode(), f"answered {support.show(done.stdout)}")
+
+    def test_one_row(self):
+        cells = "<mtd><mi>x</mi></mtd>" * LEVELS
+        self.answers("\\begin{matrix}x" + "&x" * (LEVELS - 1) + "\\end{matrix}", f"<mtable><mtr>{cells}</mtr></mtable>")
+
+    def test_one_column(self):
+        rows = "<mtr><mtd><mi>x</mi></mtd></mtr>" * LEVELS
+        self.answers("\\begin{matrix}x" + "\\\\x" * (LEVELS - 1) + "\\end{matrix}", f"<mtable>{rows}</mtable>")
+
+    def test_empty_cells(self):
+        cells = "<mtd><mrow></mrow></mtd>" * LEVELS
+        self.answers("\\begin{matrix}" + "&" * (LEVELS - 1) + "\\end{matrix}", f"<mtable><mtr>{cells}</mtr></mtable>")
+
+    def test_as_many_rows_as_cells(self):
+        rows = ("<mtr>" + "<mtd><mi>x</mi></mtd>" * 1000 + "</mtr>") * 1000
+        self.answers("\\begin{matrix}" + "\\\\".join(["&".join("x" * 1000)] * 1000) + "\\end{matrix}", f"<mtable>{rows}</mtable>")
+
+
+class DeepMacros(support.Case):
+    """Groups a million levels deep in bodies and arguments of macros."""
+
+    OPENED, CLOSED = "{" * LEVELS, "}" * LEVELS
+
+    def test_body_that_is_not_used(self):
+        self.expect(ask(f"\\def\\a{{{self.OPENED}{self.CLOSED}}}x"), stdout=(MATH.format("<mi>x</mi>") + "\n").encode())
+
+    def test_argument_that_is_not_put(self):
+        self.expect(ask(f"\\def\\a#1{{x}}\\a{{{self.OPENED}{self.CLOSED}}}"), stdout=(MATH.format("<mi>x</mi>") + "\n").encode())
+
+    def test_body_that_is_put(self):
+        """It has more units than can be put."""
+        place = len("\\def\\a{}") + 2 * LEVELS
+        self.expect(ask(f"\\def\\a{{{self.OPENED}{self.CLOSED}}}\\a"), 1, b"", f"tex2mathml: too many macros are expanded at {place}\n".encode())
+
+    def test_cut_off(self):
+        """The outermost brace is told."""
+        for before in ("\\def\\a", "\\def\\a#1{x}\\a", "\\newcommand"):
+            with self.subTest(before):
+                self.expect(ask(before + self.OPENED), 1, b"", f"tex2mathml: {OPEN_BRACE} at {len(before)}\n".encode())
+
+    def test_in_a_file(self):
+        with support.scratch() as folder:
+            for text, told in ((f"\\def\\a{{{self.OPENED}{self.CLOSED}}}", None), (f"\\def\\a{self.OPENED}", f"1:7: {OPEN_BRACE}")):
+                (folder / "a.tex").write_text(text)
+                done = support.run([support.tex_program(), "--definitions", "a.tex"], stdin=b"x", cwd=folder, preexec_fn=limit_stack)
+                if told:
+                    self.expect(done, 1, b"", f"tex2mathml: a.tex:{told}\n".encode())
+                else:
+                    self.expect(done, stdout=(MATH.format("<mi>x</mi>") + "\n").encode())
 
 
 class Long(support.Case):

@@ -19,13 +19,18 @@ OWN_BYTES = 64 << 10
 # The text, its units, the answer, the elements and what is in them, the frames, and what is still to be written: each of these lists
 # asks once more where it doubles, which it does at most 17 times. So 100 kB of one text were counted with at most 131 requests.
 MOST_REQUESTS = 150
+# how often a list doubles, up to so many members
+MOST_DOUBLINGS = 17
 # Of a second formula that is the same as the first only the input and the answers need more room, each once.
 MOST_FOR_ANOTHER = 3
 
 PIECES = ["x", "1", "1.5 ", "+", "x+", "\\alpha ", "x_1^2", "x''", "\\sin x", "\\frac12", "{ab}", "\\left(x\\right)", "\\text{a b}", "\\mathrm{ab}",
-          "\\operatorname{ab}", "% c\n", "\\not=", " x", "\\,", "𝑥"]
+          "\\operatorname{ab}", "% c\n", "\\not=", " x", "\\,", "𝑥", "\\def\\a{x}", "\\newcommand{\\a}[1]{#1}", "\\begin{matrix}x&y\\\\z\\end{matrix}"]
 IN_WORDS = ["a", "$x$", "{a}", "\\textbf{a}", "\\alpha", " ", "a "]
 BETWEEN_DELIMITERS = ["x", "\\middle|", "\\frac12\\middle|"]
+# cells, rows, and rows of two cells
+IN_TABLES = ["x&", "&", "x\\\\", "\\\\", "x&y\\\\", "x\\\\[2pt]", "\\hline "]
+ENVIRONMENTS = ["matrix", "aligned", "cases"]
 # each of these looks for a mark, or for an operand, behind the white space
 BEFORE_SPACES = ["\\hat ", "\\sqrt ", "\\frac1", "\\overset y"]
 
@@ -48,11 +53,31 @@ TEXTS = {
     **{f"{piece} side by side": repeat("", piece, "") for piece in PIECES},
     **{f"{piece} in words": repeat("\\text{", piece, "}") for piece in IN_WORDS},
     **{f"{piece} between delimiters": repeat("\\left(", piece, "\\right)") for piece in BETWEEN_DELIMITERS},
+    **{f"{piece} in {name}": repeat(f"\\begin{{{name}}}", piece, f"\\end{{{name}}}") for piece in IN_TABLES for name in ENVIRONMENTS},
+    "rows in braces": repeat("\\substack{", "x\\\\", "}"),
+    "columns": repeat("\\begin{array}{c", "@{ }", "}x\\end{array}"),
+    "an argument": repeat("\\def\\a#1{#1}\\a{", "x", "}"),
+    "an argument that is not put": repeat("\\def\\a#1{}\\a{", "x", "}"),
+    "a body": repeat("\\def\\a{", "x", "}\\a"),
+    "a body that is not used": repeat("\\def\\a{", "{x}", "}"),
     **{f"white space behind {piece}": before_spaces(piece) for piece in BEFORE_SPACES},
     **{f"{name} in itself": nest(kind) for name, kind in CONSTRUCTS.items()},
+    "rows of a whole text": repeat("x", "&x\\\\", ""),
+    "atoms before the first cell ends": repeat("", "x+", "&"),
     "white space": repeat("x", " ", "y"),
     "a long name": repeat("\\operatorname{", "a", "}"),
 }
+
+
+def asked_for(text):
+    """What tables, lengths behind their rows, and definitions may ask for, each for itself: the names of a table, the text of a
+    length, and the parts of a definition."""
+    return 2 * text.count("\\begin") + text.count("\\\\[") + 3 * (text.count("\\def") + text.count("\\newcommand"))
+
+
+def asked_anew(text):
+    """What a second formula may ask for besides: the lists of a body, of an argument and of what is put are made for each formula."""
+    return asked_for(text) + 3 * MOST_DOUBLINGS * ("\\def" in text)
 
 
 def pieces_in(text_of, size):
@@ -88,6 +113,17 @@ class Instructions(Growth):
         few, many = (instructions([support.tex_program()], stdin=text_of(count).encode(), timeout=600) for count in (2_000, 8_000))
         self.assertLessEqual(many, MOST_TIMES * few, f"{few:,} for 2,000 pieces, {many:,} for 8,000")
 
+    def test_rows_of_a_whole_text(self):
+        """What stands outside of tables is read as atoms up to its first `&` or `\\\\`, and then as rows: all of it at most twice."""
+        for text in ("x+" * 8_000 + "&", "x&" + "x&x\\\\" * 4_000, "\\frac12" * 4_000 + "\\\\x"):
+            given = [text.encode(), b"\\begin{aligned}" + text.encode() + b"\\end{aligned}"]
+            answers = [support.run([support.tex_program()], stdin=it) for it in given]
+            for answer in answers:
+                self.is_answered(answer)
+            self.assertEqual(answers[0].stdout, answers[1].stdout)
+            alone, in_aligned = (instructions([support.tex_program()], stdin=it) for it in given)
+            self.assertLessEqual(alone, 2 * in_aligned)
+
     def test_many_formulas(self):
         """So do four times the formulas."""
         counted = []
@@ -111,10 +147,11 @@ class Memory(Growth):
 
 @support.requires("cc")
 class Requests(Growth):
-    """Memory is asked for only where a text or a list is full."""
+    """Memory is asked for only where a text or a list is full, and for each table and each definition."""
 
     def judge(self, text_of):
-        self.assertLessEqual(self.count(text_of(pieces_in(text_of, 100_000)))["requests"], MOST_REQUESTS)
+        text = text_of(pieces_in(text_of, 100_000))
+        self.assertLessEqual(self.count(text)["requests"], MOST_REQUESTS + asked_for(text))
 
 
 @support.requires("cc")
@@ -124,8 +161,8 @@ class Another(Growth):
     def judge(self, text_of):
         text = text_of(pieces_in(text_of, 20_000))
         one, two, three = (self.count_many([text] * formulas)["requests"] for formulas in (1, 2, 3))
-        self.assertLessEqual(two - one, MOST_FOR_ANOTHER)
-        self.assertLessEqual(three - two, MOST_FOR_ANOTHER)
+        self.assertLessEqual(two - one, MOST_FOR_ANOTHER + asked_anew(text))
+        self.assertLessEqual(three - two, MOST_FOR_ANOTHER + asked_anew(text))
 
     def test_many_formulas(self):
         """A thousand formulas need room for the input and the answers."""

@@ -23,6 +23,12 @@ OTHERWISE = {
     "\\left<x\\right>": "KaTeX leaves the signs as they are in its MathML",
     "\\begin{matrix}a\\\\*[2pt]b\\cr[c]\\end{matrix}": "KaTeX draws the star and the length",
     "\\begin{array}{l|r}\\hline a&b\\\\ \\hline\\end{array}": "KaTeX draws the lines",
+    "\\boxed{x}": "KaTeX has an element for a line around it, which MathML Core has not",
+    "\\fbox{if }": "KaTeX has an element for a line around it, which MathML Core has not",
+    "\\cancel{x}": "KaTeX has an element for lines through it, which MathML Core has not",
+    "\\bcancel{x}^2": "KaTeX has an element for lines through it, which MathML Core has not",
+    "\\xcancel{x}": "KaTeX has an element for lines through it, which MathML Core has not",
+    "\\dots\\not=b": "KaTeX takes the stroke apart before it looks for it; amsmath centers the dots",
     "\\def\\a{x}\\providecommand{\\a}{y}\\a": "KaTeX defines anew what is there already; LaTeX leaves it",
 }
 
@@ -38,10 +44,34 @@ REFUSED = {
     "\\newcommand{\\R}{\\mathbb{R}}\\R": "KaTeX has this macro already",
     "\\newcommand*{\\sq}[1]{#1^2}\\sq{x}": "KaTeX takes no star there",
     "\\begin{array}[t]{@{}p{2cm}c@{\\,}}a&b&d\\end{array}": "KaTeX has no place of an array and no columns of a width",
+    "a\\mspace{9mu}b": "KaTeX has no such command",
+    "a\\label{eq:x_1}^2": "KaTeX has no such command",
+    "\\text{a\\label{b}c}": "KaTeX has no such command",
+    "x\\relax_1": "KaTeX lets nothing stand between an atom and its scripts",
+    "x\\allowbreak\\nobreak\\/y": "KaTeX has no such command",
+    "\\centering x": "KaTeX has no such command",
+    "\\ensuremath{x}^2": "KaTeX has no such command",
+    "\\def\\x{y}\\x&\\def\\x{z}\\x\\\\\\x": "KaTeX refuses the sign, and a definition in a cell ends with it",
+}
+
+# what is read as if it stood in `aligned`, as LaTeX's users and Sphinx put it there: KaTeX refuses `&`, and only breaks the line at `\\`
+IN_ALIGNED = {
+    "a &= b \\\\ c &= d",
+    "a&-b",
+    "a\\\\[2pt]b\\\\",
+    "a&b\\cr\\hline\\hline{c}",
+    "\\lim_i&\\sum_i",
+    "\\begin{matrix}a&b\\end{matrix}&c",
+    "&",
+    "a \\over b & c",
 }
 
 # and those that it reads in a block alone
 BLOCK_ALONE = {"\\begin{alignat*}{2}a&b\\end{alignat*}"}
+
+
+def as_asked(formula):
+    return f"\\begin{{aligned}}{formula}\\end{{aligned}}" if formula in IN_ALIGNED else formula
 
 
 @unittest.skipUnless(KATEX.is_dir(), "KaTeX is not installed")
@@ -50,7 +80,7 @@ class AsKatexReads(Case):
     def structures(self, display, names):
         """Of each formula of these files: the structure that is expected, and that of KaTeX, or None where it refuses it."""
         pairs = [(case.input.decode(), case.answer) for name in names for case in cases.read(name)]
-        asked = json.dumps([[formula, display == "block"] for formula, _ in pairs]).encode()
+        asked = json.dumps([[as_asked(formula), display == "block"] for formula, _ in pairs]).encode()
         done = run(["node", ROOT / "diff/katex.js", KATEX], stdin=asked)
         self.assertEqual(done.returncode, 0, done.stderr.decode())
         for (formula, contents), markup in zip(pairs, json.loads(done.stdout)):

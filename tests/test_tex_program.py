@@ -4,10 +4,11 @@ import importlib.util
 import itertools
 import os
 import re
+import threading
 import unittest
 
 from tests import faulty
-from tests.support import ROOT, Case, requires, run, tex_program
+from tests.support import ROOT, Case, requires, run, scratch, tex_program
 
 MATH = b'<math xmlns="http://www.w3.org/1998/Math/MathML" display="%s">%s</math>'
 
@@ -91,6 +92,160 @@ class ManyFormulas(Case):
         self.expect(ask("--null", stdin=b"x\0\xff"), 1, b"", b"tex2mathml: The input is not UTF-8 text.\n")
 
 
+# texts of definitions that are refused: where, by line and column, and why
+REFUSED_DEFINITIONS = [
+    ("x", "1:1", "not a definition"),
+    ("\\def\\a{x}\n\n  y", "3:3", "not a definition"),
+    ("\\def\\a{x}\r\n\\foo", "2:1", "not a definition"),
+    ("% é\n\\def\\é{x} y", "2:11", "not a definition"),
+    ("\\newcommand{\\a}{x", "1:16", "{ is not closed"),
+    ("\\newcommand{\\a", "1:12", "{ is not closed"),
+    ("\\def\\a{{x}", "1:7", "{ is not closed"),
+    ("\\def\\a", "1:1", "an argument is missing"),
+    (" \\def", "1:2", "an argument is missing"),
+    ("\\newcommand{a}{x}", "1:1", "no name to define"),
+    ("\\newcommand{\\a1}{x}", "1:1", "no name to define"),
+    ("\\def\\a1{x}", "1:1", "an argument up to a sign is not read"),
+    ("\\def\\a#1,{#1}", "1:1", "an argument up to a sign is not read"),
+    ("\n\\newcommand{\\a}[2]{#3}", "2:1", "a body has no such argument"),
+    ("\n\\def\\a#1#2{#3}", "2:1", "a body has no such argument"),
+    ("\\def\\a{#1}", "1:1", "a body has no such argument"),
+    ("\\newcommand{\\a}[1][x]{#1}", "1:1", "optional arguments are not read"),
+    ("\\newcommand{\\a}[10]{x}", "1:1", "wrong parameters of a definition"),
+    ("\\def\\a#2{x}", "1:1", "wrong parameters of a definition"),
+    ("\\def\\a{x}}", "1:10", "not a definition"),
+    ("\\def\\a{x\0}", "1:9", "forbidden character U+0000"),
+]
+
+# definitions, and what may stand between them
+WHOLE = ["\\newcommand{\\R}{\\mathbb{R}}", "\\newcommand*\\half[1]{\\frac{#1}{2}}", "\\def\\pair#1#2{(#1,#2)}", "\\DeclareMathOperator*{\\argmax}{arg\\,max}"]
+BETWEEN = "% é\n "
+
+
+class Definitions(Case):
+    """`--definitions FILE`."""
+
+    def setUp(self):
+        self.folder = self.enterContext(scratch())
+        self.file = self.folder / "a b.tex"
+
+    def ask(self, definitions, formula, *words, **more):
+        self.file.write_bytes(definitions if isinstance(definitions, bytes) else definitions.encode())
+        return ask("--definitions", self.file, *words, stdin=formula.encode(), **more)
+
+    def answers(self, definitions, formula, contents, *words):
+        self.expect(self.ask(definitions, formula, *words), stdout=math(contents.encode()) + b"\n")
+
+    def refuses(self, definitions, told, **more):
+        self.expect(self.ask(definitions, "x", **more), 1, b"", f"tex2mathml: {self.file}{told}\n".encode())
+
+    def test_used(self):
+        self.answers("\\newcommand{\\R}{\\mathbb{R}}", "x\\in\\R", "<mi>x</mi><mo>∈</mo><mi>ℝ</mi>")
+        self.answers("\\def\\half#1{\\frac{#1}2}", "\\half x", "<mfrac><mi>x</mi><mn>2</mn></mfrac>")
+        self.answers("\\def\\alpha{x}", "\\alpha", "<mi>x</mi>")
+
+    def test_data(self):
+        """The file of the program's own run."""
+        words = ["--definitions", ROOT / "crates/latex2mathml_tex_app/data/macros.tex"]
+        self.expect(ask(*words, stdin=b"\\half{\\R}"), stdout=math("<mfrac><mi>ℝ</mi><mn>2</mn></mfrac>".encode()) + b"\n")
+
+    def test_spellings(self):
+        self.file.write_bytes(b"\\def\\a{x}")
+        for words in (["--definitions", self.file], [f"--definitions={self.file}"], ["--display", "inline", "--definitions", self.file]):
+            with self.subTest(words):
+                self.expect(ask(*words, stdin=b"\\a"), stdout=math(b"<mi>x</mi>") + b"\n")
+
+    def test_display(self):
+        self.expect(self.ask("\\def\\a{x}", "\\a", "--display", "block"), stdout=math(b"<mi>x</mi>", b"block") + b"\n")
+
+    def test_many_formulas(self):
+        """They hold in each formula, and what a formula defines ends with it."""
+        x, y = (b"mathml\n" + math(b"<mi>%s</mi>" % it) + b"\0" for it in (b"x", b"y"))
+        self.expect(self.ask("\\def\\a{x}", "\\a\0\\def\\a{y}\\a\0\\a\0\\b", "--null"),
+                    stdout=x + y + x + b"error\nunknown command \\b at 0\0")
+
+    def test_nothing_defined(self):
+        """The usual macros hold, as they do behind any definitions."""
+        for definitions in ("", " \n", "% nothing", "\\def\\a{x}"):
+            with self.subTest(definitions):
+                self.answers(definitions, "x", "<mi>x</mi>")
+                usual = ask(stdin=b"a\\pmod n\\dots")
+                self.expect(self.ask(definitions, "a\\pmod n\\dots"), stdout=usual.stdout)
+                self.assertEqual(usual.returncode, 0)
+
+    def test_place_of_the_use(self):
+        """What stands in a body has the place of the macro's use, in the formula."""
+        self.expect(self.ask("\\def\\a{\\foo}", "xy\\a"), 1, b"", b"tex2mathml: unknown command \\foo at 2\n")
+
+    def test_refused(self):
+        for definitions, place, reason in REFUSED_DEFINITIONS:
+            with self.subTest(definitions):
+                self.refuses(definitions, f":{place}: {reason}")
+                self.refuses("\n\n" + definitions, f":{int(place[0]) + 2}{place[1:]}: {reason}")
+
+    def test_beginnings(self):
+        """A text of definitions that is cut off is read if it is cut off between two of them, and else refused, at a place of its own."""
+        text, between = "", {0}
+        for definition in WHOLE:
+            between |= set(range(len(text + definition), len(text + definition + BETWEEN) + 1))
+            text += definition + BETWEEN
+        for end in range(len(text) + 1):
+            with self.subTest(text[:end]):
+                done = self.ask(text[:end], "x")
+                if end in between:
+                    self.expect(done, stdout=math(b"<mi>x</mi>") + b"\n")
+                    continue
+                self.expect(done, 1, b"", None)
+                line, column = map(int, re.fullmatch(rb"tex2mathml: .*/a b\.tex:(\d+):(\d+): [^:]+\n", done.stderr).groups())
+                lines = text[:end].split("\n")
+                self.assertIn(line, range(1, len(lines) + 1))
+                self.assertIn(column, range(1, len(lines[line - 1]) + 2))
+
+    def test_input_is_left_alone(self):
+        """Where there are no macros, nothing is read of the input."""
+        for definitions in (b"x", b"\xff", None):
+            with self.subTest(definitions), faulty.open_input(b"x") as given:
+                self.file.unlink(missing_ok=True)
+                if definitions is not None:
+                    self.file.write_bytes(definitions)
+                self.assertEqual(ask("--definitions", self.file, stdin=given).returncode, 1)
+                self.assertEqual(given.read(), b"x")
+
+    def test_what_is_no_text(self):
+        self.refuses(b"\\def\\a{\xff}", ": The input is not UTF-8 text.")
+
+    def test_what_cannot_be_read(self):
+        for path in (self.folder, self.folder / "none.tex", self.folder / "none/a.tex", ""):
+            with self.subTest(path):
+                self.expect(ask("--definitions", path, stdin=b"x"), 1, b"", f"tex2mathml: {path}: The input could not be read.\n".encode())
+
+    def test_a_hyphen_is_a_name(self):
+        """As is that of any file."""
+        words = [tex_program(), "--definitions", "-"]
+        self.expect(run(words, stdin=b"\\a", cwd=self.folder), 1, b"", b"tex2mathml: -: The input could not be read.\n")
+        (self.folder / "-").write_bytes(b"\\def\\a{x}")
+        self.expect(run(words, stdin=b"\\a", cwd=self.folder), stdout=math(b"<mi>x</mi>") + b"\n")
+
+    def test_pipes(self):
+        """A pipe with a name, and one of a shell."""
+        pipe = self.folder / "pipe"
+        os.mkfifo(pipe)
+        writer = threading.Thread(target=pipe.write_bytes, args=[b"\\def\\a{x}"])
+        writer.start()
+        self.expect(ask("--definitions", pipe, stdin=b"\\a"), stdout=math(b"<mi>x</mi>") + b"\n")
+        writer.join()
+        reading, writing = os.pipe()
+        os.write(writing, b"\\def\\a{y}")
+        os.close(writing)
+        self.addCleanup(os.close, reading)
+        self.expect(ask("--definitions", f"/dev/fd/{reading}", stdin=b"\\a", pass_fds=[reading]), stdout=math(b"<mi>y</mi>") + b"\n")
+
+    def test_launcher(self):
+        self.file.write_bytes(b"\\def\\a{x}")
+        done = run([ROOT / "tex2mathml", "--definitions", self.file.name], stdin=b"\\a", cwd=self.folder)
+        self.expect(done, stdout=math(b"<mi>x</mi>") + b"\n")
+
+
 # the bytes that the program requests at a time
 ROOM = 4096
 
@@ -138,6 +293,42 @@ class Calls(Case):
                     else:
                         self.expect(done, stdout=due.stdout)
 
+    def test_each_read_of_definitions_fails(self):
+        """The file is read to its end before the input is."""
+        definitions, given = b"\\def\\a{x}", b"\\a"
+        file = self.enterContext(scratch()) / "a.tex"
+        file.write_bytes(definitions)
+        words = ["--definitions", file]
+        for error in (5, 4):
+            for number in range(1, len(definitions) + len(given) + 4):
+                with self.subTest(error=error, call=number):
+                    done, failed = self.run_with(words, given, faulty.Fault("read", number, number, error))
+                    of_file = number <= len(definitions) + 1
+                    self.assertEqual(bool(failed), number <= len(definitions) + len(given) + 2)
+                    if failed:
+                        named = f"{file}: " * of_file
+                        self.expect(done, 1, b"", f"tex2mathml: {named}The input could not be read.\n".encode())
+                    else:
+                        self.expect(done, stdout=math(b"<mi>x</mi>") + b"\n")
+
+    def test_definitions_that_cannot_be_opened(self):
+        file = self.enterContext(scratch()) / "a.tex"
+        file.write_bytes(b"")
+        for error in (13, 24):
+            with self.subTest(error):
+                done, failed = faulty.run_with([tex_program(), "--definitions", file], fault=faulty.Fault("open", 1, 1, error))
+                self.assertTrue(failed)
+                self.expect(done, 1, b"", f"tex2mathml: {file}: The input could not be read.\n".encode())
+
+    def test_definitions_are_closed(self):
+        file = self.enterContext(scratch()) / "a.tex"
+        for definitions in (b"", b"\\def\\a{x}", b"x", b"\xff"):
+            with self.subTest(definitions):
+                file.write_bytes(definitions)
+                done, counts = faulty.counts_of([tex_program(), "--definitions", file], stdin=b"x")
+                self.assertIn(done.returncode, (0, 1))
+                self.assertEqual((counts["open"], counts["held"]), (counts["close"], 0))
+
     def run_with(self, words, given, fault):
         """The program with calls that move one byte each, of which one fails."""
         return faulty.run_with([tex_program(), *words], stdin=given, fault=fault, step=1)
@@ -147,7 +338,7 @@ class Words(Case):
     def test_help(self):
         done = ask("--help")
         self.expect(done, stdout=None)
-        for word in (b"Usage: tex2mathml [OPTIONS]", b"--display", b"--null", b"inline", b"block"):
+        for word in (b"Usage: tex2mathml [OPTIONS]", b"--display", b"--null", b"--definitions <FILE>", b"inline", b"block"):
             self.assertIn(word, done.stdout)
 
     def test_version(self):
@@ -155,7 +346,8 @@ class Words(Case):
         self.expect(ask("--version"), stdout=f"tex2mathml {version}\n".encode())
 
     def test_wrong_ones(self):
-        for words in (["--wrong"], ["--display"], ["--display", "wrong"], ["x"], ["--null", "--null"]):
+        for words in (["--wrong"], ["--display"], ["--display", "wrong"], ["x"], ["--null", "--null"], ["--definitions"],
+                      ["--definitions", "/dev/null", "--definitions", "/dev/null"], ["--definitions", "--null"]):
             with self.subTest(words):
                 done = ask(*words, stdin=b"x")
                 self.expect(done, 2, b"", None)

@@ -134,8 +134,8 @@ def environments():
 
 def macros():
     """How many arguments each usual macro takes, and its body."""
-    named = [(re.fullmatch(r"`\\([A-Za-z]+)((?:\{#\d\})*)`", macro), body) for macro, body in rows(sections()["Usual macros"])]
-    return {found[1]: (found[2].count("#"), body.strip("`")) for found, body in named}
+    named = [(re.fullmatch(r"`\\([A-Za-z]+|.)((?:\{#\d\})*)`", macro), body) for macro, body in rows(sections()["Usual macros"])]
+    return {found[1]: (found[2].count("#"), "" if body == "nothing" else body.strip("`")) for found, body in named}
 
 
 # The code

@@ -91,5 +91,6 @@ def public_sources():
     """The sources whose public functions are called from outside: those of the library, of the program, and of the library for C."""
     yield from sources()
     for path in ("latex2mathml_program/src/job.rt", "latex2mathml_program/src/serving.rt", "latex2mathml_c/src/lib.rt",
-                 "latex2mathml_tex_program/src/request.rt", "latex2mathml_tex_program/src/reply.rt", "latex2mathml_tex_program/src/serving.rt"):
+                 "latex2mathml_tex_program/src/request.rt", "latex2mathml_tex_program/src/definitions.rt", "latex2mathml_tex_program/src/reply.rt",
+                 "latex2mathml_tex_program/src/serving.rt"):
         yield ROOT / "crates" / path

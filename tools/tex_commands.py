@@ -41,6 +41,14 @@ COLUMNS = {
 ARGUMENTS = {"ColumnList": "`{lcr}`", "Number": "`{2}`"}
 POSITION = "`[t]` if wanted"
 
+BOXES = {
+    "Phantom": "an operand that is not seen", "PhantomWidth": "the width of an operand", "PhantomHeight": "the height and depth of an operand",
+    "Smashed": "an operand without height and depth", "WithoutHeight": "an operand without height", "WithoutDepth": "an operand without depth",
+    "OverRight": "an operand that reaches over what stands to the right", "OverLeft": "an operand that reaches over what stands to the left",
+    "OverBoth": "an operand that reaches over what stands on both sides", "Frame": "a line around an operand",
+    "StrikeUp": "a line through an operand, upwards", "StrikeDown": "a line through an operand, downwards", "StrikeTwice": "both lines",
+}
+
 # the words that define: what they do, and an example
 WORDS = {
     "NewCommand": ("defines a macro, also in place of one", "@{\\p}[1]{(#1)} \\p{x}"),
@@ -51,9 +59,13 @@ WORDS = {
 
 # the meanings without values: the section, what it is, and an example, in which @ is the command
 ALONE = {
+    "Skip": ("Lengths and boxes", "a space as wide as a length", "a@1.5em b"),
+    "SkipInBraces": ("Lengths and boxes", "a space as wide as a length; a star is nothing", "a@{1.5em}b"),
+    "Smash": ("Lengths and boxes", "an operand without height and depth; with `[t]` it has a depth, with `[b]` a height", "@{x}"),
     "Root": ("Fractions and roots", "a root, with its degree in brackets", "@[3]{a}"),
     "StackedRelation": ("Marks, braces and stacks", "a relation, with the first operand above the second", "@{a}{=}"),
     "OperatorName": ("Functions", "the name of a function; with `*` it has limits", "@{rank} A"),
+    "Dots": ("Signs", "dots, in the middle of the line before a binary operator, a relation or a big operator", "a + @ + b"),
     "Negation": ("Strokes", "a stroke through the sign that follows", "@="),
     "Slash": ("Strokes", "a stroke through an operand", "@{D}"),
     "Left": ("Delimiters", "an opening delimiter, as high as what stands behind it", "@( a \\right)"),
@@ -81,6 +93,7 @@ SECTIONS = {
     "Alphabets": "",
     "Words": "",
     "Spaces": "Widths are in eighteenths of an em. The character `~` is a space too, of 6.",
+    "Lengths and boxes": "",
     "Strokes": "",
     "Classes": "",
     "Delimiters": "A point stands for no delimiter.",
@@ -139,6 +152,8 @@ def example_of(meaning):
             return "Spaces", f"{width}"
         case Made("Styled", (Made(alphabet),)):
             return "Alphabets", f"an operand in {ALPHABETS[alphabet]}", "@{A}"
+        case Made("Boxed", (Made(box),)):
+            return "Lengths and boxes", BOXES[box], "@{x}"
         case Made("Words", (Made("None"),)):
             return "Words", "words", "@{if }"
         case Made("Words", (Made("Some", (Made(alphabet),)),)):
@@ -388,7 +403,7 @@ def macro_lines():
 
 def macro_cells(macro):
     name, arity, body = macro
-    return command(name + "".join(f"{{#{number + 1}}}" for number in range(arity))), code(body)
+    return command(name + "".join(f"{{#{number + 1}}}" for number in range(arity))), code(body) if body else "nothing"
 
 
 def place_of_word(word):

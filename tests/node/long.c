@@ -10,3 +10,8 @@ uint32_t latex2mathml_formula(const char *latex, size_t latex_len, bool block, c
 uint32_t latex2mathml_document(const char *document, size_t document_len, char *out, size_t out_len, size_t *needed) {
     return answer(out_len, needed);
 }
+uint32_t latex2mathml_tex(const char *definitions, size_t definitions_len, const char *tex, size_t tex_len, bool block,
+                          uint32_t flags, char *out, size_t out_len, size_t *needed, size_t *place) {
+    *place = 0;
+    return answer(out_len, needed);
+}

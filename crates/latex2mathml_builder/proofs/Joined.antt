@@ -2,7 +2,7 @@
 use Rattle.std.proofs.Common.{◌≡◌, ℕ, zero, suc, ◌+◌, ◌-◌, ◌<◌, ◌≤◌, true, false, None, List, [], ◌∷◌, ◌++◌, length, take, drop, refl, sym, ap, ◌∙◌, arith, subst}
 use Rattle.std.proofs.Math.{ListN.get_or, ListN.set, ListN.drop_of_length-le, Seq.drop-cons, Seq.drop-length, Seq.take-add, Seq.take-suc-set}
 use Rattle.std.specs.List.{swap}
-use Rattle.latex2mathml_elements.specs.{Attributes.plain, Element.Element, Element.token, Element.space, Element.container, Element.pair, Element.triple, Element.table}
+use Rattle.latex2mathml_elements.specs.{Attributes.plain, Element.Element, Element.token, Element.space, Element.rectangle, Element.container, Element.pair, Element.triple, Element.table}
 use Rattle.latex2mathml_builder.specs.Built.{Adjoin, AllFit, HasText, IsSound, between}
 use Rattle.latex2mathml_builder.specs.Names.{attributes_of, token_of}
 use Rattle.latex2mathml_builder.specs.Stacks.{are_tokens, joined, ordered, token_of_element}
@@ -92,6 +92,7 @@ Same xs = (joined xs ≡ xs) × (are_tokens xs ≡ false)
 pub no_upper : (x : Element) (xs : List Element) → token_of_element x ≡ None → Same (x ∷ xs)
 no_upper (token t a text) xs h = cc
 no_upper (space width) xs h = (refl, refl)
+no_upper (rectangle e) xs h = (refl, refl)
 no_upper (container c a ys) xs h = (refl, refl)
 no_upper (pair p a y z) xs h = (refl, refl)
 no_upper (triple t a w y z) xs h = (refl, refl)
@@ -101,11 +102,13 @@ no_upper (table a rows) xs h = (refl, refl)
 pub no_lower : (x y : Element) (xs : List Element) → token_of_element y ≡ None → Same (x ∷ y ∷ xs)
 no_lower (token t a text) (token u b other) xs h = cc
 no_lower (token t a text) (space width) xs h = (refl, refl)
+no_lower (token t a text) (rectangle e) xs h = (refl, refl)
 no_lower (token t a text) (container c b ys) xs h = (refl, refl)
 no_lower (token t a text) (pair p b y z) xs h = (refl, refl)
 no_lower (token t a text) (triple u b w y z) xs h = (refl, refl)
 no_lower (token t a text) (table b rows) xs h = (refl, refl)
 no_lower (space width) y xs h = (refl, refl)
+no_lower (rectangle e) y xs h = (refl, refl)
 no_lower (container c a ys) y xs h = (refl, refl)
 no_lower (pair p a w z) y xs h = (refl, refl)
 no_lower (triple t a v w z) y xs h = (refl, refl)
@@ -121,6 +124,7 @@ no_two (x ∷ []) h = alone x
     alone : (x : Element) → Same (x ∷ [])
     alone (token t a text) = (refl, refl)
     alone (space width) = (refl, refl)
+    alone (rectangle e) = (refl, refl)
     alone (container c a ys) = (refl, refl)
     alone (pair p a w z) = (refl, refl)
     alone (triple t a v w z) = (refl, refl)

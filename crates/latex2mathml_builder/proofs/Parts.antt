@@ -6,6 +6,7 @@ use Rattle.std.proofs.lemmas.List.{drop-append-le, take-append-le}
 use Rattle.std.proofs.Math.Seq.{take-length}
 use Rattle.latex2mathml_elements.specs.Attributes.{styled}
 use Rattle.latex2mathml_elements.specs.Element.{Element, token, container, children}
+use Rattle.latex2mathml_builder.specs.Arounds.{around_first}
 use Rattle.latex2mathml_builder.specs.Built.{AllFit, Adjoin, EachFits, EndsAt, Fits, HasText, IsCut, Meets, between, element_of, is_token_part, settled_on}
 use Rattle.latex2mathml_builder.specs.Columns.{columns_of}
 use Rattle.latex2mathml_builder.specs.Names.{attributes_of, container_of, math_style_of, pair_of, token_of, triple_of}
@@ -67,6 +68,8 @@ same_children xs ys first count n h k =
 pub fits_more : (texts more : List ℕ) (n m : ℕ) (p : Part) → n ≤ m → Fits texts n p → Fits (texts ++ more) m p
 fits_more texts more n m (part.Token t a start end) h f = has_kept texts more start end f
 fits_more texts more n m (part.Space width) h f = tt
+fits_more texts more n m (part.Rectangle e) h f = tt
+fits_more texts more n m (part.Around a first) h f = omega arith
 fits_more texts more n m (part.Container c a first count) h f = omega arith
 fits_more texts more n m (part.Pair p a first) h f = omega arith
 fits_more texts more n m (part.Triple t a first is_exchanged) h f = omega arith
@@ -75,6 +78,8 @@ fits_more texts more n m (part.Table own columns first count) h f = (f.0, omega 
 pub element_kept : (texts more : List ℕ) (xs ys : List Element) (n : ℕ) (p : Part) → n ≤ length xs → Fits texts n p → element_of (texts ++ more) (xs ++ ys) p ≡ element_of texts xs p
 element_kept texts more xs ys n (part.Token t a start end) h f = ap (token (token_of t) (attributes_of a)) (between_kept texts more start end f)
 element_kept texts more xs ys n (part.Space width) h f = refl
+element_kept texts more xs ys n (part.Rectangle e) h f = refl
+element_kept texts more xs ys n (part.Around a first) h f = ap (around_first a) (same_children xs ys first 1 n f h)
 element_kept texts more xs ys n (part.Container c a first count) h f = ap (λ l. container (container_of c) (attributes_of a) (children l)) (same_children xs ys first count n f h)
 element_kept texts more xs ys n (part.Pair p a first) h f = ap (pair_with (pair_of p) (attributes_of a)) (same_children xs ys first 2 n f h)
 element_kept texts more xs ys n (part.Triple t a first is_exchanged) h f = ap (triple_with (triple_of t) (attributes_of a) is_exchanged) (same_children xs ys first 3 n f h)
@@ -151,6 +156,8 @@ adjoin_replaced n m (o ∷ r ∷ ps) qs rs p q before behind s = (s.0, adjoin_re
 pub meets_no_token : (p q : Part) → is_token_part q ≡ false → Meets p q
 meets_no_token p (part.Token t a start end) e = cc
 meets_no_token (part.Token t a start end) (part.Space width) e = tt
+meets_no_token (part.Token t a start end) (part.Rectangle x) e = tt
+meets_no_token (part.Token t a start end) (part.Around x first) e = tt
 meets_no_token (part.Token t a start end) (part.Container c b first count) e = tt
 meets_no_token (part.Token t a start end) (part.Pair p b first) e = tt
 meets_no_token (part.Token t a start end) (part.Triple u b first is_exchanged) e = tt

@@ -1,7 +1,7 @@
 -- How the rows and the cells of a table are written, and how much there is to write.
 use Rattle.std.proofs.Common.{codes, ◌≡◌, ℕ, zero, suc, ◌+◌, ◌-◌, ◌<◌, ◌≤◌, List, [], ◌∷◌, ◌++◌, length, append_assoc, append-nil, drop, take, refl, sym, ap, ◌∙◌, arith}
 use Rattle.latex2mathml_elements.specs.{Attributes.Attributes, Columns.Columns, Columns.column_at}
-use Rattle.latex2mathml_elements.specs.Element.{Mrow, Msqrt, Mstyle, Element, Elements, token, space, container, pair, triple, table, none, more, children}
+use Rattle.latex2mathml_elements.specs.Element.{Mrow, Msqrt, Mstyle, Mpadded, Mphantom, Element, Elements, token, space, rectangle, container, pair, triple, table, none, more, children}
 use Rattle.latex2mathml_elements.specs.Print.{cell_print, cell_tag, cells_print, end_tag, print, prints, row_print, rows_print, start_tag}
 use Rattle.latex2mathml_elements.specs.Tables.{cells_behind, cells_in, rows_in}
 use Rattle.latex2mathml_builder.specs.Due.{cell_loads, cell_prints, cell_weights, in_cells, listed, row_loads, row_prints, row_weights, weight, weights}
@@ -48,8 +48,11 @@ row_written columns (container Mrow a (more x xs)) ys = cells_written zero colum
 row_written columns (container Mrow a none) ys = cells_written zero columns (container Mrow a none) none
 row_written columns (container Msqrt a xs) ys = cells_written zero columns (container Msqrt a xs) none
 row_written columns (container Mstyle a xs) ys = cells_written zero columns (container Mstyle a xs) none
+row_written columns (container Mpadded a xs) ys = cells_written zero columns (container Mpadded a xs) none
+row_written columns (container Mphantom a xs) ys = cells_written zero columns (container Mphantom a xs) none
 row_written columns (token t a text) ys = cells_written zero columns (token t a text) none
 row_written columns (space width) ys = cells_written zero columns (space width) none
+row_written columns (rectangle e) ys = cells_written zero columns (rectangle e) none
 row_written columns (pair p a x y) ys = cells_written zero columns (pair p a x y) none
 row_written columns (triple t a x y z) ys = cells_written zero columns (triple t a x y z) none
 row_written columns (table a rows) ys = cells_written zero columns (table a rows) none
@@ -59,8 +62,11 @@ row_loaded columns (container Mrow a (more x xs)) ys = cells_loaded zero columns
 row_loaded columns (container Mrow a none) ys = cells_loaded zero columns (container Mrow a none) none
 row_loaded columns (container Msqrt a xs) ys = cells_loaded zero columns (container Msqrt a xs) none
 row_loaded columns (container Mstyle a xs) ys = cells_loaded zero columns (container Mstyle a xs) none
+row_loaded columns (container Mpadded a xs) ys = cells_loaded zero columns (container Mpadded a xs) none
+row_loaded columns (container Mphantom a xs) ys = cells_loaded zero columns (container Mphantom a xs) none
 row_loaded columns (token t a text) ys = cells_loaded zero columns (token t a text) none
 row_loaded columns (space width) ys = cells_loaded zero columns (space width) none
+row_loaded columns (rectangle e) ys = cells_loaded zero columns (rectangle e) none
 row_loaded columns (pair p a x y) ys = cells_loaded zero columns (pair p a x y) none
 row_loaded columns (triple t a x y z) ys = cells_loaded zero columns (triple t a x y z) none
 row_loaded columns (table a rows) ys = cells_loaded zero columns (table a rows) none

@@ -1,7 +1,8 @@
 -- Parts that are no tokens are elements without a text of their own.
 use Rattle.std.proofs.Common.{◌≡◌, ℕ, Bool, true, false, List, [], ◌∷◌, None, option_map, refl}
 use Rattle.latex2mathml_elements.specs.{Attributes.Attributes, Attributes.styled, Columns.Columns, Element.Element, Element.Pair, Element.Triple}
-use Rattle.latex2mathml_builder.specs.{Columns.columns_of, Names.attributes_of, Names.math_style_of, Names.pair_of, Names.triple_of}
+use Rattle.latex2mathml_builder.specs.declared.around.Around.{Around}
+use Rattle.latex2mathml_builder.specs.{Arounds.around_first, Columns.columns_of, Names.attributes_of, Names.math_style_of, Names.pair_of, Names.triple_of}
 use Rattle.latex2mathml_builder.specs.Stacks.{pair_with, table_with, token_of_element, triple_with, with_attributes}
 use Rattle.latex2mathml_builder.specs.declared.{attributes.Attributes.Attributes as OwnAttributes, part.Part.Part, tag.Token.Token}
 use Rattle.latex2mathml_builder.specs.declared.part.Part.TheVariants as part
@@ -25,6 +26,10 @@ triple_has_none t a true (x ∷ y ∷ []) = (refl, λ b. refl)
 triple_has_none t a false (x ∷ y ∷ z ∷ xs) = (refl, λ b. refl)
 triple_has_none t a true (x ∷ y ∷ z ∷ xs) = (refl, λ b. refl)
 
+around_has_none : (a : Around) (xs : List Element) → HasNoText (around_first a xs)
+around_has_none a [] = (refl, λ b. refl)
+around_has_none a (x ∷ xs) = (refl, λ b. refl)
+
 table_has_none : (a : Attributes) (columns : Columns) (xs : List Element) → HasNoText (table_with a columns xs)
 table_has_none a columns [] = (refl, λ b. refl)
 table_has_none a columns (x ∷ xs) = (refl, λ b. refl)
@@ -32,6 +37,8 @@ table_has_none a columns (x ∷ xs) = (refl, λ b. refl)
 pub has_none : (texts : List ℕ) (settled : List Part) (p : Part) → ((t : Token) (a : OwnAttributes) (start end : ℕ) → p ≡ part.Token t a start end → ⊥) → HasNoText (element texts settled p)
 has_none texts settled (part.Token t a start end) h = absurd (h t a start end refl)
 has_none texts settled (part.Space width) h = (refl, λ b. refl)
+has_none texts settled (part.Rectangle e) h = (refl, λ b. refl)
+has_none texts settled (part.Around a first) h = around_has_none a _
 has_none texts settled (part.Container c a first count) h = (refl, λ b. refl)
 has_none texts settled (part.Pair p a first) h = pair_has_none (pair_of p) (attributes_of a) _
 has_none texts settled (part.Triple t a first is_exchanged) h = triple_has_none (triple_of t) (attributes_of a) is_exchanged _

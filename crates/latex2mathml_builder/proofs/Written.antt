@@ -1,10 +1,11 @@
 -- How elements are written in order, and how much there is to write.
-use Rattle.std.proofs.Common.{codes, ◌≡◌, ℕ, zero, suc, ◌+◌, ◌-◌, ◌<◌, ◌≤◌, Bool, true, false, List, [], ◌∷◌, ◌++◌, length, length-drop, append_assoc, append-nil, take, drop, reverse, sym, ap, ◌∙◌, arith}
+use Rattle.std.proofs.Common.{codes, ◌≡◌, ℕ, zero, suc, ◌+◌, ◌-◌, ◌<◌, ◌≤◌, Bool, true, false, List, [], ◌∷◌, ◌++◌, length, length-drop, append_assoc, append-nil, take, drop, refl, reverse, sym, ap, ◌∙◌, arith}
 use Rattle.std.proofs.lemmas.List.{drop-drop, length-take-le, reverse-append}
 use Rattle.latex2mathml_elements.specs.Attributes.{Attributes}
 use Rattle.latex2mathml_elements.specs.Element.{Pair, Triple, Element, children}
-use Rattle.latex2mathml_elements.specs.Print.{attributes_text, end_tag, pair_name, print, prints, start_tag, triple_name}
+use Rattle.latex2mathml_elements.specs.Print.{attributes_text, container_name, end_tag, pair_name, print, prints, start_tag, triple_name}
 use Rattle.latex2mathml_builder.specs.Due.{arranged, weight, weights}
+use Rattle.latex2mathml_builder.specs.{Arounds.around_attributes, Arounds.around_first, Arounds.around_name, declared.around.Around.Around}
 use Rattle.latex2mathml_builder.specs.Stacks.{pair_with, triple_with}
 
 -- The children of an element
@@ -126,3 +127,21 @@ lowest_first out xs ys x new middle due whole is none ends writes before =
     ∙ append_assoc out (print x) (prints (children ys))
     ∙ ap (λ l. out ++ prints (children l)) (sym is)
     ∙ before
+
+-- An element around another
+
+around_written : (a : Around) (xs : List Element) → length xs ≡ 1 → print (around_first a xs) ≡ start_tag (container_name (around_name a)) (around_attributes a) ++ (prints (children xs) ++ end_tag (container_name (around_name a)))
+around_written a [] h = absurd (omega arith)
+around_written a (x ∷ []) h = refl
+around_written a (x ∷ y ∷ xs) h = absurd (omega arith)
+
+around_weight : (a : Around) (xs : List Element) → length xs ≡ 1 → weight (around_first a xs) ≡ 3 + weights (children xs)
+around_weight a [] h = absurd (omega arith)
+around_weight a (x ∷ []) h = refl
+around_weight a (x ∷ y ∷ xs) h = absurd (omega arith)
+
+pub print_around : (a : Around) (xs : List Element) (first : ℕ) → first + 1 ≤ length xs → print (around_first a (take 1 (drop first xs))) ≡ start_tag (container_name (around_name a)) (around_attributes a) ++ (prints (children (take 1 (drop first xs))) ++ end_tag (container_name (around_name a)))
+print_around a xs first h = around_written a _ (taken_length xs first 1 h)
+
+pub weight_around : (a : Around) (xs : List Element) (first : ℕ) → first + 1 ≤ length xs → weight (around_first a (take 1 (drop first xs))) ≡ 3 + weights (children (take 1 (drop first xs)))
+weight_around a xs first h = around_weight a _ (taken_length xs first 1 h)

@@ -2,8 +2,8 @@
 use Rattle.std.specs.Prelude.{◌≡◌, ℕ, suc, ◌+◌, ◌-◌, ◌<◌, ◌≤◌, Bool, true, false, ⊤, List, [], ◌∷◌, ◌++◌, drop, length, map, option_map, reverse, take}
 use Rattle.std.specs.Str.{IsUtf8}
 use Rattle.latex2mathml_elements.specs.Attributes.{styled}
-use Rattle.latex2mathml_elements.specs.Element.{Element, token, space, container, children}
-use Rattle.latex2mathml_builder.specs.Columns.{columns_of}
+use Rattle.latex2mathml_elements.specs.Element.{Element, token, space, rectangle, container, children}
+use Rattle.latex2mathml_builder.specs.{Arounds.around_first, Arounds.extent_of, Columns.columns_of}
 use Rattle.latex2mathml_builder.specs.Names.{attributes_of, container_of, math_style_of, pair_of, token_of, triple_of}
 use Rattle.latex2mathml_builder.specs.Stacks.{pair_with, table_with, triple_with}
 use Rattle.latex2mathml_builder.specs.declared.part.Part.{Part}
@@ -17,6 +17,8 @@ between start end text = take (end - start) (drop start text)
 abbrev pub element_of : List ℕ → List Element → Part → Element
 element_of texts xs (part.Token t a start end) = token (token_of t) (attributes_of a) (between start end texts)
 element_of texts xs (part.Space width) = space width
+element_of texts xs (part.Rectangle e) = rectangle (extent_of e)
+element_of texts xs (part.Around a first) = around_first a (take 1 (drop first xs))
 element_of texts xs (part.Container c a first count) = container (container_of c) (attributes_of a) (children (take count (drop first xs)))
 element_of texts xs (part.Pair p a first) = pair_with (pair_of p) (attributes_of a) (take 2 (drop first xs))
 element_of texts xs (part.Triple t a first is_exchanged) = triple_with (triple_of t) (attributes_of a) is_exchanged (take 3 (drop first xs))
@@ -38,6 +40,8 @@ HasText texts start end = (start ≤ end) × (IsCut texts start × IsCut texts e
 abbrev pub Fits : List ℕ → ℕ → Part → Type 0
 Fits texts n (part.Token t a start end) = HasText texts start end
 Fits texts n (part.Space width) = ⊤
+Fits texts n (part.Rectangle e) = ⊤
+Fits texts n (part.Around a first) = first + 1 ≤ n
 Fits texts n (part.Container c a first count) = first + count ≤ n
 Fits texts n (part.Pair p a first) = first + 2 ≤ n
 Fits texts n (part.Triple t a first is_exchanged) = first + 3 ≤ n

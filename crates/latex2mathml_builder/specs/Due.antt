@@ -1,7 +1,7 @@
 -- What is still to be written of the elements of a builder. The work that was put last is done first.
 use Rattle.std.specs.Prelude.{◌≡◌, ℕ, suc, ◌+◌, ◌-◌, ◌≤◌, Bool, true, List, [], ◌∷◌, ◌++◌, drop, length, reverse, sum_by, take}
 use Rattle.std.specs.List.{All, flat_map}
-use Rattle.latex2mathml_elements.specs.Element.{Element, Elements, Rows, Cells, token, space, container, pair, triple, table, none, more, one_row, more_rows, one_cell, more_cells, children, Mrow}
+use Rattle.latex2mathml_elements.specs.Element.{Element, Elements, Rows, Cells, token, space, rectangle, container, pair, triple, table, none, more, one_row, more_rows, one_cell, more_cells, children, Mrow}
 use Rattle.latex2mathml_elements.specs.Columns.{Columns, column_at}
 use Rattle.latex2mathml_elements.specs.Print.{cell_print, cells_print, prints, row_print}
 use Rattle.latex2mathml_elements.specs.Tables.{cells_in}
@@ -63,6 +63,7 @@ abbrev mutual
   pub weight : Element → ℕ
   weight (token t a text) = 1
   weight (space width) = 1
+  weight (rectangle e) = 1
   weight (container c a xs) = 3 + weights xs
   weight (pair p a x y) = 3 + (weight x + weight y)
   weight (triple t a x y z) = 5 + (weight x + (weight y + weight z))

@@ -1,3 +1,4 @@
+pub mod Arounds
 pub mod Built
 pub mod Columns
 pub mod Due

@@ -1,5 +1,5 @@
 -- The names and attributes of the code, as the definitions have them.
-use Rattle.std.specs.Prelude.{option_map}
+use Rattle.std.specs.Prelude.{None, option_map, pos}
 use Rattle.latex2mathml_elements.specs.Attributes as attributes
 use Rattle.latex2mathml_elements.specs.Element as element
 use Rattle.latex2mathml_builder.specs.declared.attributes.Attributes.{Attributes}
@@ -64,6 +64,10 @@ attributes_of a = record {
   accent = option_map side_of a.accent;
   no_line = a.no_line;
   style = option_map math_style_of a.style;
+  boxing = None;
+  raised = pos 0;
+  color = None;
+  background = None;
 }
 
 abbrev pub token_of : Token → element.Token

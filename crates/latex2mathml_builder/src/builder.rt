@@ -2,14 +2,17 @@
 ghost use Rattle.std.specs.Prelude.{◌≡◌, ◌⊎◌, ◌+◌, ◌-◌, ◌<◌, ◌≤◌, ◌∷◌, ◌++◌, [], false, true, IfOk, MatchOption, None, OnErr, OnOk, Some, drop, length, option_map, reverse, take};
 ghost use Rattle.std.specs.Char.{encode_utf8};
 ghost use Rattle.latex2mathml_elements.specs.{Attributes.plain, Attributes.styled, Element.Mrow};
-ghost use Rattle.latex2mathml_elements.specs.Element.{children, container, space, token};
+ghost use Rattle.latex2mathml_elements.specs.Element.{children, container, rectangle, space, token};
+ghost use Rattle.latex2mathml_builder.specs.Arounds.{around_first, extent_of};
 ghost use Rattle.latex2mathml_builder.specs.Built.{Fits, HasText, between, element_of, elements_in, is_token_part, nothing, settled_in};
 ghost use Rattle.latex2mathml_builder.specs.Columns.{columns_of};
 ghost use Rattle.latex2mathml_builder.specs.Names.{attributes_of, container_of, math_style_of, pair_of, token_of, triple_of};
 ghost use Rattle.latex2mathml_builder.specs.Stacks.{are_tokens, given, is_token, joined, lengthened, ordered, pair_with, table_with, token_at, triple_with};
 
+use crate::around::Around;
 use crate::attributes::{Attributes, MathStyle};
 use crate::columns::Columns;
+use crate::extent::Extent;
 use crate::part::Part;
 use crate::tag::{Container, Pair, Token, Triple};
 use std::alloc::{AllocError, Global};
@@ -140,6 +143,25 @@ impl Builder {
     {
         self.stack.push(Part::Space(width))?;
         Ok(())
+    }
+
+    /// Puts a rectangle.
+    pub fn rectangle(&mut self, extent: Extent) -> Result<(), AllocError>
+        ensures elements { OnOk result (elements_in self.new ≡ rectangle (extent_of extent) ∷ elements_in self.old) }
+        ensures err { OnErr result (self.new ≡ self.old) }
+    {
+        self.stack.push(Part::Rectangle(extent))?;
+        Ok(())
+    }
+
+    /// Puts an element around the uppermost one.
+    pub fn surround(&mut self, around: Around) -> Result<(), AllocError>
+        requires { 1 ≤ length (elements_in self.old) }
+        ensures elements { OnOk result (elements_in self.new ≡ around_first around (elements_in self.old) ∷ drop 1 (elements_in self.old)) }
+        ensures err { OnErr result (self.new ≡ self.old) }
+    {
+        let first = self.settled.as_slice().len();
+        self.wrap(1, false, Part::Around(around, first))
     }
 
     /// Puts a space, in eighteenths of an em, below the uppermost element.

@@ -1,7 +1,9 @@
 //! An element without its children.
 
+use crate::around::Around;
 use crate::attributes::{Attributes, MathStyle};
 use crate::columns::Columns;
+use crate::extent::Extent;
 use crate::tag::{Container, Pair, Token, Triple};
 
 /// An element. Its text is a part of the builder's texts; its children stand side by side among the settled elements.
@@ -11,6 +13,10 @@ pub(crate) enum Part {
     Token(Token, Attributes, usize, usize),
     /// A space, in eighteenths of an em.
     Space(i32),
+    /// An empty or black one.
+    Rectangle(Extent),
+    /// Its child.
+    Around(Around, usize),
     /// The first child, and how many there are.
     Container(Container, Attributes, usize, usize),
     /// The first child.

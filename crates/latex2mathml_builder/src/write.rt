@@ -103,6 +103,16 @@ impl Builder {
                 out.push_str(tag.end())
             }
             Part::Space(width) => append_space(width, out),
+            Part::Rectangle(extent) => {
+                out.push_str("<mspace")?;
+                extent.append(out)?;
+                out.push_str("/>")
+            }
+            Part::Around(around, first) => {
+                around.append_start(out)?;
+                self.push_work(Work::End(around.end()), works)?;
+                self.push_work(Work::Elements(first, 1), works)
+            }
             Part::Container(tag, attributes, first, count) => {
                 start_tag(tag.start_tag(), tag.start(), &attributes, out)?;
                 self.push_work(Work::End(tag.end()), works)?;

@@ -33,10 +33,14 @@ enum latex2mathml_code {
     LATEX2MATHML_REFUSED = 1,
     /* The text is not UTF-8. The buffer contains a sentence that says so. */
     LATEX2MATHML_NOT_UTF8 = 2,
-    /* The buffer is too small for the text of one of these three. Nothing was written. `*needed` bytes are enough. */
+    /* The buffer is too small for the text of one of the others. Nothing was written. `*needed` bytes are enough. */
     LATEX2MATHML_TOO_SMALL = 3,
     /* Memory ran out. Nothing was written, and `*needed` is 0. */
-    LATEX2MATHML_OUT_OF_MEMORY = 4
+    LATEX2MATHML_OUT_OF_MEMORY = 4,
+    /* The definitions of macros are refused. The buffer contains the reason, as for LATEX2MATHML_REFUSED. */
+    LATEX2MATHML_DEFINITION_REFUSED = 5,
+    /* A flag is set that has no meaning. The buffer contains a sentence that says so. */
+    LATEX2MATHML_UNKNOWN_FLAGS = 6
 };
 
 /* The size of a buffer that is large enough for nearly every formula of so many bytes, so that one call is enough. It is a
@@ -72,6 +76,27 @@ uint32_t latex2mathml_formula(const char *latex, size_t latex_len, bool block, c
  *
  * Everything else is as with latex2mathml_formula. */
 uint32_t latex2mathml_document(const char *document, size_t document_len, char *out, size_t out_len, size_t *needed);
+
+/* Converts one formula in LaTeX as authors write it, without dollar signs around it, to one `math` element. The two calls above
+ * read what the Rust crate latex2mathml reads, which is not what TeX reads: to them the 2 of `x_i^2` belongs to the i.
+ *
+ * The formula is the `tex_len` bytes at `tex`. It may use the usual macros of LaTeX and those of the `definitions_len` bytes at
+ * `definitions`, such as `\newcommand{\R}{\mathbb{R}}`. With no bytes there, the usual ones hold alone. What a formula defines
+ * itself holds to its end.
+ *
+ * `flags` must be 0. Later versions may give flags a meaning.
+ *
+ * `*place` is the byte where what is refused begins: of the formula with LATEX2MATHML_REFUSED, and of the definitions with
+ * LATEX2MATHML_DEFINITION_REFUSED. With LATEX2MATHML_TOO_SMALL it is what it will be if the buffer is large enough. Otherwise it
+ * is 0. The reason has it too, as in `unknown command \foo at 4`.
+ *
+ * Where more than one is wrong, the first of these is told: the flags, definitions that are not UTF-8, a formula that is not
+ * UTF-8, the definitions, the formula.
+ *
+ * Everything else is as with latex2mathml_formula, also that the same arguments have the same result. `out`, `needed` and
+ * `place` overlap neither each other nor one of the texts, which may overlap. */
+uint32_t latex2mathml_tex(const char *definitions, size_t definitions_len, const char *tex, size_t tex_len, bool block,
+                          uint32_t flags, char *out, size_t out_len, size_t *needed, size_t *place);
 
 #ifdef __cplusplus
 }

@@ -1,1 +1,3 @@
+mod Calls
+mod TexTexts
 mod Texts

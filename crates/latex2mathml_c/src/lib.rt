@@ -7,10 +7,16 @@
 ghost use Rattle.std.specs.Prelude.{◌≡◌, ◌≢◌, IfOk, string_bytes};
 ghost use Rattle.latex2mathml_c.specs.{declared.Job.TheVariants.Document, declared.Job.TheVariants.Formula, declared.Status.Status};
 ghost use Rattle.latex2mathml_c.specs.declared.Status.TheVariants.{OutOfMemory};
-ghost use Rattle.latex2mathml_c.specs.Call.{IsLength, IsCallOutcome, IsPutOrTooSmall, IsText, code_of, conversion_of, display_of};
+ghost use Rattle.latex2mathml_c.specs.Call.{IsLength, IsCallOutcome, IsPutOrTooSmall, code_of, display_of};
+ghost use Rattle.latex2mathml_c.specs.TexTexts.{Given, HasTexText, IsTexText, given_by};
+ghost use Rattle.latex2mathml_c.specs.Texts.{IsText, conversion_of};
 ghost use Rattle.latex2mathml.specs.{Conversions.IsConverted, Conversions.IsRefusedAs, Formulas.IfRefused};
 
+mod tex;
+
+use crate::tex::read;
 use latex2mathml::{DisplayStyle, LatexError, latex_to_mathml, laws, replace};
+use latex2mathml_tex_grammar::laws as tex_laws;
 use std::alloc::{AllocError, Global};
 
 /// What is to be converted.
@@ -22,6 +28,15 @@ enum Job {
     Document,
 }
 
+/// A formula in LaTeX as authors write it, with definitions of macros that it may use.
+#[derive(Clone, Copy)]
+struct Request<'a> {
+    definitions: &'a [u8],
+    tex: &'a [u8],
+    display: DisplayStyle,
+    flags: u32,
+}
+
 /// The outcome of a call.
 #[derive(Clone, Copy)]
 enum Status {
@@ -31,10 +46,14 @@ enum Status {
     Refused,
     /// The bytes are not UTF-8, and the buffer contains a sentence that says so.
     NotUtf8,
-    /// The buffer is too small for the text of one of these three. Nothing was written.
+    /// The buffer is too small for the text of one of the others. Nothing was written.
     TooSmall,
     /// Memory ran out. Nothing was written.
     OutOfMemory,
+    /// The definitions are refused, and the buffer contains the reason.
+    DefinitionRefused,
+    /// A flag is set that has no meaning, and the buffer contains a sentence that says so.
+    UnknownFlags,
 }
 
 impl Status {
@@ -48,6 +67,8 @@ impl Status {
             Status::NotUtf8 => 2,
             Status::TooSmall => 3,
             Status::OutOfMemory => 4,
+            Status::DefinitionRefused => 5,
+            Status::UnknownFlags => 6,
         }
     }
 }
@@ -65,10 +86,10 @@ pub extern "C" fn latex2mathml_formula(
     needed: &mut usize,
 ) -> u32
     ensures outcome { (status : Status) × (result ≡ code_of status)
-        × IsCallOutcome (Formula (display_of block)) latex.now status
+        × IsCallOutcome (IsText (Formula (display_of block)) latex.now) status
         (record { old = out.old; new = out.new; needed = needed.new }) }
     ensures length { result ≢ code_of OutOfMemory →
-        IsLength (Formula (display_of block)) latex.now needed.new }
+        IsLength (IsText (Formula (display_of block)) latex.now) needed.new }
 {
     laws::renderings();
     laws::answers();
@@ -87,13 +108,59 @@ pub extern "C" fn latex2mathml_document(
     needed: &mut usize,
 ) -> u32
     ensures outcome { (status : Status) × (result ≡ code_of status)
-        × IsCallOutcome Document document.now status
+        × IsCallOutcome (IsText Document document.now) status
         (record { old = out.old; new = out.new; needed = needed.new }) }
-    ensures length { result ≢ code_of OutOfMemory → IsLength Document document.now needed.new }
+    ensures length { result ≢ code_of OutOfMemory →
+        IsLength (IsText Document document.now) needed.new }
 {
     laws::renderings();
     laws::answers();
     call(alloc, Job::Document, document, out, needed).code()
+}
+
+/// Converts one formula in LaTeX as authors write it, and returns a code of the header. `definitions` are those of macros that
+/// the formula may use, beside the usual ones. There are no flags yet, so `flags` must be 0.
+///
+/// `out` and `needed` are as in [`latex2mathml_formula`]. `place` is the byte of the formula or of the definitions where what is
+/// refused begins, also if the reason does not fit, and otherwise 0.
+#[unsafe(no_mangle)]
+pub extern "C" fn latex2mathml_tex<'a>(
+    alloc: Global,
+    definitions: &'a [u8],
+    tex: &'a [u8],
+    block: bool,
+    flags: u32,
+    out: &mut [u8],
+    needed: &mut usize,
+    place: &mut usize,
+) -> u32
+    ensures outcome { let given : Given = record {
+      definitions = definitions.now;
+      tex = tex.now;
+      display = display_of block;
+      flags = flags;
+    } in
+        (status : Status) × (result ≡ code_of status)
+        × IsCallOutcome (IsTexText given place.new) status
+        (record { old = out.old; new = out.new; needed = needed.new }) }
+    ensures no_place { result ≡ code_of OutOfMemory → place.new ≡ 0 }
+    ensures length { let given : Given = record {
+      definitions = definitions.now;
+      tex = tex.now;
+      display = display_of block;
+      flags = flags;
+    } in
+        result ≢ code_of OutOfMemory → IsLength (HasTexText given) needed.new }
+{
+    tex_laws::one_reading();
+    tex_laws::one_table_of_text();
+    let request = Request {
+        definitions,
+        tex,
+        display: display(block),
+        flags,
+    };
+    call_tex(alloc, request, out, needed, place).code()
 }
 
 fn display(block: bool) -> DisplayStyle
@@ -108,7 +175,7 @@ fn display(block: bool) -> DisplayStyle
 
 /// Converts the input, and writes the result into the buffer if it fits.
 fn call(alloc: Global, job: Job, input: &[u8], out: &mut [u8], needed: &mut usize) -> Status
-    ensures outcome { IsCallOutcome job input.now result
+    ensures outcome { IsCallOutcome (IsText job input.now) result
         (record { old = out.old; new = out.new; needed = needed.new }) }
 {
     *needed = 0;
@@ -117,6 +184,43 @@ fn call(alloc: Global, job: Job, input: &[u8], out: &mut [u8], needed: &mut usiz
     };
     match text_of(alloc, job, text) {
         Ok((status, text)) => put(status, text.as_str(), out, needed),
+        Err(_) => Status::OutOfMemory,
+    }
+}
+
+/// Converts the formula, and writes the result into the buffer if it fits. The place of what is refused is told even if not.
+fn call_tex(
+    alloc: Global,
+    request: Request,
+    out: &mut [u8],
+    needed: &mut usize,
+    place: &mut usize,
+) -> Status
+    ensures outcome { IsCallOutcome (IsTexText (given_by request.entry) place.new) result
+        (record { old = out.old; new = out.new; needed = needed.new }) }
+    ensures no_place { result ≡ OutOfMemory → place.new ≡ 0 }
+{
+    *needed = 0;
+    *place = 0;
+    if request.flags != 0 {
+        return put(Status::UnknownFlags, "The flags must be 0.", out, needed);
+    }
+    let Ok(definitions) = str::from_utf8(request.definitions) else {
+        return put(
+            Status::NotUtf8,
+            "The definitions are not UTF-8 text.",
+            out,
+            needed,
+        );
+    };
+    let Ok(tex) = str::from_utf8(request.tex) else {
+        return put(Status::NotUtf8, "The input is not UTF-8 text.", out, needed);
+    };
+    match read(alloc, definitions, tex, request.display) {
+        Ok(told) => {
+            *place = told.place;
+            put(told.status, told.text.as_str(), out, needed)
+        }
         Err(_) => Status::OutOfMemory,
     }
 }

@@ -5,7 +5,7 @@ use Rattle.std.proofs.lemmas.Str.{NoCharPasses-nil, NoCharPasses-append, encode_
 use Rattle.std.specs.{Bool.⊤, Char.encode_utf8, List.list_all, Str.byte, Str.NonePass, Str.encode_utf8_all}
 use Rattle.latex2mathml_elements.specs.Characters.{is_forbidden, IsAllowed, EachText, EachTextOf, EachTextOfCells, EachTextOfRows}
 use Rattle.latex2mathml_elements.specs.Dollars.{IsDollarFree}
-use Rattle.latex2mathml_elements.specs.Element.{Element, Elements, Rows, Cells, token, space, container, pair, triple, table, none, more, one_row, more_rows, one_cell, more_cells}
+use Rattle.latex2mathml_elements.specs.Element.{Element, Elements, Rows, Cells, token, space, rectangle, container, pair, triple, table, none, more, one_row, more_rows, one_cell, more_cells}
 use Rattle.latex2mathml_elements.specs.Print.{formula_print}
 use Rattle.latex2mathml_elements.proofs.Plain.{IsPlain, is_plain, formula_holds}
 use Rattle.latex2mathml_tokens.specs.Escape.{content, content_byte}
@@ -40,6 +40,7 @@ mutual
   any_text : (x : Element) → EachText (λ text. ⊤) x
   any_text (token t a text) = tt
   any_text (space width) = tt
+  any_text (rectangle e) = tt
   any_text (container c a xs) = any_text_of xs
   any_text (pair p a x y) = (any_text x, any_text y)
   any_text (triple t a x y z) = (any_text x, any_text y, any_text z)

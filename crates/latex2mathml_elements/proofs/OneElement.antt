@@ -1,11 +1,11 @@
 -- The print of an element is one element that obeys the child table.
 use Rattle.std.proofs.Common.{◌≡◌, ℕ, ℤ, Bool, true, false, ◌&&◌, IsTrue, List, [], ◌∷◌, ◌++◌, Option, refl, sym, ap, ◌∙◌, append_assoc, append-nil, codes, map}
 use Rattle.std.specs.{List.list_all, Str.bytes_eq}
-use Rattle.latex2mathml_elements.specs.{Attributes.Attributes, Columns.Column}
-use Rattle.latex2mathml_elements.specs.Element.{Token, Mi, Mn, Mo, Mtext, Container, Mrow, Msqrt, Mstyle, Pair, Mfrac, Mroot, Msub, Msup, Munder, Mover, Triple, Msubsup, Munderover, Element, Elements, Rows, Cells, token, space, container, pair, triple, table, none, more as one_more, one_row, more_rows, one_cell, more_cells}
+use Rattle.latex2mathml_elements.specs.{Attributes.Attributes, Columns.Column, Extents.Extent}
+use Rattle.latex2mathml_elements.specs.Element.{Token, Mi, Mn, Mo, Mtext, Container, Mrow, Msqrt, Mstyle, Mpadded, Mphantom, Pair, Mfrac, Mroot, Msub, Msup, Munder, Mover, Triple, Msubsup, Munderover, Element, Elements, Rows, Cells, token, space, rectangle, container, pair, triple, table, none, more as one_more, one_row, more_rows, one_cell, more_cells}
 use Rattle.latex2mathml_elements.specs.Laws.{PrintAsElements}
 use Rattle.latex2mathml_elements.specs.Print.{cell_print, cells_print, container_name, formula_print, pair_name, print, prints, row_print, rows_print, start_tag, token_name, triple_name}
-use Rattle.latex2mathml_elements.proofs.{Characters.allowed_print, Characters.dollar_free, Settings.AreSettings, Settings.column, Settings.settings}
+use Rattle.latex2mathml_elements.proofs.{Characters.allowed_print, Characters.dollar_free, Settings.AreSettings, Settings.column, Settings.extent, Settings.settings}
 use Rattle.latex2mathml_trees.specs.{MathSchema.child_table, MathSchema.has_some, MathSchema.IsMathElement}
 use Rattle.latex2mathml_trees.specs.Markup.{Name, attribute, plain, open_tag, empty_tag, above, add, at_start, lowest, name_of, IsElement, OpenElements, Runs, is_attribute, is_name}
 use Rattle.latex2mathml_trees.proofs.Runs.{closed, content_leads, ending_as, joined, more, more-above, more-append, obeying, opened, single, spelled_as, staying}
@@ -14,6 +14,7 @@ use Rattle.latex2mathml_trees.proofs.ValueTexts.{beside, no_text, plain_before, 
 abbrev called : Element → Name
 called (token t a text) = token_name t
 called (space width) = codes "mspace"
+called (rectangle e) = codes "mspace"
 called (container c a xs) = container_name c
 called (pair p a x y) = pair_name p
 called (triple t a x y z) = triple_name t
@@ -37,11 +38,15 @@ container_named : (c : Container) → IsTrue (is_name (container_name c))
 container_named Mrow = refl
 container_named Msqrt = refl
 container_named Mstyle = refl
+container_named Mpadded = refl
+container_named Mphantom = refl
 
 container_fits : (c : Container) (parent : Option Name) (names : List Name) → IsTrue (child_table parent (container_name c) names false)
 container_fits Mrow parent names = refl
 container_fits Msqrt parent names = refl
 container_fits Mstyle parent names = refl
+container_fits Mpadded parent names = refl
+container_fits Mphantom parent names = refl
 
 pair_named : (p : Pair) → IsTrue (is_name (pair_name p))
 pair_named Mfrac = refl
@@ -102,12 +107,19 @@ space_runs width s =
     reach : (u w : List ℕ) → u ≡ w ++ codes "em" → ((u ++ codes "\"") ++ []) ++ codes "/>" ≡ w ++ codes "em\"/>"
     reach u w e = simp (append_assoc, append-nil, e)
 
+rectangle_runs : (e : Extent) (s : OpenElements) → Runs child_table (print (rectangle e)) s (add (codes "mspace") s)
+rectangle_runs e s =
+    let some = extent e in
+    spelled_as (ap (λ l. codes "<mspace" ++ (l ++ codes "/>")) some.spelled)
+    (single child_table (empty_tag (codes "mspace") some.list) s (add (codes "mspace") s) some.valid refl)
+
 mutual
   element_runs : (x : Element) (s : OpenElements) → Runs child_table (print x) s (add (called x) s)
   element_runs (token t a text) s =
       let inner = content_leads child_table (token_name t) [] false (add (token_name t) s) text in
       joined (starts (token_name t) a s (token_named t)) (joined inner.1 (obeying child_table (token_name t) [] inner.0 (add (token_name t) s) (token_named t) (token_fits t (name_of (add (token_name t) s)) inner.0)))
   element_runs (space width) s = space_runs width s
+  element_runs (rectangle e) s = rectangle_runs e s
   element_runs (container c a xs) s =
       let n = container_name c in
       let inner = elements_run xs (above n [] false (add n s)) in

@@ -1,12 +1,15 @@
 -- What holds of texts of plain bytes, of contents, and of two texts side by side, holds of prints.
-use Rattle.std.proofs.Common.{ℕ, ◌+◌, ◌<◌, Bool, true, false, ◌&&◌, ◌==◌, not, IsTrue, List, [], ◌++◌, Option, Some, None, refl, arith, codes, nat_lt}
+use Rattle.std.proofs.Common.{ℕ, zero, suc, ℤ, pos, negsuc, ◌+◌, ◌<◌, Bool, true, false, ◌&&◌, ◌==◌, not, IsTrue, List, [], ◌++◌, Option, Some, None, refl, arith, codes, nat_lt}
 use Rattle.std.proofs.lemmas.Bool.Decides.{nat_tests}
 use Rattle.std.specs.{List.list_all, Str.byte}
-use Rattle.latex2mathml_elements.specs.Attributes.{Attributes, Side, Above, Below, Form, Prefix, Postfix, Stretch, Stretching, Rigid, Space, NoSpace, Narrow, Size, Big, Bigger, VeryBig, Biggest, MathStyle, DisplayStyle, TextStyle, ScriptStyle}
+use Rattle.latex2mathml_elements.specs.Attributes.{Attributes, Side, Above, Below, Form, Prefix, Postfix, Stretch, Stretching, Rigid, Space, NoSpace, Narrow, Size, Big, Bigger, VeryBig, Biggest, MathStyle, DisplayStyle, TextStyle, ScriptStyle, Boxing, NoWidth, Flat, NoHeight, NoDepth, ByItsWidth, ByHalfItsWidth, Framed, StruckUp, StruckDown, StruckTwice}
 use Rattle.latex2mathml_elements.specs.Columns.{Column, Centered, LeftAligned, RightAligned, FirstOfPair, SecondOfPair, Dense}
 use Rattle.latex2mathml_elements.specs.Characters.{EachText, EachTextOf, EachTextOfCells, EachTextOfRows}
-use Rattle.latex2mathml_elements.specs.Element.{Token, Mi, Mn, Mo, Mtext, Container, Mrow, Msqrt, Mstyle, Pair, Mfrac, Mroot, Msub, Msup, Munder, Mover, Triple, Msubsup, Munderover, Element, Elements, Rows, Cells, token, space, container, pair, triple, table, none, more, one_row, more_rows, one_cell, more_cells}
-use Rattle.latex2mathml_elements.specs.Print.{accent_text, attributes_text, cell_print, cells_print, column_text, container_name, end_tag, form_text, formula_print, if_so, math_tag, pair_name, print, prints, row_print, rows_print, size_text, space_text, start_tag, stretch_text, style_text, token_name, triple_name}
+use Rattle.latex2mathml_elements.specs.Element.{Token, Mi, Mn, Mo, Mtext, Container, Mrow, Msqrt, Mstyle, Mpadded, Mphantom, Pair, Mfrac, Mroot, Msub, Msup, Munder, Mover, Triple, Msubsup, Munderover, Element, Elements, Rows, Cells, token, space, rectangle, container, pair, triple, table, none, more, one_row, more_rows, one_cell, more_cells}
+use Rattle.latex2mathml_elements.specs.Print.{accent_text, attributes_text, boxing_text, cell_print, cells_print, column_text, container_name, end_tag, form_text, formula_print, if_so, math_tag, pair_name, print, prints, row_print, rows_print, size_text, space_text, start_tag, stretch_text, style_text, token_name, triple_name}
+use Rattle.latex2mathml_elements.specs.Extents.{Extent, black_text, ems, extent_text, length_if_any, length_text}
+use Rattle.latex2mathml_elements.specs.Colors.{Color, color_code, color_text, hexadecimal}
+use Rattle.latex2mathml_elements.proofs.{Colors.color_passes, Ems.ems_pass}
 use Rattle.latex2mathml_tokens.specs.Escape.{content}
 use Rattle.latex2mathml_trees.specs.Width.{width_text}
 use Rattle.latex2mathml_trees.proofs.ValueTexts.{width_passes}
@@ -21,6 +24,9 @@ IsPlain text = IsTrue (list_all is_plain text)
 
 plain_digit : (d : ℕ) → d < 10 → IsTrue (is_plain (48 + d))
 plain_digit d h = grind (arith, nat_tests)
+
+plain_hexadecimal : (d : ℕ) → d < 16 → IsTrue (is_plain (hexadecimal d))
+plain_hexadecimal d h = grind (arith, nat_tests)
 
 -- It holds of contents if something else holds of the text.
 module _ (Holds Asked : List ℕ → Type 0) (append : (a b : List ℕ) → Holds a → Holds b → Holds (a ++ b)) (plain : (bs : List ℕ) → IsPlain bs → Holds bs) (contents : (text : List ℕ) → Asked text → Holds (content text)) where
@@ -66,6 +72,44 @@ module _ (Holds Asked : List ℕ → Type 0) (append : (a b : List ℕ) → Hold
   style_holds (Some TextStyle) = plain _ refl
   style_holds (Some ScriptStyle) = plain _ refl
 
+  boxing_holds : (b : Option Boxing) → Holds (boxing_text b)
+  boxing_holds None = plain _ refl
+  boxing_holds (Some NoWidth) = plain _ refl
+  boxing_holds (Some Flat) = plain _ refl
+  boxing_holds (Some NoHeight) = plain _ refl
+  boxing_holds (Some NoDepth) = plain _ refl
+  boxing_holds (Some ByItsWidth) = plain _ refl
+  boxing_holds (Some ByHalfItsWidth) = plain _ refl
+  boxing_holds (Some Framed) = plain _ refl
+  boxing_holds (Some StruckUp) = plain _ refl
+  boxing_holds (Some StruckDown) = plain _ refl
+  boxing_holds (Some StruckTwice) = plain _ refl
+
+  length_holds : (name : List ℕ) → IsPlain name → (n : ℤ) → Holds (length_text name n)
+  length_holds name h n =
+      both (plain (codes " ") refl) (both (plain name h) (both (plain (codes "=\"") refl) (both (plain (ems n) (ems_pass is_plain plain_digit refl refl n)) (plain (codes "em\"") refl))))
+
+  length_if_any_holds : (name : List ℕ) → IsPlain name → (n : ℤ) → Holds (length_if_any name n)
+  length_if_any_holds name h (pos zero) = plain _ refl
+  length_if_any_holds name h (pos (suc n)) = length_holds name h (pos (suc n))
+  length_if_any_holds name h (negsuc n) = length_holds name h (negsuc n)
+
+  color_holds : (name : List ℕ) → IsPlain name → (c : Option Color) → Holds (color_text name c)
+  color_holds name h None = plain _ refl
+  color_holds name h (Some c) =
+      both (plain (codes " ") refl) (both (plain name h) (both (plain (codes "=\"") refl) (both (plain (color_code c) (color_passes is_plain plain_hexadecimal refl c)) (plain (codes "\"") refl))))
+
+  black_holds : (b : Bool) → Holds (black_text b)
+  black_holds true = plain _ refl
+  black_holds false = plain _ refl
+
+  extent_holds : (e : Extent) → Holds (extent_text e)
+  extent_holds e =
+      both (length_holds (codes "width") refl e.width)
+      (both (length_if_any_holds (codes "height") refl e.height)
+      (both (length_if_any_holds (codes "depth") refl e.depth)
+      (black_holds e.is_black)))
+
   column_holds : (c : Column) → Holds (column_text c)
   column_holds Centered = plain _ refl
   column_holds LeftAligned = plain _ refl
@@ -86,7 +130,11 @@ module _ (Holds Asked : List ℕ → Type 0) (append : (a b : List ℕ) → Hold
       (both (if_holds (plain _ refl) a.limits_stay)
       (both (accent_holds a.accent)
       (both (if_holds (plain _ refl) a.no_line)
-      (style_holds a.style))))))))))
+      (both (style_holds a.style)
+      (both (boxing_holds a.boxing)
+      (both (length_if_any_holds (codes "voffset") refl a.raised)
+      (both (color_holds (codes "mathcolor") refl a.color)
+      (color_holds (codes "mathbackground") refl a.background))))))))))))))
 
   -- Tags
 
@@ -100,6 +148,8 @@ module _ (Holds Asked : List ℕ → Type 0) (append : (a b : List ℕ) → Hold
   container_holds Mrow = plain _ refl
   container_holds Msqrt = plain _ refl
   container_holds Mstyle = plain _ refl
+  container_holds Mpadded = plain _ refl
+  container_holds Mphantom = plain _ refl
 
   pair_holds : (p : Pair) → Holds (pair_name p)
   pair_holds Mfrac = plain _ refl
@@ -136,6 +186,7 @@ module _ (Holds Asked : List ℕ → Type 0) (append : (a b : List ℕ) → Hold
     print_holds (token t a text) h = both (starts a (token_holds t)) (both (contents text h) (ends (token_holds t)))
     print_holds (space width) h =
         both (plain (codes "<mspace width=\"") refl) (both (plain (width_text width) (width_passes is_plain plain_digit refl refl width)) (plain (codes "em\"/>") refl))
+    print_holds (rectangle e) h = both (plain (codes "<mspace") refl) (both (extent_holds e) (plain (codes "/>") refl))
     print_holds (container c a xs) h = both (starts a (container_holds c)) (both (prints_hold xs h) (ends (container_holds c)))
     print_holds (pair p a x y) h =
         both (starts a (pair_holds p)) (both (print_holds x h.0) (both (print_holds y h.1) (ends (pair_holds p))))

@@ -1,11 +1,15 @@
 -- The text of attributes is that of a list of attributes of markup.
-use Rattle.std.proofs.Common.{◌≡◌, ℕ, Bool, true, false, IsTrue, List, [], ◌∷◌, ◌++◌, Option, Some, None, refl, arith, codes, map}
+use Rattle.std.proofs.Common.{◌≡◌, ℕ, zero, suc, ℤ, pos, negsuc, Bool, true, false, IsTrue, List, [], ◌∷◌, ◌++◌, append_assoc, append-nil, Option, Some, None, refl, arith, codes, map}
 use Rattle.std.specs.List.{flat_map, list_all}
 use Rattle.std.proofs.{lemmas.Grind.flat_map-append, lemmas.List.Folds.list_all-append}
-use Rattle.latex2mathml_elements.specs.Attributes.{Attributes, Side, Above, Below, Form, Prefix, Postfix, Stretch, Stretching, Rigid, Space, NoSpace, Narrow, Size, Big, Bigger, VeryBig, Biggest, MathStyle, DisplayStyle, TextStyle, ScriptStyle}
+use Rattle.latex2mathml_elements.specs.Attributes.{Attributes, Side, Above, Below, Form, Prefix, Postfix, Stretch, Stretching, Rigid, Space, NoSpace, Narrow, Size, Big, Bigger, VeryBig, Biggest, MathStyle, DisplayStyle, TextStyle, ScriptStyle, Boxing, NoWidth, Flat, NoHeight, NoDepth, ByItsWidth, ByHalfItsWidth, Framed, StruckUp, StruckDown, StruckTwice}
 use Rattle.latex2mathml_elements.specs.Columns.{Column, Centered, LeftAligned, RightAligned, FirstOfPair, SecondOfPair, Dense}
-use Rattle.latex2mathml_elements.specs.Print.{accent_text, attributes_text, column_text, form_text, if_so, size_text, space_text, stretch_text, style_text}
-use Rattle.latex2mathml_trees.specs.Markup.{Attribute, attribute, plain, is_attribute, spell_attribute}
+use Rattle.latex2mathml_elements.specs.Print.{accent_text, attributes_text, boxing_text, column_text, form_text, if_so, line_down, line_up, size_text, space_text, stretch_text, style_text}
+use Rattle.latex2mathml_elements.specs.Colors.{Color, color_text}
+use Rattle.latex2mathml_elements.specs.Extents.{Extent, black_text, extent_text, length_if_any, length_text}
+use Rattle.latex2mathml_elements.proofs.{Colors.color_is_value, Ems.ems_are_value}
+use Rattle.latex2mathml_trees.specs.Markup.{Attribute, attribute, plain, is_attribute, is_name, spell_attribute}
+use Rattle.latex2mathml_trees.proofs.ValueTexts.{beside as value_beside, no_text, plain_before}
 
 pub record AreSettings (text : List ℕ) : Type 0 where
   pub list : List Attribute
@@ -82,6 +86,49 @@ style (Some DisplayStyle) = record { list = styled (codes "true") (codes "0"); v
 style (Some TextStyle) = record { list = styled (codes "false") (codes "0"); valid = refl; spelled = refl }
 style (Some ScriptStyle) = record { list = styled (codes "false") (codes "1"); valid = refl; spelled = refl }
 
+abbrev by_style : List ℕ → List Attribute
+by_style value = attribute (codes "style") (map plain value) ∷ []
+
+abbrev no_length : List ℕ → List Attribute
+no_length name = attribute name (map plain (codes "0")) ∷ []
+
+boxing : (b : Option Boxing) → AreSettings (boxing_text b)
+boxing None = nothing
+boxing (Some NoWidth) = record { list = no_length (codes "width"); valid = refl; spelled = refl }
+boxing (Some Flat) = record { list = no_length (codes "height") ++ no_length (codes "depth"); valid = refl; spelled = refl }
+boxing (Some NoHeight) = record { list = no_length (codes "height"); valid = refl; spelled = refl }
+boxing (Some NoDepth) = record { list = no_length (codes "depth"); valid = refl; spelled = refl }
+boxing (Some ByItsWidth) = record { list = by_style (codes "transform: translateX(-100%)"); valid = refl; spelled = refl }
+boxing (Some ByHalfItsWidth) = record { list = by_style (codes "transform: translateX(-50%)"); valid = refl; spelled = refl }
+boxing (Some Framed) = record { list = by_style (codes "border: thin solid; padding: 0.3em"); valid = refl; spelled = refl }
+boxing (Some StruckUp) = record { list = by_style (codes "background: " ++ line_up); valid = refl; spelled = refl }
+boxing (Some StruckDown) = record { list = by_style (codes "background: " ++ line_down); valid = refl; spelled = refl }
+boxing (Some StruckTwice) = record { list = by_style (codes "background: " ++ (line_up ++ (codes ", " ++ line_down))); valid = refl; spelled = refl }
+
+measure : (name : List ℕ) → IsTrue (is_name name) → (n : ℤ) → AreSettings (length_text name n)
+measure name valid n =
+    let value = value_beside (ems_are_value n) (plain_before 101 refl (plain_before 109 refl no_text)) in
+    record {
+      list = attribute name value.parts ∷ [];
+      valid = grind (arith, valid, value.are_parts);
+      spelled = simp (append_assoc, append-nil, value.spelled);
+    }
+
+measure_if_any : (name : List ℕ) → IsTrue (is_name name) → (n : ℤ) → AreSettings (length_if_any name n)
+measure_if_any name valid (pos zero) = nothing
+measure_if_any name valid (pos (suc n)) = measure name valid (pos (suc n))
+measure_if_any name valid (negsuc n) = measure name valid (negsuc n)
+
+color_if_any : (name : List ℕ) → IsTrue (is_name name) → (c : Option Color) → AreSettings (color_text name c)
+color_if_any name valid None = nothing
+color_if_any name valid (Some c) =
+    let value = color_is_value c in
+    record {
+      list = attribute name value.parts ∷ [];
+      valid = grind (arith, valid, value.are_parts);
+      spelled = simp (append_assoc, append-nil, value.spelled);
+    }
+
 pub settings : (a : Attributes) → AreSettings (attributes_text a)
 settings a =
     beside (settings_if upright a.upright)
@@ -94,7 +141,11 @@ settings a =
     (beside (settings_if limits_stay a.limits_stay)
     (beside (accent a.accent)
     (beside (settings_if no_line a.no_line)
-    (style a.style))))))))))
+    (beside (style a.style)
+    (beside (boxing a.boxing)
+    (beside (measure_if_any (codes "voffset") refl a.raised)
+    (beside (color_if_any (codes "mathcolor") refl a.color)
+    (color_if_any (codes "mathbackground") refl a.background))))))))))))))
 
 abbrev aligned : List ℕ → List ℕ → List Attribute
 aligned side style = attribute (codes "columnalign") (map plain side) ∷ attribute (codes "style") (map plain style) ∷ []
@@ -106,3 +157,16 @@ column RightAligned = record { list = aligned (codes "right") (codes "text-align
 column FirstOfPair = record { list = aligned (codes "right") (codes "text-align: right; text-align: -webkit-right; padding-right: 0"); valid = refl; spelled = refl }
 column SecondOfPair = record { list = aligned (codes "left") (codes "text-align: left; padding-left: 0"); valid = refl; spelled = refl }
 column Dense = record { list = attribute (codes "style") (map plain (codes "padding: 0.1em 0.3em")) ∷ []; valid = refl; spelled = refl }
+
+-- The attributes of a rectangle
+
+black : (b : Bool) → AreSettings (black_text b)
+black true = record { list = attribute (codes "mathbackground") (map plain (codes "black")) ∷ []; valid = refl; spelled = refl }
+black false = nothing
+
+pub extent : (e : Extent) → AreSettings (extent_text e)
+extent e =
+    beside (measure (codes "width") refl e.width)
+    (beside (measure_if_any (codes "height") refl e.height)
+    (beside (measure_if_any (codes "depth") refl e.depth)
+    (black e.is_black)))

@@ -1,5 +1,6 @@
 -- The attributes of an element. Each has a field of its own, so none stands twice.
-use Rattle.std.specs.Prelude.{Bool, false, Option, None}
+use Rattle.std.specs.Prelude.{ℤ, pos, Bool, false, Option, Some, None}
+use Rattle.latex2mathml_elements.specs.Colors.{Color}
 
 -- the side of its base on which a mark stands
 pub data Side : Type 0 where
@@ -34,6 +35,23 @@ pub data MathStyle : Type 0 where
   TextStyle : MathStyle
   ScriptStyle : MathStyle
 
+-- what is made of the box around elements
+pub data Boxing : Type 0 where
+  -- it has no width; no height above the line and no depth below it; no height; no depth
+  NoWidth : Boxing
+  Flat : Boxing
+  NoHeight : Boxing
+  NoDepth : Boxing
+  -- it stands to the left of its place, by its width or by half of it
+  ByItsWidth : Boxing
+  ByHalfItsWidth : Boxing
+  -- a line stands around it
+  Framed : Boxing
+  -- lines go through it: from its lower left, from its upper left, or both
+  StruckUp : Boxing
+  StruckDown : Boxing
+  StruckTwice : Boxing
+
 pub record Attributes : Type 0 where
   -- a single letter that is not italic
   pub upright : Bool
@@ -53,11 +71,21 @@ pub record Attributes : Type 0 where
   pub no_line : Bool
   -- the style of what stands in it, whatever the style around it is
   pub style : Option MathStyle
+  pub boxing : Option Boxing
+  -- how far a box stands above its place, in thousandths of an em
+  pub raised : ℤ
+  -- the color of what stands in it, and of what lies behind it
+  pub color : Option Color
+  pub background : Option Color
 
 -- an element without attributes
 abbrev pub plain : Attributes
-plain = record { upright = false; form = None; stretch = None; fence = false; separator = false; size = None; space = None; limits_stay = false; accent = None; no_line = false; style = None }
+plain = record { upright = false; form = None; stretch = None; fence = false; separator = false; size = None; space = None; limits_stay = false; accent = None; no_line = false; style = None; boxing = None; raised = pos 0; color = None; background = None }
 
 -- .. with a style of its own, where it has one
 abbrev pub styled : Option MathStyle → Attributes
 styled own = record plain { style = own }
+
+-- .. with a box
+abbrev pub boxed : Boxing → Attributes
+boxed boxing = record plain { boxing = Some boxing }

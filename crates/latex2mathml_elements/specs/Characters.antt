@@ -1,7 +1,7 @@
 -- The characters that XML allows, and elements whose texts hold no others.
 use Rattle.std.specs.Prelude.{ℕ, Bool, not, ◌&&◌, ◌||◌, ◌==◌, nat_lt, List, ⊤}
 use Rattle.std.specs.Str.{NoCharPasses, byte}
-use Rattle.latex2mathml_elements.specs.Element.{Element, Elements, Rows, Cells, token, space, container, pair, triple, table, none, more, one_row, more_rows, one_cell, more_cells}
+use Rattle.latex2mathml_elements.specs.Element.{Element, Elements, Rows, Cells, token, space, rectangle, container, pair, triple, table, none, more, one_row, more_rows, one_cell, more_cells}
 
 -- a character that XML forbids. No text holds the others that it forbids, the surrogates.
 abbrev pub is_forbidden : ℕ → Bool
@@ -17,6 +17,7 @@ abbrev mutual
   pub EachText : (List ℕ → Type 0) → Element → Type 0
   EachText P (token t a text) = P text
   EachText P (space width) = ⊤
+  EachText P (rectangle e) = ⊤
   EachText P (container c a xs) = EachTextOf P xs
   EachText P (pair p a x y) = EachText P x × EachText P y
   EachText P (triple t a x y z) = EachText P x × EachText P y × EachText P z

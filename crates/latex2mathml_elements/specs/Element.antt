@@ -1,6 +1,6 @@
 -- Elements of MathML. Their constructors give each as many children as MathML Core asks for.
 use Rattle.std.specs.Prelude.{ℕ, ℤ, List, [], ◌∷◌}
-use Rattle.latex2mathml_elements.specs.{Attributes.Attributes, Columns.Column}
+use Rattle.latex2mathml_elements.specs.{Attributes.Attributes, Columns.Column, Extents.Extent}
 
 -- the elements that hold a text
 pub data Token : Type 0 where
@@ -14,6 +14,8 @@ pub data Container : Type 0 where
   Mrow : Container
   Msqrt : Container
   Mstyle : Container
+  Mpadded : Container
+  Mphantom : Container
 
 -- the elements that hold two
 pub data Pair : Type 0 where
@@ -35,6 +37,8 @@ mutual
     token : Token → Attributes → List ℕ → Element
     -- a space, in eighteenths of an em
     space : ℤ → Element
+    -- a rectangle, which is empty or black
+    rectangle : Extent → Element
     container : Container → Attributes → Elements → Element
     pair : Pair → Attributes → Element → Element → Element
     triple : Triple → Attributes → Element → Element → Element → Element

@@ -1,8 +1,10 @@
 pub mod Attributes
 pub mod Characters
+pub mod Colors
 pub mod Columns
 pub mod Dollars
 pub mod Element
+pub mod Extents
 pub mod Laws
 pub mod Print
 pub mod Tables

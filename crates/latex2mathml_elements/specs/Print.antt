@@ -1,8 +1,9 @@
 -- How elements are written.
 use Rattle.std.specs.Prelude.{ℕ, Bool, true, false, List, [], ◌++◌, Option, Some, None, codes}
-use Rattle.latex2mathml_elements.specs.Attributes.{Attributes, Side, Above, Below, Form, Prefix, Postfix, Stretch, Stretching, Rigid, Space, NoSpace, Narrow, Size, Big, Bigger, VeryBig, Biggest, MathStyle, DisplayStyle, TextStyle, ScriptStyle}
+use Rattle.latex2mathml_elements.specs.Attributes.{Attributes, Side, Above, Below, Form, Prefix, Postfix, Stretch, Stretching, Rigid, Space, NoSpace, Narrow, Size, Big, Bigger, VeryBig, Biggest, MathStyle, DisplayStyle, TextStyle, ScriptStyle, Boxing, NoWidth, Flat, NoHeight, NoDepth, ByItsWidth, ByHalfItsWidth, Framed, StruckUp, StruckDown, StruckTwice}
 use Rattle.latex2mathml_elements.specs.Columns.{Column, Centered, LeftAligned, RightAligned, FirstOfPair, SecondOfPair, Dense}
-use Rattle.latex2mathml_elements.specs.Element.{Token, Mi, Mn, Mo, Mtext, Container, Mrow, Msqrt, Mstyle, Pair, Mfrac, Mroot, Msub, Msup, Munder, Mover, Triple, Msubsup, Munderover, Element, Elements, Rows, Cells, token, space, container, pair, triple, table, none, more, one_row, more_rows, one_cell, more_cells}
+use Rattle.latex2mathml_elements.specs.Element.{Token, Mi, Mn, Mo, Mtext, Container, Mrow, Msqrt, Mstyle, Mpadded, Mphantom, Pair, Mfrac, Mroot, Msub, Msup, Munder, Mover, Triple, Msubsup, Munderover, Element, Elements, Rows, Cells, token, space, rectangle, container, pair, triple, table, none, more, one_row, more_rows, one_cell, more_cells}
+use Rattle.latex2mathml_elements.specs.{Colors.color_text, Extents.extent_text, Extents.length_if_any}
 use Rattle.latex2mathml_tokens.specs.Escape.{content}
 use Rattle.latex2mathml_trees.specs.Width.{width_text}
 
@@ -18,6 +19,8 @@ abbrev pub container_name : Container → List ℕ
 container_name Mrow = codes "mrow"
 container_name Msqrt = codes "msqrt"
 container_name Mstyle = codes "mstyle"
+container_name Mpadded = codes "mpadded"
+container_name Mphantom = codes "mphantom"
 
 abbrev pub pair_name : Pair → List ℕ
 pair_name Mfrac = codes "mfrac"
@@ -71,6 +74,27 @@ style_text (Some DisplayStyle) = codes " displaystyle=\"true\" scriptlevel=\"0\"
 style_text (Some TextStyle) = codes " displaystyle=\"false\" scriptlevel=\"0\""
 style_text (Some ScriptStyle) = codes " displaystyle=\"false\" scriptlevel=\"1\""
 
+-- lines through a box, as a background that its foreground crosses: a line from corner to corner, 0.08 em wide
+abbrev pub line_up : List ℕ
+line_up = codes "linear-gradient(to top left, transparent calc(50% - 0.04em), currentcolor, transparent calc(50% + 0.04em))"
+
+abbrev pub line_down : List ℕ
+line_down = codes "linear-gradient(to top right, transparent calc(50% - 0.04em), currentcolor, transparent calc(50% + 0.04em))"
+
+-- what MathML Core has no attribute for is said in the words of style sheets
+abbrev pub boxing_text : Option Boxing → List ℕ
+boxing_text None = []
+boxing_text (Some NoWidth) = codes " width=\"0\""
+boxing_text (Some Flat) = codes " height=\"0\" depth=\"0\""
+boxing_text (Some NoHeight) = codes " height=\"0\""
+boxing_text (Some NoDepth) = codes " depth=\"0\""
+boxing_text (Some ByItsWidth) = codes " style=\"transform: translateX(-100%)\""
+boxing_text (Some ByHalfItsWidth) = codes " style=\"transform: translateX(-50%)\""
+boxing_text (Some Framed) = codes " style=\"border: thin solid; padding: 0.3em\""
+boxing_text (Some StruckUp) = codes " style=\"background: " ++ (line_up ++ codes "\"")
+boxing_text (Some StruckDown) = codes " style=\"background: " ++ (line_down ++ codes "\"")
+boxing_text (Some StruckTwice) = codes " style=\"background: " ++ (line_up ++ (codes ", " ++ (line_down ++ codes "\"")))
+
 abbrev pub attributes_text : Attributes → List ℕ
 attributes_text a =
     if_so a.upright (codes " mathvariant=\"normal\"")
@@ -83,7 +107,11 @@ attributes_text a =
     ++ (if_so a.limits_stay (codes " movablelimits=\"false\"")
     ++ (accent_text a.accent
     ++ (if_so a.no_line (codes " linethickness=\"0\"")
-    ++ style_text a.style)))))))))
+    ++ (style_text a.style
+    ++ (boxing_text a.boxing
+    ++ (length_if_any (codes "voffset") a.raised
+    ++ (color_text (codes "mathcolor") a.color
+    ++ color_text (codes "mathbackground") a.background)))))))))))))
 
 -- the side of a column is said twice: some browsers read the attribute, others the style
 abbrev pub column_text : Column → List ℕ
@@ -116,6 +144,7 @@ abbrev mutual
   pub print : Element → List ℕ
   print (token t a text) = start_tag (token_name t) a ++ (content text ++ end_tag (token_name t))
   print (space width) = codes "<mspace width=\"" ++ (width_text width ++ codes "em\"/>")
+  print (rectangle e) = codes "<mspace" ++ (extent_text e ++ codes "/>")
   print (container c a xs) = start_tag (container_name c) a ++ (prints xs ++ end_tag (container_name c))
   print (pair p a x y) = start_tag (pair_name p) a ++ (print x ++ (print y ++ end_tag (pair_name p)))
   print (triple t a x y z) = start_tag (triple_name t) a ++ (print x ++ (print y ++ (print z ++ end_tag (triple_name t))))

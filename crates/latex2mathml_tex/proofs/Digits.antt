@@ -1,7 +1,7 @@
 -- The digits that stand next, one after the other.
 use Rattle.std.proofs.Common.{◌≡◌, ℕ, ◌≤◌, Bool, true, false, List, [], ◌∷◌, ◌++◌, Option, Some, None, refl, sym, ap, ◌∙◌, append_assoc, append-nil, inl, inr, arith}
 use Rattle.std.proofs.lemmas.Bool.{cases_Bool}
-use Rattle.latex2mathml_elements.specs.Element.{Element, token, space, container, pair, triple, table}
+use Rattle.latex2mathml_elements.specs.Element.{Element, token, space, rectangle, container, pair, triple, table}
 use Rattle.latex2mathml_builder.specs.Stacks.{lengthened}
 use Rattle.latex2mathml_tex_grammar.specs.Makes.{digits_in, number}
 use Rattle.latex2mathml_tex_grammar.specs.Next.{digits_here, digits_next, first_is, first_passes, is_space_piece, next_are, past_space}
@@ -54,6 +54,7 @@ pub lengthened_twice : (first second : List ℕ) (xs : List Element) → lengthe
 lengthened_twice first second [] = refl
 lengthened_twice first second (token t a text ∷ xs) = ap (λ l. token t a l ∷ xs) (append_assoc text first second)
 lengthened_twice first second (space width ∷ xs) = refl
+lengthened_twice first second (rectangle e ∷ xs) = refl
 lengthened_twice first second (container c a ys ∷ xs) = refl
 lengthened_twice first second (pair p a x y ∷ xs) = refl
 lengthened_twice first second (triple t a x y z ∷ xs) = refl
@@ -63,6 +64,7 @@ pub lengthened_by_nothing : (xs : List Element) → lengthened [] xs ≡ xs
 lengthened_by_nothing [] = refl
 lengthened_by_nothing (token t a text ∷ xs) = ap (λ l. token t a l ∷ xs) (append-nil text)
 lengthened_by_nothing (space width ∷ xs) = refl
+lengthened_by_nothing (rectangle e ∷ xs) = refl
 lengthened_by_nothing (container c a ys ∷ xs) = refl
 lengthened_by_nothing (pair p a x y ∷ xs) = refl
 lengthened_by_nothing (triple t a x y z ∷ xs) = refl

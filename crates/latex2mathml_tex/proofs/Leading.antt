@@ -1,14 +1,14 @@
 -- Where what is due leads, step by step, whatever it is for.
-use Rattle.std.proofs.Common.{◌≡◌, ℕ, IsTrue, IsFalse, List, [], ◌∷◌, Option, Some, None, refl}
+use Rattle.std.proofs.Common.{Bool, true, false, ◌≡◌, ℕ, IsTrue, IsFalse, List, [], ◌∷◌, Option, Some, None, refl}
 use Rattle.latex2mathml_elements.specs.Element.{Element}
 use Rattle.latex2mathml_tex_grammar.specs.{Atoms.Atom, Delimiters.delimiter_of}
 use Rattle.latex2mathml_tex_grammar.specs.Makes.{Core, number, divider, Scripts, no_scripts, scripted}
-use Rattle.latex2mathml_tex_grammar.specs.{Meaning.Beside, Meaning.Change, Next.past_space, Next.next_are, Next.digits_next, Next.refusal_here}
-use Rattle.latex2mathml_tex_grammar.specs.Reading.{Outcome, Read, Refused, ReadsRule, rule_gives, rule_refuses, operand_read, operand_refused, core_read, core_refused, core_missing, core_stopped, atoms_read, atoms_refused, words_read, words_refused, units_taken, units_missing, digits_taken, delimiter_taken, delimiter_missing, group_operand, group_refused, digit_operand, other_operand, other_refused, no_operand, operand_at_end, operand_stopped, scripts_end, mark_taken, script_read, script_refused, mark_refused, ReadsAtom, divider_read, divider_refused, on_empty_row, base_read, base_refused, text_ends, never_ended, atoms_stopped, atoms_end, atom_read, atom_refused, rest_read, change_refused, word_stands, group_of_words, formula_read, formula_refused, words_in_alphabet, no_word, word_missing, word_at_end, word_stopped, words_end, words_never_ended, words_stopped, word_read, word_refused, found_taken, found_refused, passed_over, rows_read, rows_refused, ReadsRows}
+use Rattle.latex2mathml_tex_grammar.specs.{Meaning.Beside, Meaning.Change, Next.past_space, Next.follows, Next.next_are, Next.digits_next, Next.refusal_here}
+use Rattle.latex2mathml_tex_grammar.specs.Reading.{Outcome, Read, Refused, ReadsRule, rule_gives, rule_refuses, operand_read, operand_refused, core_read, core_refused, core_missing, core_stopped, atoms_read, atoms_refused, words_read, words_refused, units_taken, units_missing, unit_follows, no_unit_follows, digits_taken, delimiter_taken, delimiter_missing, group_operand, group_refused, digit_operand, other_operand, other_refused, no_operand, operand_at_end, operand_stopped, scripts_end, mark_taken, script_read, script_refused, mark_refused, ReadsAtom, divider_read, divider_refused, on_empty_row, base_read, base_refused, text_ends, never_ended, atoms_stopped, atoms_end, atom_read, atom_refused, rest_read, change_refused, word_stands, group_of_words, formula_read, formula_refused, words_in_alphabet, no_word, word_missing, word_at_end, word_stopped, words_end, words_never_ended, words_stopped, word_read, word_refused, found_taken, found_refused, passed_over, rows_read, rows_refused, ReadsRows, rows_to_end}
 use Rattle.latex2mathml_tex_grammar.specs.Refusal.{Kind, MissingArgument, UnclosedBrace, MissingDelimiter, Refusal, refusal_at}
 use Rattle.latex2mathml_tex_grammar.specs.Rests.{Rest, GoesOnIn, NoRest, finished, rest_of}
 use Rattle.latex2mathml_tex_grammar.specs.Rows.{Operand, Row, empty_row, single}
-use Rattle.latex2mathml_tex_grammar.specs.Rules.{Context, in_context, styled, Ending, InBraces, InDollars, Rule, gives, refuses, reads_operand, reads_core, reads_atoms, reads_words, takes_if, takes_digits, takes_delimiter, rule, takes_found, passes_over, reads_rows, TableEnd}
+use Rattle.latex2mathml_tex_grammar.specs.Rules.{Context, in_context, styled, Ending, InBraces, InDollars, Rule, gives, refuses, reads_operand, reads_core, reads_atoms, reads_words, takes_if, if_follows, takes_digits, takes_delimiter, rule, takes_found, passes_over, reads_rows, TableEnd}
 use Rattle.latex2mathml_tex_grammar.specs.Starts.{ChangeStart, DividerStart, ScriptStart, RuleStart, NoStart, GroupStart, DigitStart, OtherStart, atom_start, operand_start, mark_of, GoesOn, TakesOperand, Forbidden, step_of_mark, step_next, empty_base, ends, unended, is_close, left_behind}
 use Rattle.latex2mathml_elements.specs.Columns.{Columns}
 use Rattle.latex2mathml_tex_grammar.specs.Scanning.{Spot, BeforeRow, Given, Missing, past, scan}
@@ -57,6 +57,12 @@ module _ {K : Outcome Core → Type 0} {l : Units} where
   pub not_taken : {tests : List (Piece → Option (List ℕ))} {then : List ℕ → Rule} {otherwise : Rule} → next_are tests l ≡ None → RuleLeads (takes_if tests then otherwise) K l → RuleLeads otherwise K l
   not_taken e k = record { to = λ o d. k.to o (units_missing e d) }
 
+  pub follows_next : {test : Piece → Bool} {then otherwise : Rule} → follows test l ≡ true → RuleLeads (if_follows test then otherwise) K l → RuleLeads then K l
+  follows_next e k = record { to = λ o d. k.to o (unit_follows e d) }
+
+  pub none_follows : {test : Piece → Bool} {then otherwise : Rule} → follows test l ≡ false → RuleLeads (if_follows test then otherwise) K l → RuleLeads otherwise K l
+  none_follows e k = record { to = λ o d. k.to o (no_unit_follows e d) }
+
   pub digits : (then : List ℕ → Rule) → RuleLeads (takes_digits then) K l → RuleLeads (then (digits_next l).0) K (digits_next l).1
   digits then k = record { to = λ o d. k.to o (digits_taken d) }
 
@@ -76,7 +82,10 @@ module _ {K : Outcome Core → Type 0} {l : Units} where
   passed k = record { to = λ o d. k.to o (passed_over d) }
 
   pub rows_due : {end : TableEnd} {place : ℕ} {columns : Columns} {c : Context} (then : Lines → ℕ → Rule) → RuleLeads (reads_rows end place columns c then) K l → (o : Outcome Lines) → ReadsRows end place columns c [] [] (past BeforeRow l) o → RowsLead then K o
-  rows_due then k (Read lines m) d = λ u n p. record { to = λ o ds. k.to o (rows_read d p ds) }
+  rows_due then k (Read lines m) d = record {
+    at_unit = λ u n p. record { to = λ o ds. k.to o (rows_read d p ds) };
+    at_end = λ at p. record { to = λ o ds. k.to o (rows_to_end d p ds) };
+  }
   rows_due then k (Refused r) d = k.to _ (rows_refused d)
 
 -- Atoms behind a row
@@ -116,12 +125,12 @@ module _ {ending : Ending} {c : Context} {xs : Row} {K : Outcome Row → Type 0}
   base_due p e s k = record { to = λ o d. base_made p e s k o d }
 
   -- what stands after a change is due
-  follows : {u : Unit} {m : Units} {change : Change} → past_space l ≡ Next u m → IsFalse (ends ending u.piece) → atom_start ending u.piece ≡ ChangeStart change → Leads (row ending c xs K) l → (rest : Rest) → rest_of change c xs ≡ rest → FollowsChange ending K u.place rest m
-  follows p e s k (GoesOnIn d ys) r = λ o reads. k o (rest_read p e s r reads)
-  follows p e s k (NoRest kind) r = k _ (change_refused p e s r)
+  going_on : {u : Unit} {m : Units} {change : Change} → past_space l ≡ Next u m → IsFalse (ends ending u.piece) → atom_start ending u.piece ≡ ChangeStart change → Leads (row ending c xs K) l → (rest : Rest) → rest_of change c xs ≡ rest → FollowsChange ending K u.place rest m
+  going_on p e s k (GoesOnIn d ys) r = λ o reads. k o (rest_read p e s r reads)
+  going_on p e s k (NoRest kind) r = k _ (change_refused p e s r)
 
   pub rest_due : {u : Unit} {m : Units} {change : Change} → past_space l ≡ Next u m → IsFalse (ends ending u.piece) → atom_start ending u.piece ≡ ChangeStart change → Leads (row ending c xs K) l → RestLeads change u.place (row ending c xs K) m
-  rest_due {change = change} p e s k = follows p e s k (rest_of change c xs) refl
+  rest_due {change = change} p e s k = going_on p e s k (rest_of change c xs) refl
 
 -- What stands after an atom
 

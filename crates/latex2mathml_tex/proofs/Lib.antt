@@ -3,6 +3,7 @@ pub mod BeforeText
 pub mod Beginning
 pub mod Beginnings
 pub mod Bodies
+pub mod Boxing
 pub mod Closing
 pub mod DefinedTables
 pub mod DefinitionTexts
@@ -42,6 +43,7 @@ pub mod TableRules
 pub mod Tabled
 pub mod Tables
 pub mod Taken
+pub mod Telling
 pub mod Texts
 pub mod Turning
 pub mod Whole

@@ -1,37 +1,25 @@
 -- Where no atom begins in a row: its ending stands there, the text ends, or what stands there is no unit.
-use Rattle.std.proofs.Common.{◌≡◌, ◌≢◌, refl, ◌∙◌, ℕ, suc, ◌+◌, ◌≤◌, true, None, Some, List, length, reverse, sum_by, Result, sym, ap, arith, subst}
+use Rattle.std.proofs.Common.{◌≡◌, ◌≢◌, refl, ◌∙◌, ℕ, suc, ◌+◌, ◌≤◌, true, Some, List, length, reverse, sum_by, Result, sym, ap, arith, subst}
 use Rattle.std.proofs.lemmas.{Bool.and_parts, List.Sums.sum_by_push}
 use Rattle.std.specs.declared.alloc.AllocError.{AllocError}
-use Rattle.latex2mathml_elements.specs.Element.{Element}
-use Rattle.latex2mathml_tex_grammar.specs.{Next.past_space, Reading.Outcome, Reading.Refused, Refusal.Refusal, Rows.Row}
-use Rattle.latex2mathml_tex_grammar.specs.Starts.{ends, left_behind, unended}
+use Rattle.latex2mathml_tex_grammar.specs.{Next.past_space, Reading.Refused, Refusal.Refusal}
+use Rattle.latex2mathml_tex_grammar.specs.Starts.{ends, left_behind}
 use Rattle.latex2mathml_tex_grammar.specs.Units.{Piece, Unit, Units, Next, End, Stop}
 use Rattle.latex2mathml_tex.specs.{Errors.refusal_of, Left.put_back, Left.unit_count, Left.units_at, Meanings.style_of, Taking.piece_of, Taking.unit_of}
-use Rattle.latex2mathml_tex.specs.Frames.{RowMade, Start, Whole, element_count, ending_count, ending_of, within}
+use Rattle.latex2mathml_tex.specs.Frames.{Start, Whole, element_count, ending_count, ending_of, within}
 use Rattle.latex2mathml_tex.specs.Innermost.{IsInnermost, none_begun, on_top}
-use Rattle.latex2mathml_tex.specs.Tables.{table_end}
 use Rattle.latex2mathml_tex.specs.Levels.{Leads, Level, Refuses}
 use Rattle.latex2mathml_tex.specs.Models.{row_count}
-use Rattle.latex2mathml_tex.specs.Steps.{Awaits, CanMake, EndsRow, EndsText, HasElements, Holds, IsLeft, IsStep, core_made, elements_of, frame_weight, left_of, row_makes}
+use Rattle.latex2mathml_tex.specs.Steps.{Awaits, CanMake, EndsRow, EndsText, HasElements, Holds, IsLeft, IsStep, core_made, elements_of, ending_weight, frame_weight, left_of, row_makes}
 use Rattle.latex2mathml_tex.specs.declared.{atoms.Context.Context, atoms.Row.Row as CodeRow, input.Input.Input, meaning.Style.Style, parse.Parser.Parser, parse.State.State, unit.Next.Next as CodeNext, unit.Unit.Unit as CodeUnit}
 use Rattle.latex2mathml_tex.specs.declared.unit.Next.TheVariants as next
 use Rattle.latex2mathml_tex.specs.declared.parse.State.TheVariants as state
 use Rattle.latex2mathml_tex.specs.declared.parse.frames.{Ending.Ending, Frame.Frame, Frames.Frames}
 use Rattle.latex2mathml_tex.specs.declared.parse.frames.Ending.TheVariants as ending
 use Rattle.latex2mathml_tex.specs.declared.parse.frames.Frame.TheVariants as frame
-use Rattle.latex2mathml_tex_grammar.proofs.{Plain.has_end, Spaces.next_stays}
+use Rattle.latex2mathml_tex_grammar.proofs.Spaces.{next_stays}
 use Rattle.latex2mathml_tex.proofs.Leading.{row_ended, row_ends_text, row_stopped, row_unended}
-use Rattle.latex2mathml_tex.proofs.{Marks.all_refuse, Nexts.no_more_past_space, Opening.into_frame, Opening.out_of_frame, Rows.others_await, Rows.step_within, Wording.one_innermost}
-
--- the row of the whole text alone may end with it
-whole_ends : (s : Start) (e : Ending) (place : ℕ) (xs : List Element) (l : Level) (o : Outcome Row) → unended (ending_of e place) ≡ None → RowMade s e place xs l o → Whole s o
-whole_ends s ending.Text place xs l o is k = k
-whole_ends s ending.Group place xs l o is k = cc is
-whole_ends s ending.Operand place xs l o is k = cc is
-whole_ends s ending.Degree place xs l o is k = cc is
-whole_ends s (ending.Delimiters opening) place xs l o is k = cc is
-whole_ends s (ending.Formula ws) place xs l o is k = cc is
-whole_ends s (ending.Cell t) place xs l o is k = absurd (has_end (table_end t) place is)
+use Rattle.latex2mathml_tex.proofs.{Marks.all_refuse, Nexts.no_more_past_space, Opening.into_frame, Opening.out_of_frame, Rows.others_await, Rows.step_within, Rows.weighed, Wording.one_innermost}
 
 -- no unit ends the whole text
 pub no_text_ends : (e : Ending) (place : ℕ) (piece : Piece) → true ≡ ends (ending_of e place) piece → e ≢ ending.Text
@@ -80,27 +68,28 @@ module _ (p : Parser) (e : Ending) (place : ℕ) (row : CodeRow) (c : Context) (
     pub no_unit_there : (q : Parser) (r : Refusal) → past_space (left_of p) ≡ Stop r → q.style ≡ p.style → refusal_of q.refusal ≡ Some r → Holds s q state.Refused
     no_unit_there q r stop f g = record { style = h.style ∙ ap style_of (sym f); claims = rw g (refused_within r (row_stopped stop atoms_due)) }
 
-    pub text_ended : (i : Input) (at : ℕ) → past_space (left_of p) ≡ End at → EndsText e place c.style row s (record p { input = i })
-    text_ended i at end = record {
-      same_style = h.style;
-      at = at;
-      ends = λ whole. whole_ends s e place _ _ _ whole (row_ends_text end whole atoms_due);
-      refuses = λ r one. refused_within r (row_unended end one atoms_due);
-    }
-
     -- the frame that was taken off is that of the row
-    pub row_closed : (i : Input) (fr : Frames) (f : Frame) (u : CodeUnit) → IsInnermost p.style p.frames.stack.items f fr.stack.items → past_space (left_of p) ≡ Next (unit_of u) (units_at i) → true ≡ ends (ending_of e place) (piece_of u.piece) → EndsRow e place c.style row u s (record p { input = i; frames = fr })
-    row_closed i fr f u taken next is =
+    begun : (fr : Frames) (f : Frame) → IsInnermost p.style p.frames.stack.items f fr.stack.items → Leads (within s fr.stack.items (frame.Row e place c row) (elements_of p)) (left_of p)
+    begun fr f taken =
         let fs = p.frames.stack.items in
         let same : f ≡ frame.Row e place c row = one_innermost p.style fs fr.stack.items others f (frame.Row e place c row) taken inner in
         let at_row = subst (λ f. IsInnermost p.style fs f fr.stack.items) same taken in
-        let begun = into_frame (λ l. Leads l (left_of p)) s p.style h.style fs fr.stack.items (frame.Row e place c row) (elements_of p) at_row h.claims in
-        record {
-          same_style = h.style;
-          rest = left_behind (ending_of e place) (unit_of u) (units_at i);
-          left = is_left e place u (left_of p) (units_at i) next;
-          leads = row_ended next (sym is) begun;
-        }
+        into_frame (λ l. Leads l (left_of p)) s p.style h.style fs fr.stack.items (frame.Row e place c row) (elements_of p) at_row h.claims
+
+    pub text_ended : (i : Input) (fr : Frames) (f : Frame) (at : ℕ) → IsInnermost p.style p.frames.stack.items f fr.stack.items → past_space (left_of p) ≡ End at → units_at i ≡ End at → EndsText e place c.style row at s (record p { input = i; frames = fr })
+    text_ended i fr f at taken end units = record {
+      same_style = h.style;
+      ends = λ whole. record { same_style = h.style; left = units; leads = row_ends_text end whole (begun fr f taken) };
+      refuses = λ r one. refused_within r (row_unended end one atoms_due);
+    }
+
+    pub row_closed : (i : Input) (fr : Frames) (f : Frame) (u : CodeUnit) → IsInnermost p.style p.frames.stack.items f fr.stack.items → past_space (left_of p) ≡ Next (unit_of u) (units_at i) → true ≡ ends (ending_of e place) (piece_of u.piece) → EndsRow e place c.style row u s (record p { input = i; frames = fr })
+    row_closed i fr f u taken next is = record {
+      same_style = h.style;
+      rest = left_behind (ending_of e place) (unit_of u) (units_at i);
+      left = is_left e place u (left_of p) (units_at i) next;
+      leads = row_ended next (sym is) (begun fr f taken);
+    }
 
   -- without its frame, the row can be given to what it was begun for
   pub row_can_close : (i : Input) (fr : Frames) (f : Frame) → IsInnermost p.style p.frames.stack.items f fr.stack.items → HasElements 0 p → Awaits core_made p → CanMake (row_makes e) (row_count row + ending_count e) (record p { input = i; frames = fr })
@@ -113,6 +102,16 @@ module _ (p : Parser) (e : Ending) (place : ℕ) (row : CodeRow) (c : Context) (
         elements = elements_left p.style fs fr.stack.items e place c row (length (elements_of p)) at_row enough;
         awaits = record { accepted = nested.0; nested = nested.1 };
       }
+
+  -- less is left to do where the text ends, and the row's frame is taken off
+  pub ended_step : (i : Input) (fr : Frames) (f : Frame) (new : Parser) (answer : Result State AllocError) → IsInnermost p.style p.frames.stack.items f fr.stack.items → units_at i ≡ past_space (left_of p) → IsStep (ending_weight e + 1) (record p { input = i; frames = fr }) new answer → IsStep 1 p new answer
+  ended_step i fr f new answer taken units step =
+      let fs = p.frames.stack.items in
+      let same : f ≡ frame.Row e place c row = one_innermost p.style fs fr.stack.items others f (frame.Row e place c row) taken inner in
+      let at_row = subst (λ f. IsInnermost p.style fs f fr.stack.items) same taken in
+      let brought = weighed p.style fs fr.stack.items (frame.Row e place c row) at_row in
+      let fewer : unit_count (units_at i) ≤ unit_count (left_of p) = rw units (no_more_past_space (left_of p)) in
+      step_within p (record p { input = i; frames = fr }) new answer (ending_weight e + 1) 1 (omega (arith, fewer, brought)) step
 
 -- a unit that stands next, white space aside
 pub unit_next : (l m w : Units) (n : CodeNext) (u : CodeUnit) → w ≡ past_space l → w ≡ put_back n m → n ≡ next.Unit u → past_space l ≡ Next (unit_of u) m

@@ -1,14 +1,14 @@
 -- What holds of the parser where an element is put.
-use Rattle.std.proofs.Common.{◌≡◌, ℕ, ◌+◌, ◌≤◌, false, List, ◌∷◌, Option, Some, None, sym, ap, ◌∙◌, arith}
+use Rattle.std.proofs.Common.{Bool, true, ◌≡◌, ℕ, ◌+◌, ◌≤◌, false, List, ◌∷◌, Option, Some, None, sym, ap, ◌∙◌, arith}
 use Rattle.latex2mathml_elements.specs.Element.{Element}
 use Rattle.latex2mathml_builder.specs.Built.{Built, elements_in}
-use Rattle.latex2mathml_tex_grammar.specs.{Atoms.Plain, Atoms.atom, Makes.Core, Makes.core, Makes.number, Next.digits_next, Next.next_are, Symbols.Alphabet, Symbols.Ordinary, Units.Piece}
-use Rattle.latex2mathml_tex_grammar.specs.Rules.{Rule, gives, takes_digits, takes_if}
+use Rattle.latex2mathml_tex_grammar.specs.{Atoms.Plain, Atoms.atom, Makes.Core, Makes.core, Makes.number, Next.digits_next, Next.follows, Next.next_are, Symbols.Alphabet, Symbols.Ordinary, Units.Piece}
+use Rattle.latex2mathml_tex_grammar.specs.Rules.{Rule, gives, if_follows, takes_digits, takes_if}
 use Rattle.latex2mathml_tex.specs.{Frames.Start, Left.unit_count, Left.units_at, Models.core_with, Shapes.IsPut}
 use Rattle.latex2mathml_tex.specs.Steps.{Begins, CanBegin, Follows, Holds, elements_of, left_of, to_do}
 use Rattle.latex2mathml_tex.specs.declared.{atoms.Core.Core as CodeCore, input.Input.Input, parse.Parser.Parser}
 use Rattle.latex2mathml_tex.specs.declared.parse.State.TheVariants as state
-use Rattle.latex2mathml_tex.proofs.Leading.{digits, given, not_taken, taken}
+use Rattle.latex2mathml_tex.proofs.Leading.{digits, follows_next, given, none_follows, not_taken, taken}
 
 -- the element of an atom without scripts
 pub core_put : (s : Start) (p : Parser) (b : Built) (c : CodeCore) (x : Element) (k : Core) → elements_in b ≡ x ∷ elements_of p → core_with c x ≡ k → Begins (gives k) 0 s p → Holds s (record p { builder = b }) (state.Core c)
@@ -46,6 +46,14 @@ module _ (s : Start) (p : Parser) (i : Input) where
 
   pub past_none : {tests : List (Piece → Option (List ℕ))} {then : List ℕ → Rule} (otherwise : Rule) → next_are tests (left_of p) ≡ None → units_at i ≡ left_of p → Begins (takes_if tests then otherwise) 0 s p → Begins otherwise 0 s (record p { input = i })
   past_none otherwise e f g = record { style = g.style; leads = rw f (not_taken e g.leads) }
+
+-- What begins where a unit stands next that passes a test, and where none does
+module _ (s : Start) (p : Parser) {test : Piece → Bool} {then otherwise : Rule} where
+  pub before_unit : follows test (left_of p) ≡ true → Begins (if_follows test then otherwise) 0 s p → Begins then 0 s p
+  before_unit e g = record { style = g.style; leads = follows_next e g.leads }
+
+  pub before_none : follows test (left_of p) ≡ false → Begins (if_follows test then otherwise) 0 s p → Begins otherwise 0 s p
+  before_none e g = record { style = g.style; leads = none_follows e g.leads }
 
 -- the element of a number
 pub number_put : (s : Start) (p : Parser) (b : Built) (c : CodeCore) (given_alphabet alphabet : Option Alphabet) (ds : List ℕ) → ((x : Element) → core_with c x ≡ core (atom (Plain Ordinary) false x)) → given_alphabet ≡ alphabet → elements_in b ≡ (number given_alphabet ds).element ∷ elements_of p → Begins (gives (core (number alphabet ds))) 0 s p → Holds s (record p { builder = b }) (state.Core c)

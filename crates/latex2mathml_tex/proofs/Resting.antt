@@ -13,13 +13,13 @@ use Rattle.latex2mathml_tex.specs.Frames.{RowMade, Start, Whole, ending_count, e
 use Rattle.latex2mathml_tex.specs.{Errors.refusal_of, Innermost.IsInnermost, Meanings.style_of}
 use Rattle.latex2mathml_tex.specs.Levels.{FollowsChange, Leads, Refuses, RestLeads}
 use Rattle.latex2mathml_tex.specs.Models.{context_of, row_count, row_with}
-use Rattle.latex2mathml_tex.specs.Steps.{BeginsRest, CanBegin, CanMake, Closes, EndsRow, IsLeft, Follows, HasElements, Holds, InnermostIs, elements_of, left_of, level, row_makes, to_do}
+use Rattle.latex2mathml_tex.specs.Steps.{BeginsRest, CanBegin, CanMake, Closes, EndsRow, IsLeft, Follows, HasElements, Holds, elements_of, left_of, level, row_makes, to_do}
 use Rattle.latex2mathml_tex.specs.declared.{atoms.Context.Context, atoms.Row.Row as CodeRow, meaning.Style.Style as CodeStyle, parse.Parser.Parser, unit.Unit.Unit as CodeUnit}
 use Rattle.latex2mathml_tex.specs.declared.parse.State.TheVariants as state
 use Rattle.latex2mathml_tex.specs.declared.parse.frames.{Ending.Ending, Frame.Frame, Frames.Frames}
 use Rattle.latex2mathml_tex.specs.declared.parse.frames.Ending.TheVariants as ending
 use Rattle.latex2mathml_tex.specs.declared.parse.frames.Frame.TheVariants as frame
-use Rattle.latex2mathml_tex.proofs.{Marks.all_refuse, NoAtom.elements_left, NoAtom.frames_left, Opening.into_frame, Opening.out_of_frame, Rows.others_await, Wording.one_innermost}
+use Rattle.latex2mathml_tex.proofs.{Marks.all_refuse, NoAtom.elements_left, Opening.into_frame, Opening.out_of_frame, Rows.others_await}
 
 -- The end of a group
 
@@ -33,28 +33,22 @@ module _ (p : Parser) (b : Built) (row whole : CodeRow) (below : drop whole.coun
     awaits = record { accepted = can.awaits.accepted; nested = can.awaits.nested };
   }
 
-  pub formula_step : (fr : Frames) (f : Frame) (place : ℕ) (c : Context) → InnermostIs (frame.Row ending.Text place c row) p → IsInnermost p.style p.frames.stack.items f fr.stack.items → HasElements 0 p → Follows (to_do p + 1) (record p { frames = fr; builder = b }) (state.End whole.count)
-  formula_step fr f place c (others, inner) taken enough =
-      let fs = p.frames.stack.items in
-      let same : f ≡ frame.Row ending.Text place c row = one_innermost p.style fs fr.stack.items others f (frame.Row ending.Text place c row) taken inner in
-      let at_row = subst (λ f. IsInnermost p.style fs f fr.stack.items) same taken in
-      let some = elements_left p.style fs fr.stack.items ending.Text place c row (length (elements_of p)) at_row enough in
-      let fewer = frames_left p.style fs fr.stack.items f taken in
-      record { ready = record { elements = omega (arith, some, same_left, there); may_come = there }; falls = omega (arith, fewer) }
+  pub formula_step : HasElements (row_count row) p → Follows (to_do p + 1) (record p { builder = b }) (state.End whole.count)
+  formula_step enough = record { ready = record { elements = omega (arith, enough, same_left, there); may_come = there }; falls = omega arith }
 
 module _ (s : Start) (p : Parser) (b : Built) (style : CodeStyle) (row whole : CodeRow) (is : row_with whole (elements_in b) ≡ finished (style_of style) (row_with row (elements_of p))) (below : drop whole.count (elements_in b) ≡ drop (row_count row) (elements_of p)) (e : Ending) (place : ℕ) where
   abbrev MadeOf : Units → List Element → List Element → Row → Type 0
   MadeOf rest own others r = RowMade s e place own (inside s p.frames.stack.items others) (Read r rest)
 
-  made_finished : (u : CodeUnit) (g : EndsRow e place style row u s p) → MadeOf g.rest (drop whole.count (elements_in b)) (drop (whole.count + ending_count e) (elements_in b)) (row_with whole (elements_in b))
-  made_finished u g =
+  pub made_finished : (rest : Units) → RowMade s e place (drop (row_count row) (elements_of p)) (level (row_count row + ending_count e) s p) (Read (finished (style_of style) (row_with row (elements_of p))) rest) → MadeOf rest (drop whole.count (elements_in b)) (drop (whole.count + ending_count e) (elements_in b)) (row_with whole (elements_in b))
+  made_finished rest leads =
       let xs = elements_of p in
       let ys = elements_in b in
       let others : drop (whole.count + ending_count e) ys ≡ drop (row_count row + ending_count e) xs =
       sym (drop-drop (ending_count e) whole.count ys) ∙ ap (drop (ending_count e)) below ∙ drop-drop (ending_count e) (row_count row) xs in
-      subst (λ r. MadeOf g.rest (drop whole.count ys) (drop (whole.count + ending_count e) ys) r) (sym is)
-      (subst (λ zs. MadeOf g.rest zs (drop (whole.count + ending_count e) ys) (finished (style_of style) (row_with row xs))) (sym below)
-      (subst (λ zs. MadeOf g.rest (drop (row_count row) xs) zs (finished (style_of style) (row_with row xs))) (sym others) g.leads))
+      subst (λ r. MadeOf rest (drop whole.count ys) (drop (whole.count + ending_count e) ys) r) (sym is)
+      (subst (λ zs. MadeOf rest zs (drop (whole.count + ending_count e) ys) (finished (style_of style) (row_with row xs))) (sym below)
+      (subst (λ zs. MadeOf rest (drop (row_count row) xs) zs (finished (style_of style) (row_with row xs))) (sym others) leads))
 
 -- .. so it can be closed
 closes_by : (s : Start) (p : Parser) (e : Ending) (place : ℕ) (xs : CodeRow) (u : CodeUnit) (rest : Units) → IsLeft e u rest (left_of p) → s.style ≡ style_of p.style → RowMade s e place (drop xs.count (elements_of p)) (level (xs.count + ending_count e) s p) (Read (row_with xs (elements_of p)) rest) → Closes e place xs u s p
@@ -68,7 +62,7 @@ closes_by s p (ending.Formula ws) place xs u rest left style leads = record { st
 
 pub row_finished : (s : Start) (p : Parser) (b : Built) (style : CodeStyle) (row whole : CodeRow) → row_with whole (elements_in b) ≡ finished (style_of style) (row_with row (elements_of p)) → drop whole.count (elements_in b) ≡ drop (row_count row) (elements_of p) → (e : Ending) (place : ℕ) (u : CodeUnit) → EndsRow e place style row u s p → Closes e place whole u s (record p { builder = b })
 row_finished s p b style row whole is below e place u g =
-    closes_by s (record p { builder = b }) e place whole u g.rest g.left g.same_style (made_finished s p b style row whole is below e place u g)
+    closes_by s (record p { builder = b }) e place whole u g.rest g.left g.same_style (made_finished s p b style row whole is below e place g.rest g.leads)
 
 -- What follows a change
 

@@ -1,5 +1,5 @@
 -- What holds of the parser where an atom is put behind a row.
-use Rattle.std.proofs.Common.{◌≡◌, ℕ, ◌+◌, ◌-◌, ◌≤◌, ◌&&◌, ◌++◌, Bool, true, false, sum_by, Some, None, Result, Ok, Err, IsTrue, List, [], ◌∷◌, drop, length, refl, sym, ap, ◌∙◌, subst, arith, reverse}
+use Rattle.std.proofs.Common.{◌≡◌, ℕ, ◌+◌, ◌-◌, ◌<◌, ◌≤◌, ◌&&◌, ◌++◌, Bool, true, false, sum_by, Some, None, Result, Ok, Err, IsTrue, List, [], ◌∷◌, drop, length, refl, sym, ap, ◌∙◌, subst, arith, reverse}
 use Rattle.std.proofs.lemmas.{List.drop-drop, List.length-drop, List.reverse-append, List.Sums.sum_by_push}
 use Rattle.latex2mathml_elements.specs.Element.{Element}
 use Rattle.latex2mathml_builder.specs.Built.{Built, elements_in}
@@ -99,7 +99,7 @@ frame_same : (e : Ending) (place : ℕ) (context : Context) (row longer : CodeRo
 frame_same ending.Text place context row longer = refl
 frame_same e place context row longer = refl
 
-weighed : (style : Style) (fs others : List Frame) (f : Frame) → IsInnermost style fs f others → sum_by frame_weight fs ≡ sum_by frame_weight others + frame_weight f
+pub weighed : (style : Style) (fs others : List Frame) (f : Frame) → IsInnermost style fs f others → sum_by frame_weight fs ≡ sum_by frame_weight others + frame_weight f
 weighed style fs others f (none_begun h k g) = rw (h, k, g) refl
 weighed style fs others f (on_top h) = ap (sum_by frame_weight) h ∙ sum_by_push frame_weight others f
 
@@ -127,10 +127,13 @@ row_put_back p q f others e place context row longer i is can below rest there i
 -- What is refused
 
 module _ (p q : Parser) (i : Input) (error : TexError) (st : State) (same : q ≡ record p { input = i; refusal = error }) (is : st ≡ state.Refused) where
+  pub refused_within : (m : ℕ) → 0 < m → unit_count (units_at i) ≤ unit_count (left_of p) → HasElements 0 p → Follows (to_do p + m) q st
+  refused_within m some less enough =
+      subst (λ q. Follows (to_do p + m) q st) (sym same) (subst (λ t. Follows (to_do p + m) (record p { input = i; refusal = error }) t) (sym is)
+      (record { ready = record { elements = enough; may_come = search }; falls = omega (arith, less, some) }))
+
   pub refused_step : unit_count (units_at i) ≤ unit_count (left_of p) → HasElements 0 p → Follows (to_do p + 13) q st
-  refused_step less enough =
-      subst (λ q. Follows (to_do p + 13) q st) (sym same) (subst (λ t. Follows (to_do p + 13) (record p { input = i; refusal = error }) t) (sym is)
-      (record { ready = record { elements = enough; may_come = search }; falls = omega (arith, less) }))
+  refused_step = refused_within 13 (omega arith)
 
   pub refused_here : (s : Start) (r : Refusal) → refusal_of error ≡ Some r → s.style ≡ style_of p.style → Refuses (level 0 s p) r → Holds s q st
   refused_here s r e style k =

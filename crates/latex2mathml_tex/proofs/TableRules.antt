@@ -1,25 +1,25 @@
 -- What holds of the parser where tables begin and end.
-use Rattle.std.proofs.Common.{◌≡◌, ℕ, ◌+◌, ◌≤◌, List, [], ◌∷◌, Option, Some, None, true, drop, option_map, reverse, sum_by, take, Result, refl, sym, ap, subst, ◌∙◌, arith}
+use Rattle.std.proofs.Common.{◌≡◌, ℕ, ◌+◌, ◌<◌, ◌≤◌, List, [], ◌∷◌, Option, Some, None, true, drop, option_map, reverse, sum_by, take, Result, refl, sym, ap, subst, ◌∙◌, arith}
 use Rattle.std.specs.{Borrow.Bor, declared.alloc.AllocError.AllocError}
 use Rattle.std.specs.Str.{bytes_eq}
 use mathlib.Core.List.{reverse_aux}
 use Rattle.latex2mathml_elements.specs.Attributes as attributes
 use Rattle.latex2mathml_elements.specs.Attributes.{Attributes}
-use Rattle.latex2mathml_elements.specs.Columns.{Columns, Alike, Dense}
+use Rattle.latex2mathml_elements.specs.Columns.{Columns, Alike, Dense, InPairs}
 use Rattle.latex2mathml_elements.specs.Element.{Element, table}
 use Rattle.latex2mathml_builder.specs.{Built.Built, Built.elements_in, Columns.columns_of, Stacks.table_with}
 use Rattle.latex2mathml_builder.specs.declared.columns.Columns.{Columns as CodeColumns}
 use Rattle.latex2mathml_builder.specs.{Names.math_style_of, declared.attributes.MathStyle.MathStyle}
 use Rattle.latex2mathml_tex_grammar.specs.{Atoms.Plain, Atoms.atom, Makes.core, Refusal.Refusal}
 use Rattle.latex2mathml_tex_grammar.specs.Reading.{ReadsRows}
-use Rattle.latex2mathml_tex_grammar.specs.Rules.{ByBrace, ByName, Context as RuleContext, Rule, ended_table, gives, passes_over, reads_rows, rows_rule, styled, takes_found}
+use Rattle.latex2mathml_tex_grammar.specs.Rules.{ByBrace, ByName, ByText, Context as RuleContext, Rule, ended_table, gives, passes_over, reads_rows, rows_of_text, rows_rule, styled, takes_found}
 use Rattle.latex2mathml_tex_grammar.specs.Scanning.{BeforeArgument, BeforeRow, Name, Spot, past, past_break}
 use Rattle.latex2mathml_tex_grammar.specs.Symbols as symbols
 use Rattle.latex2mathml_tex_grammar.specs.Tables.{Lines, a_table, between_any, rows_of, rows_onto, said_style}
 use Rattle.latex2mathml_tex.specs.Frames.{Start, context_at}
 use Rattle.latex2mathml_tex.specs.Levels.{CoreMade, Refuses, RuleLeads}
 use Rattle.latex2mathml_tex.specs.{Errors.refusal_of, Left.unit_count, Left.units_at, Meanings.style_of, Models.context_of}
-use Rattle.latex2mathml_tex.specs.Steps.{BeginsIn, EndsRows, Follows, GoesOnTable, HasElements, Holds, InnermostIs, IsStep, MakesTable, TookText, elements_of, frame_weight, left_of, level, to_do}
+use Rattle.latex2mathml_tex.specs.Steps.{Begins, BeginsIn, EndsRows, Follows, GoesOnTable, HasElements, Holds, InnermostIs, IsStep, MakesTable, TookText, elements_of, frame_weight, left_of, level, to_do}
 use Rattle.latex2mathml_tex.specs.Tables.{behind_rows, delimiter_texts, environment_of}
 use Rattle.latex2mathml_tex.specs.{Innermost.frame_context, Models.core_with}
 use Rattle.latex2mathml_tex.specs.declared.{atoms.Context.Context, atoms.Core.Core as CodeCore, environments.Environment.Environment, error.TexError.TexError, input.Input.Input, meaning.Style.Style, parse.Parser.Parser, parse.State.State}
@@ -27,7 +27,8 @@ use Rattle.latex2mathml_tex.specs.declared.parse.frames.Frame.{Frame}
 use Rattle.latex2mathml_tex.specs.declared.parse.State.TheVariants as state
 use Rattle.latex2mathml_tex.specs.declared.parse.frames.Table.{Table}
 use Rattle.latex2mathml_tex.proofs.Leading.{found, given, not_found, passed, rows_due}
-use Rattle.latex2mathml_tex.proofs.{Marks.all_refuse, Marks.core_refuses, Rows.refused_step, Rows.step_within, Scanned.no_more_past, Scanned.no_more_past_break, Scanned.no_more_scanned, Opening.context_is}
+use Rattle.latex2mathml_tex.proofs.{Marks.all_refuse, Marks.core_refuses, Rows.refused_within, Rows.step_within, Scanned.no_more_past, Scanned.no_more_past_break, Scanned.no_more_scanned, Opening.context_is}
+use Rattle.latex2mathml_tex.specs.declared.parse.frames.TableKind.TheVariants as kind
 
 -- A formula that is refused without so many elements
 pub refused_at : (s : Start) (p q : Parser) (n : ℕ) (r : Refusal) → q.style ≡ p.style → refusal_of q.refusal ≡ Some r → s.style ≡ style_of p.style → Refuses (level n s p) r → Holds s q state.Refused
@@ -55,10 +56,13 @@ module _ (p q : Parser) (place : ℕ) (spot : Spot) where
     text_taken s c then g =
         subst (λ x. BeginsIn c (then text) 0 s x) (sym took.0) (record { style = g.style; context = g.context; leads = found then took.1 g.leads })
 
-    pub text_step : (n : ℕ) (new : Parser) (answer : Result State AllocError) → n ≤ 13 → IsStep n q new answer → IsStep 13 p new answer
-    text_step n new answer h step =
+    pub text_within : (n m : ℕ) (new : Parser) (answer : Result State AllocError) → n ≤ m → IsStep n q new answer → IsStep m p new answer
+    text_within n m new answer h step =
         let frames : sum_by frame_weight q.frames.stack.items ≡ sum_by frame_weight p.frames.stack.items = ap (λ (x : Parser). sum_by frame_weight x.frames.stack.items) took.0 in
-        step_within p q new answer n 13 (omega (arith, frames, fewer, h)) step
+        step_within p q new answer n m (omega (arith, frames, fewer, h)) step
+
+    pub text_step : (n : ℕ) (new : Parser) (answer : Result State AllocError) → n ≤ 13 → IsStep n q new answer → IsStep 13 p new answer
+    text_step n = text_within n 13
 
     -- the formula is refused behind the text
 
@@ -68,9 +72,12 @@ module _ (p q : Parser) (place : ℕ) (spot : Spot) where
           subst (λ t. Holds s new t) (sym is)
           (refused_at s p new n r (ap (λ (x : Parser). x.style) same ∙ ap (λ (x : Parser). x.style) took.0) (ap (λ (x : Parser). refusal_of x.refusal) same ∙ reported) style k)
 
+      pub refused_behind_within : (m : ℕ) → 0 < m → HasElements 0 p → Follows (to_do p + m) new st
+      refused_behind_within m some enough =
+          refused_within p new q.input error st (same ∙ ap (λ (x : Parser). record x { refusal = error }) took.0) is m some fewer enough
+
       pub refused_behind_step : HasElements 0 p → Follows (to_do p + 13) new st
-      refused_behind_step enough =
-          refused_step p new q.input error st (same ∙ ap (λ (x : Parser). record x { refusal = error }) took.0) is fewer enough
+      refused_behind_step = refused_behind_within 13 (omega arith)
 
 -- What is passed over
 
@@ -84,20 +91,20 @@ passed_step p i spot n m new answer units h step =
 
 -- Rows begin
 
-pub rows_begin : (s : Start) (p : Parser) (i : Input) (e : Bor Environment) (columns : CodeColumns) (place : ℕ) (c : Context) → units_at i ≡ past BeforeRow (left_of p) → BeginsIn c (rows_rule place (context_of c) e.now.name.now (environment_of e.now) (columns_of columns)) 0 s p → GoesOnTable (record { environment = Some e; columns = columns; rows = 0; cells = 0 }) place s (record p { input = i })
+pub rows_begin : (s : Start) (p : Parser) (i : Input) (e : Bor Environment) (columns : CodeColumns) (place : ℕ) (c : Context) → units_at i ≡ past BeforeRow (left_of p) → BeginsIn c (rows_rule place (context_of c) e.now.name.now (environment_of e.now) (columns_of columns)) 0 s p → GoesOnTable (record { kind = kind.Environment e; columns = columns; rows = 0; cells = 0 }) place s (record p { input = i })
 rows_begin s p i e columns place c units g =
     let around = context_at (level 0 s p) in
-    let t : Table = record { environment = Some e; columns = columns; rows = 0; cells = 0 } in
+    let t : Table = record { kind = kind.Environment e; columns = columns; rows = 0; cells = 0 } in
     let k = subst (λ c. RuleLeads (rows_rule place c e.now.name.now (environment_of e.now) (columns_of columns)) (CoreMade (level 0 s p)) (left_of p)) g.context g.leads in
     record {
       style = g.style;
       leads = λ o d. rows_due (behind_rows t around) k o (subst (λ l. ReadsRows ByName place (columns_of columns) (styled around (style_of e.now.style)) [] [] l o) units d);
     }
 
-pub substack_begins : (s : Start) (p : Parser) (i : Input) (columns : CodeColumns) (place : ℕ) (c : Context) → columns_of columns ≡ Alike Dense → units_at i ≡ past BeforeRow (left_of p) → BeginsIn c (reads_rows ByBrace place (Alike Dense) (styled (context_of c) symbols.InScript) (λ lines end. gives (a_table None (Alike Dense) symbols.InScript (context_of c).style lines))) 0 s p → GoesOnTable (record { environment = None; columns = columns; rows = 0; cells = 0 }) place s (record p { input = i })
+pub substack_begins : (s : Start) (p : Parser) (i : Input) (columns : CodeColumns) (place : ℕ) (c : Context) → columns_of columns ≡ Alike Dense → units_at i ≡ past BeforeRow (left_of p) → BeginsIn c (reads_rows ByBrace place (Alike Dense) (styled (context_of c) symbols.InScript) (λ lines end. gives (a_table None (Alike Dense) symbols.InScript (context_of c).style lines))) 0 s p → GoesOnTable (record { kind = kind.Braces; columns = columns; rows = 0; cells = 0 }) place s (record p { input = i })
 substack_begins s p i columns place c dense units g =
     let around = context_at (level 0 s p) in
-    let t : Table = record { environment = None; columns = columns; rows = 0; cells = 0 } in
+    let t : Table = record { kind = kind.Braces; columns = columns; rows = 0; cells = 0 } in
     let j = subst (λ c. RuleLeads (reads_rows ByBrace place (Alike Dense) (styled c symbols.InScript) (λ lines end. gives (a_table None (Alike Dense) symbols.InScript c.style lines))) (CoreMade (level 0 s p)) (left_of p)) g.context g.leads in
     let k = subst (λ d. RuleLeads (reads_rows ByBrace place d (styled around symbols.InScript) (λ lines end. gives (a_table None d symbols.InScript around.style lines))) (CoreMade (level 0 s p)) (left_of p)) (sym dense) j in
     record {
@@ -105,9 +112,21 @@ substack_begins s p i columns place c dense units g =
       leads = λ o d. rows_due (behind_rows t around) k o (subst (λ l. ReadsRows ByBrace place (columns_of columns) (styled around symbols.InScript) [] [] l o) units d);
     }
 
+-- rows of a whole text
+pub text_begins : (s : Start) (p : Parser) (i : Input) (columns : CodeColumns) (place : ℕ) → columns_of columns ≡ InPairs → place ≡ 0 → units_at i ≡ past BeforeRow (left_of p) → Begins (rows_of_text (context_at (level 0 s p))) 0 s p → GoesOnTable (record { kind = kind.Text; columns = columns; rows = 0; cells = 0 }) place s (record p { input = i })
+text_begins s p i columns place in_pairs first units g =
+    let around = context_at (level 0 s p) in
+    let t : Table = record { kind = kind.Text; columns = columns; rows = 0; cells = 0 } in
+    let k = subst (λ d. RuleLeads (reads_rows ByText 0 d (styled around symbols.InDisplay) (λ lines end. gives (a_table None d symbols.InDisplay around.style lines))) (CoreMade (level 0 s p)) (left_of p)) (sym in_pairs) g.leads in
+    let j = subst (λ n. RuleLeads (reads_rows ByText n (columns_of columns) (styled around symbols.InDisplay) (λ lines end. gives (a_table None (columns_of columns) symbols.InDisplay around.style lines))) (CoreMade (level 0 s p)) (left_of p)) (sym first) k in
+    record {
+      style = g.style;
+      leads = λ o d. rows_due (behind_rows t around) j o (subst (λ l. ReadsRows ByText place (columns_of columns) (styled around symbols.InDisplay) [] [] l o) units d);
+    }
+
 -- An environment ends with its own name
 
-pub ended_well : (p q : Parser) (e : Bor Environment) (columns : CodeColumns) (rows at : ℕ) (text : List ℕ) → TookText at (BeforeArgument Name) p q (Some text) → (s : Start) → bytes_eq text e.now.name.now ≡ true → EndsRows (Some e) columns rows at s p → MakesTable e.now.delimiters columns e.now.style rows s q
+pub ended_well : (p q : Parser) (e : Bor Environment) (columns : CodeColumns) (rows at : ℕ) (text : List ℕ) → TookText at (BeforeArgument Name) p q (Some text) → (s : Start) → bytes_eq text e.now.name.now ≡ true → EndsRows (kind.Environment e) columns rows at s p → MakesTable e.now.delimiters columns e.now.style rows s q
 ended_well p q e columns rows at text took s same g =
     let around = context_at (level rows s p) in
     let then : List ℕ → Rule = λ other. ended_table at around (environment_of e.now) (columns_of columns) g.lines (bytes_eq other e.now.name.now) in

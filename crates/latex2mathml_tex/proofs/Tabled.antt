@@ -5,17 +5,17 @@ use Rattle.latex2mathml_elements.specs.Columns.{Columns, column_at}
 use Rattle.latex2mathml_elements.specs.Element.{Element}
 use Rattle.latex2mathml_builder.specs.{Built.Built, Built.elements_in, Columns.columns_of}
 use Rattle.latex2mathml_tex_grammar.specs.{Environments.before_cell, Rows.Row, Rows.row_element, Scanning.past_break}
-use Rattle.latex2mathml_tex_grammar.specs.Reading.{Outcome, Read, Refused, ReadsAtoms, ReadsRows, cell_read, cell_refused, next_cell, next_row, table_ends}
+use Rattle.latex2mathml_tex_grammar.specs.Reading.{Outcome, Read, Refused, ReadsAtoms, ReadsRows, cell_read, cell_refused, next_cell, next_row, table_ends, text_ends_table}
 use Rattle.latex2mathml_tex_grammar.specs.Rules.{Context as RuleContext, InCell, TableEnd, in_context, styled}
 use Rattle.latex2mathml_tex_grammar.specs.Starts.{PartsCells, EndsRow, EndsTable as TableEnds, cell_end}
 use Rattle.latex2mathml_tex_grammar.specs.Tables.{Lines, a_row, begun_cell, with_last}
-use Rattle.latex2mathml_tex_grammar.specs.Units.{Units}
+use Rattle.latex2mathml_tex_grammar.specs.Units.{Units, End}
 use Rattle.latex2mathml_tex.specs.Frames.{Start, context_at, inside}
 use Rattle.latex2mathml_tex.specs.Innermost.{empty_row, frame_context}
 use Rattle.latex2mathml_tex.specs.Levels.{CoreMade, Leads, Level, RuleLeads}
 use Rattle.latex2mathml_tex.specs.{Left.units_at, Meanings.style_of, Taking.piece_of, Taking.unit_of}
 use Rattle.latex2mathml_tex.specs.Models.{before_of, context_of, row_count, row_with}
-use Rattle.latex2mathml_tex.specs.Steps.{CanMake, ClosesCell, EndsRows, GoesOnTable, InnermostIs, core_made, elements_of, left_of, level_within}
+use Rattle.latex2mathml_tex.specs.Steps.{CanMake, ClosesCell, EndsCells, EndsRows, GoesOnTable, InnermostIs, core_made, elements_of, left_of, level, level_within}
 use Rattle.latex2mathml_tex.specs.Tables.{CellMade, RowsLead, TableMade, behind_rows, cell_context, cells_of, rows_of, style_in, table_end}
 use Rattle.latex2mathml_tex.specs.declared.{atoms.Context.Context, atoms.Row.Row as CodeRow, input.Input.Input, meaning.Style.Style, parse.Parser.Parser, unit.Unit.Unit as CodeUnit}
 use Rattle.latex2mathml_tex.specs.declared.parse.frames.{Frame.Frame, Table.Table}
@@ -43,11 +43,11 @@ module _ (s : Start) (p : Parser) (t : Table) (place : ℕ) where
   abbrev Cell : RuleContext → Row → List Element → ℕ → Type 0
   Cell c r xs n = (o : Outcome Row) → ReadsAtoms (InCell (table_end t) place) c r (left_of p) o → TableMade t place xs (context_at (inside s p.frames.stack.items (drop n (elements_of p)))) (CoreMade (inside s p.frames.stack.items (drop n (elements_of p)))) o
 
-  pub cell_begins : (f : Frame) (around context : Context) (st : Style) (row : CodeRow) → CanMake core_made beside p → around ≡ frame_context f → InnermostIs f p → context ≡ record around { style = st } → style_of st ≡ style_in t.environment → row ≡ record empty_row { before = row.before } → before_of row.before ≡ before_cell (column_at (columns_of t.columns) t.cells) → GoesOnTable t place s p → Leads (level_within (frame.Row (ending.Cell t) place context row) 0 s p) (left_of p)
+  pub cell_begins : (f : Frame) (around context : Context) (st : Style) (row : CodeRow) → CanMake core_made beside p → around ≡ frame_context f → InnermostIs f p → context ≡ record around { style = st } → style_of st ≡ style_in t.kind → row ≡ record empty_row { before = row.before } → before_of row.before ≡ before_cell (column_at (columns_of t.columns) t.cells) → GoesOnTable t place s p → Leads (level_within (frame.Row (ending.Cell t) place context row) 0 s p) (left_of p)
   cell_begins f around context st row can is inner restyled same row_is before g =
       let outer : context_of around ≡ context_at around_it = ap context_of is ∙ context_is s p.style p.frames.stack.items f (drop beside (elements_of p)) g.style inner in
       let own : context_of context ≡ cell_context t (context_at around_it) =
-      ap context_of restyled ∙ ap (λ x. in_context x (context_of around).alphabet) same ∙ ap (λ c. styled c (style_in t.environment)) outer in
+      ap context_of restyled ∙ ap (λ x. in_context x (context_of around).alphabet) same ∙ ap (λ c. styled c (style_in t.kind)) outer in
       let count : length (cells_of t (elements_of p)) ≡ t.cells = length-take-le t.cells (elements_of p) (omega (arith, can.elements)) in
       let begun : row_with row (elements_of p) ≡ begun_cell (columns_of t.columns) (length (cells_of t (elements_of p))) =
       begun_is row (columns_of t.columns) t.cells (length (cells_of t (elements_of p))) (elements_of p) row_is before count in
@@ -109,10 +109,6 @@ module _ (s : Start) (p : Parser) (t : Table) (place : ℕ) (row : CodeRow) (u :
   under : drop (t.cells + t.rows) below ≡ outside
   under = drop-drop (t.cells + t.rows) row.count (elements_of p)
 
-  -- what follows the rows leads on, without these elements
-  abbrev Ended : Lines → List Element → Type 0
-  Ended lines ys = RuleLeads (behind_rows t (context_at (inside s p.frames.stack.items ys)) lines u.place) (CoreMade (inside s p.frames.stack.items ys)) (left_of p)
-
   pub cell_parted : (b : Built) (v : Table) → v ≡ record t { cells = t.cells + 1 } → elements_in b ≡ cell ∷ below → PartsCells ≡ cell_end (piece_of u.piece) → GoesOnTable v place s (record p { builder = b })
   cell_parted b v is put ends =
       let next : Table = record t { cells = t.cells + 1 } in
@@ -134,43 +130,69 @@ module _ (s : Start) (p : Parser) (t : Table) (place : ℕ) (row : CodeRow) (u :
       subst (λ v. GoesOnTable v place s (record p { builder = b; input = i })) (sym is)
       (goes_on s (record p { builder = b; input = i }) next place (last ∷ rows_of t below) [] outside g.style rows refl all (subst (λ m. Due next place (last ∷ rows_of t below) [] (inside s p.frames.stack.items outside) m) (sym units) due))
 
-  -- what follows the rows, where these are all of them
-  rows_ended : PickedEnd u → RowsLead (behind_rows t (context_at (inside s p.frames.stack.items outside))) (CoreMade (inside s p.frames.stack.items outside)) (Read (with_last (rows_of t below) (cells_of t below) (take row.count (elements_of p))) g.before)
-  rows_ended ends = g.leads _ (table_ends g.next (sym ends))
+  -- the table ends behind the cell
+  pub cell_ends : PickedEnd u → EndsCells t row.count u.place s p
+  cell_ends ends = record { style = g.style; leads = (g.leads _ (table_ends g.next (sym ends))).at_unit (unit_of u) (left_of p) g.next }
+
+-- .. so it does where the text ends
+pub text_ends_cell : (s : Start) (p : Parser) (t : Table) (place at n : ℕ) (row : Row) → s.style ≡ style_of p.style → left_of p ≡ End at → row.elements ≡ take n (elements_of p) → TableMade t place (drop n (elements_of p)) (context_at (level (n + (t.cells + t.rows)) s p)) (CoreMade (level (n + (t.cells + t.rows)) s p)) (Read row (End at)) → EndsCells t n at s p
+text_ends_cell s p t place at n row style left cell k =
+    let l = level (n + (t.cells + t.rows)) s p in
+    let due = (k _ (text_ends_table refl)).at_end at refl in
+    record {
+      style = style;
+      leads = subst (λ m. RuleLeads (behind_rows t (context_at l) (with_last (rows_of t (drop n (elements_of p))) (cells_of t (drop n (elements_of p))) (take n (elements_of p))) at) (CoreMade l) m) (sym left)
+          (subst (λ xs. RuleLeads (behind_rows t (context_at l) (with_last (rows_of t (drop n (elements_of p))) (cells_of t (drop n (elements_of p))) xs) at) (CoreMade l) (End at)) cell due);
+    }
+
+module _ (s : Start) (p : Parser) (t : Table) (count at : ℕ) (g : EndsCells t count at s p) where
+  abbrev behind : List Element
+  behind = drop count (elements_of p)
+
+  abbrev last_cell : Element
+  last_cell = row_element (take count (elements_of p))
+
+  abbrev beyond : List Element
+  beyond = drop (count + (t.cells + t.rows)) (elements_of p)
+
+  beyond_is : drop (t.cells + t.rows) behind ≡ beyond
+  beyond_is = drop-drop (t.cells + t.rows) count (elements_of p)
+
+  -- what follows the rows leads on, without these elements
+  abbrev Ended : Lines → List Element → Type 0
+  Ended lines ys = RuleLeads (behind_rows t (context_at (inside s p.frames.stack.items ys)) lines at) (CoreMade (inside s p.frames.stack.items ys)) (left_of p)
 
   -- an empty last row is none
-  pub row_is_none : PickedEnd u → row.count ≡ 0 → t.cells ≡ 0 → 0 < t.rows → t.rows ≤ length (elements_of p) → EndsRows t.environment t.columns t.rows u.place s p
-  row_is_none ends empty no_cells some there =
-      let others : take t.rows (elements_of p) ≡ rows_of t below = sym (ap (λ n. take t.rows (drop t.cells (drop n (elements_of p)))) empty ∙ ap (λ n. take t.rows (drop n (elements_of p))) no_cells) in
-      let beside : row.count + (t.cells + t.rows) ≡ t.rows = omega (arith, empty, no_cells) in
+  pub row_is_none : count ≡ 0 → t.cells ≡ 0 → 0 < t.rows → t.rows ≤ length (elements_of p) → EndsRows t.kind t.columns t.rows at s p
+  row_is_none empty no_cells some there =
+      let others : take t.rows (elements_of p) ≡ rows_of t behind = sym (ap (λ n. take t.rows (drop t.cells (drop n (elements_of p)))) empty ∙ ap (λ n. take t.rows (drop n (elements_of p))) no_cells) in
+      let beside : count + (t.cells + t.rows) ≡ t.rows = omega (arith, empty, no_cells) in
       let (last, (rest, split)) = some_first t.rows (elements_of p) some there in
-      let cells : cells_of t below ≡ [] = ap (λ n. take n below) no_cells in
-      let atoms : take row.count (elements_of p) ≡ [] = ap (λ n. take n (elements_of p)) empty in
-      let lines : with_last (rows_of t below) (cells_of t below) (take row.count (elements_of p)) ≡ record { last = last; others = rest } =
-      ap (λ k. with_last k (cells_of t below) (take row.count (elements_of p))) (sym others ∙ split) ∙ ap (λ k. with_last (last ∷ rest) k (take row.count (elements_of p))) cells ∙ ap (with_last (last ∷ rest) []) atoms in
-      let due = rows_ended ends (unit_of u) (left_of p) g.next in
+      let cells : cells_of t behind ≡ [] = ap (λ n. take n behind) no_cells in
+      let atoms : take count (elements_of p) ≡ [] = ap (λ n. take n (elements_of p)) empty in
+      let lines : with_last (rows_of t behind) (cells_of t behind) (take count (elements_of p)) ≡ record { last = last; others = rest } =
+      ap (λ k. with_last k (cells_of t behind) (take count (elements_of p))) (sym others ∙ split) ∙ ap (λ k. with_last (last ∷ rest) k (take count (elements_of p))) cells ∙ ap (with_last (last ∷ rest) []) atoms in
       record {
         style = g.style;
         lines = record { last = last; others = rest };
         are = split;
-        leads = subst (λ n. Ended (record { last = last; others = rest }) (drop n (elements_of p))) beside (subst (λ k. Ended k outside) lines due);
+        leads = subst (λ n. Ended (record { last = last; others = rest }) (drop n (elements_of p))) beside (subst (λ k. Ended k beyond) lines g.leads);
       }
 
-  pub row_is_last : (b : Built) (n : ℕ) → n ≡ t.rows + 1 → PickedEnd u → (row.count ≡ 0 → t.cells ≡ 0 → t.rows ≡ 0) → row.count + (t.cells + t.rows) ≤ length (elements_of p) → elements_in b ≡ a_row (cell ∷ cells_of t below) ∷ drop t.cells below → EndsRows t.environment t.columns n u.place s (record p { builder = b })
-  row_is_last b n is ends no_other there put =
-      let last = a_row (cell ∷ cells_of t below) in
-      let lines : Lines = record { last = last; others = rows_of t below } in
-      let rows_there : length (rows_of t below) ≡ t.rows = length-take-le t.rows (drop t.cells below) (count_left t.rows t.cells row.count (elements_of p) there) in
-      let cells_there : length (cells_of t below) ≡ t.cells = length-take-le t.cells below (count_below t.cells row.count (elements_of p) (omega (arith, there))) in
-      let atoms_there : length (take row.count (elements_of p)) ≡ row.count = length-take-le row.count (elements_of p) (omega (arith, there)) in
-      let whole : with_last (rows_of t below) (cells_of t below) (take row.count (elements_of p)) ≡ lines =
-      kept_last (rows_of t below) (cells_of t below) (take row.count (elements_of p)) (λ e f. rows_there ∙ no_other (sym atoms_there ∙ e) (sym cells_there ∙ f)) in
-      let first : take (t.rows + 1) (elements_in b) ≡ last ∷ rows_of t below = ap (take (t.rows + 1)) put ∙ take_more t.rows last (drop t.cells below) in
-      let all : drop (t.rows + 1) (elements_in b) ≡ outside = ap (drop (t.rows + 1)) put ∙ drop_more t.rows last (drop t.cells below) ∙ drop-drop t.rows t.cells below ∙ under in
-      let due = rows_ended ends (unit_of u) (left_of p) g.next in
+  pub row_is_last : (b : Built) (n : ℕ) → n ≡ t.rows + 1 → (count ≡ 0 → t.cells ≡ 0 → t.rows ≡ 0) → count + (t.cells + t.rows) ≤ length (elements_of p) → elements_in b ≡ a_row (last_cell ∷ cells_of t behind) ∷ drop t.cells behind → EndsRows t.kind t.columns n at s (record p { builder = b })
+  row_is_last b n is no_other there put =
+      let last = a_row (last_cell ∷ cells_of t behind) in
+      let lines : Lines = record { last = last; others = rows_of t behind } in
+      let rows_there : length (rows_of t behind) ≡ t.rows = length-take-le t.rows (drop t.cells behind) (count_left t.rows t.cells count (elements_of p) there) in
+      let cells_there : length (cells_of t behind) ≡ t.cells = length-take-le t.cells behind (count_below t.cells count (elements_of p) (omega (arith, there))) in
+      let atoms_there : length (take count (elements_of p)) ≡ count = length-take-le count (elements_of p) (omega (arith, there)) in
+      let whole : with_last (rows_of t behind) (cells_of t behind) (take count (elements_of p)) ≡ lines =
+      kept_last (rows_of t behind) (cells_of t behind) (take count (elements_of p)) (λ e f. rows_there ∙ no_other (sym atoms_there ∙ e) (sym cells_there ∙ f)) in
+      let first : take (t.rows + 1) (elements_in b) ≡ last ∷ rows_of t behind = ap (take (t.rows + 1)) put ∙ take_more t.rows last (drop t.cells behind) in
+      let all : drop (t.rows + 1) (elements_in b) ≡ beyond = ap (drop (t.rows + 1)) put ∙ drop_more t.rows last (drop t.cells behind) ∙ drop-drop t.rows t.cells behind ∙ beyond_is in
       record {
         style = g.style;
         lines = lines;
         are = ap (λ k. take k (elements_in b)) is ∙ first;
-        leads = subst (λ k. Ended lines (drop k (elements_in b))) (sym is) (subst (Ended lines) (sym all) (subst (λ k. Ended k outside) whole due));
+        leads = subst (λ k. Ended lines (drop k (elements_in b))) (sym is) (subst (Ended lines) (sym all) (subst (λ k. Ended k beyond) whole g.leads));
       }

@@ -27,6 +27,7 @@ use Rattle.latex2mathml_tex.proofs.{Opening.pushed, Rows.refused_step, Wording.n
 -- the meaning is none in words
 pub record IsNoWord (m : CodeMeaning) : Type 0 where
   pub no_sign : (symbol : CodeSymbol) → m ≡ code_meaning.Shows symbol → ⊥
+  pub no_dots : m ≡ code_meaning.Dots → ⊥
   pub no_space : (width : ℤ) → m ≡ code_meaning.Spacing width → ⊥
   pub no_words : (b : Option CodeAlphabet) → m ≡ code_meaning.Words b → ⊥
 
@@ -45,6 +46,7 @@ module _ (a : Option Alphabet) (name : List ℕ) where
 
     no_word_meant : (m : CodeMeaning) → IsNoWord m → meaning_rule name (Some (Meanings.meaning_of m)) ≡ NoWord (CommandInWords name)
     no_word_meant (code_meaning.Shows symbol) none = absurd (none.no_sign symbol refl)
+    no_word_meant code_meaning.Dots none = absurd (none.no_dots refl)
     no_word_meant (code_meaning.Spacing width) none = absurd (none.no_space width refl)
     no_word_meant (code_meaning.Words b) none = absurd (none.no_words b refl)
     no_word_meant m none = refl

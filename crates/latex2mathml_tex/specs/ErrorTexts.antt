@@ -1,18 +1,19 @@
--- The texts of errors.
-use Rattle.std.specs.Prelude.{ℕ, ◌-◌, Bool, true, false, List, ◌++◌, codes, decimal, if◌then◌else◌, length, replicate, string_bytes}
+-- The texts of refusals and of errors.
+use Rattle.std.specs.Prelude.{ℕ, ◌-◌, true, List, ◌++◌, Option, Some, None, codes, decimal, length, replicate}
 use Rattle.std.specs.{Char.encode_utf8, Fmt.digits, Str.byte}
+use Rattle.latex2mathml_tex.specs.{Errors.kind_of_error, Errors.refusal_of}
 use Rattle.latex2mathml_tex.specs.declared.error.{TexError.TexError, TexErrorKind.TexErrorKind}
-use Rattle.latex2mathml_tex.specs.declared.error.TexErrorKind.TheVariants as kind
+use Rattle.latex2mathml_tex_grammar.specs.Refusal as kind
 
 -- a number in hexadecimal, with four digits at least
 abbrev pub four_digits : ℕ → List ℕ
 four_digits n = replicate (4 - length (digits 16 true n)) (byte "0") ++ digits 16 true n
 
--- the kind in words
-abbrev pub kind_text : TexErrorKind → List ℕ
+-- a kind of refusal in words
+abbrev pub kind_text : kind.Kind → List ℕ
 kind_text kind.LoneBackslash = codes "a backslash ends the formula"
 kind_text (kind.ForbiddenCharacter c) = codes "forbidden character U+" ++ four_digits c
-kind_text (kind.UnknownCommand name) = codes "unknown command \\" ++ string_bytes name
+kind_text (kind.UnknownCommand name) = codes "unknown command \\" ++ name
 kind_text kind.MissingArgument = codes "an argument is missing"
 kind_text kind.UnclosedBrace = codes "{ is not closed"
 kind_text kind.UnclosedBracket = codes "[ is not closed"
@@ -24,20 +25,22 @@ kind_text kind.MiddleWithoutLeft = codes "\\middle outside of \\left and \\right
 kind_text kind.LimitsWithoutOperator = codes "limits without an operator"
 kind_text kind.SecondSubscript = codes "a second subscript"
 kind_text kind.SecondSuperscript = codes "a second superscript"
+kind_text kind.MissingLength = codes "a length is missing"
+kind_text kind.LengthTooLarge = codes "a length of more than 16384 points"
 kind_text kind.ChangeAsArgument = codes "a command for the rest of a group is no argument"
 kind_text kind.SecondInfix = codes "a second \\over or the like in one group"
 kind_text kind.MissingDelimiter = codes "a delimiter is missing"
 kind_text kind.NothingToNegate = codes "nothing to negate"
 kind_text kind.OutsideTable = codes "a sign of tables outside of a table"
 kind_text kind.MissingName = codes "the name of an environment is missing"
-kind_text (kind.UnknownEnvironment name) = codes "unknown environment " ++ string_bytes name
+kind_text (kind.UnknownEnvironment name) = codes "unknown environment " ++ name
 kind_text kind.BeginWithoutEnd = codes "\\begin without \\end"
 kind_text kind.EndWithoutBegin = codes "\\end without \\begin"
 kind_text kind.OtherName = codes "\\end has another name than \\begin"
 kind_text kind.UnknownColumn = codes "unknown column"
 kind_text kind.TooManyColumns = codes "more than 16 columns"
 kind_text (kind.MisplacedCharacter c) = encode_utf8 c ++ codes " has no meaning here"
-kind_text (kind.CommandInWords name) = codes "\\" ++ (string_bytes name ++ codes " in words")
+kind_text (kind.CommandInWords name) = codes "\\" ++ (name ++ codes " in words")
 kind_text (kind.CharacterInWords c) = encode_utf8 c ++ codes " in words"
 kind_text kind.TooManyExpansions = codes "too many macros are expanded"
 kind_text kind.MissingMacroName = codes "no name to define"
@@ -46,15 +49,20 @@ kind_text kind.OptionalArgument = codes "optional arguments are not read"
 kind_text kind.DelimitedArgument = codes "an argument up to a sign is not read"
 kind_text kind.UnknownParameter = codes "a body has no such argument"
 kind_text kind.NoDefinition = codes "not a definition"
-kind_text kind.OutOfMemory = codes "out of memory"
 
--- an error of this kind is about a place of the text
-abbrev pub has_place : TexErrorKind → Bool
-has_place kind.OutOfMemory = false
-has_place _ = true
+-- a refusal in words: its kind and its place
+abbrev pub refusal_text : kind.Refusal → List ℕ
+refusal_text refusal = kind_text refusal.kind ++ (codes " at " ++ decimal refusal.place)
 
--- the kind in words, and the place, where the error is about one
+-- the text of what is a refusal or is out of memory, by the text of what it is where it is a refusal
+abbrev pub text_by : {A : Type 0} → (A → List ℕ) → Option A → List ℕ
+text_by text (Some refused) = text refused
+text_by text None = codes "out of memory"
+
+-- the kind of an error in words
+abbrev pub error_kind_text : TexErrorKind → List ℕ
+error_kind_text error = text_by kind_text (kind_of_error error)
+
+-- an error in words: running out of memory is about no place
 abbrev pub error_text : TexError → List ℕ
-error_text error = if has_place error.kind
-    then kind_text error.kind ++ (codes " at " ++ decimal error.place)
-    else kind_text error.kind
+error_text error = text_by refusal_text (refusal_of error)

@@ -1,5 +1,5 @@
 -- The refusals that errors report.
-use Rattle.std.specs.Prelude.{IfErr, IfSome, Option, Result, Some, None, option_map, string_bytes}
+use Rattle.std.specs.Prelude.{Bool, true, false, IfErr, IfSome, Option, Result, Ok, Err, Some, None, option_map, string_bytes}
 use Rattle.latex2mathml_builder.specs.declared.attributes.Side.{Side}
 use Rattle.latex2mathml_builder.specs.declared.attributes.Side.TheVariants as side
 use Rattle.latex2mathml_tex_grammar.specs.Refusal as refusal
@@ -22,6 +22,8 @@ kind_of_error kind.MiddleWithoutLeft = Some refusal.MiddleWithoutLeft
 kind_of_error kind.LimitsWithoutOperator = Some refusal.LimitsWithoutOperator
 kind_of_error kind.SecondSubscript = Some refusal.SecondSubscript
 kind_of_error kind.SecondSuperscript = Some refusal.SecondSuperscript
+kind_of_error kind.MissingLength = Some refusal.MissingLength
+kind_of_error kind.LengthTooLarge = Some refusal.LengthTooLarge
 kind_of_error kind.ChangeAsArgument = Some refusal.ChangeAsArgument
 kind_of_error kind.SecondInfix = Some refusal.SecondInfix
 kind_of_error kind.MissingDelimiter = Some refusal.MissingDelimiter
@@ -53,6 +55,15 @@ refusal_of error = option_map (λ k. refusal.refusal_at k error.place) (kind_of_
 -- the error is out of memory, or this holds of the refusal that it reports
 abbrev pub IfRefused : {A : Type 0} → Result A TexError → (refusal.Refusal → Type 0) → Type 0
 IfRefused result P = IfErr result (λ error. IfSome (refusal_of error) P)
+
+-- whether the error is that `&` or `\\` stands outside of all tables
+abbrev pub is_outside_kind : TexErrorKind → Bool
+is_outside_kind kind.OutsideTable = true
+is_outside_kind k = false
+
+abbrev pub is_outside_error : {A : Type 0} → Result A TexError → Bool
+is_outside_error (Ok x) = false
+is_outside_error (Err error) = is_outside_kind error.kind
 
 -- out of memory: no place of the text is at fault
 abbrev pub out_of_memory : TexError

@@ -1,22 +1,24 @@
 -- What the parser's frames stand for: each is a level that was entered. A frame holds no element: what was read for it are
 -- the first of the elements that stand beside it, the uppermost first.
-use Rattle.std.specs.Prelude.{ℕ, zero, suc, ◌+◌, Bool, IsFalse, List, [], ◌∷◌, drop, reverse, option_map, Some}
+use Rattle.std.specs.Prelude.{◌≡◌, ℕ, zero, suc, ◌+◌, Bool, IsFalse, List, [], ◌∷◌, drop, reverse, option_map, Some}
 use Rattle.latex2mathml_elements.specs.{Attributes.Above, Element.Element}
 use Rattle.latex2mathml_builder.specs.Names.{side_of, stretch_of}
 use Rattle.latex2mathml_tex_grammar.specs.Makes as makes
-use Rattle.latex2mathml_tex_grammar.specs.Makes.{Core, core, group, classed, operator_name, accent, brace, stack, fraction, square_root, root, between_delimiters, struck}
-use Rattle.latex2mathml_tex_grammar.specs.Reading.{Outcome, Read, Refused, ReadsAtoms}
-use Rattle.latex2mathml_tex_grammar.specs.{Formulas.formula_context, Symbols.Style, Symbols.InText, Symbols.Relation, Units.Units}
+use Rattle.latex2mathml_tex_grammar.specs.Makes.{Core, core, group, classed, operator_name, accent, brace, stack, fraction, square_root, root, between_delimiters, struck, boxed_atom}
+use Rattle.latex2mathml_tex_grammar.specs.Reading.{Outcome, Read, Refused, ReadsAtoms, ReadsRule}
+use Rattle.latex2mathml_tex_grammar.specs.{Formulas.alone, Formulas.formula_context, Symbols.Style, Symbols.InText, Symbols.Relation, Units.Units, Symbols.Ordinary}
 use Rattle.latex2mathml_tex_grammar.specs.Rows.{Operand, Row, as_base, empty_row, operand_of, row_element}
 use Rattle.latex2mathml_tex_grammar.specs.Rules as rules
-use Rattle.latex2mathml_tex_grammar.specs.Rules.{Context, Rule, gives, of_one, slashed, struck_atom, takes_delimiter, WholeText, InBraces, InBrackets, InDollars, InDelimiters, InCell}
+use Rattle.latex2mathml_tex_grammar.specs.Rules.{Context, Rule, gives, of_one, rows_of_text, slashed, struck_atom, takes_delimiter, WholeText, InBraces, InBrackets, InDollars, InDelimiters, InCell}
 use Rattle.latex2mathml_tex_grammar.specs.Words.{words_atom}
 use Rattle.latex2mathml_tex.specs.{Levels.AtomMade, Levels.as_operand, Levels.as_words, Levels.CoreMade, Levels.Level, Levels.OperandMade, Levels.PartMade, Levels.RuleLeads, Levels.ScriptsLead, Levels.Then}
 use Rattle.latex2mathml_tex.specs.Levels as level
-use Rattle.latex2mathml_tex.specs.Meanings.{alphabet_of, class_of, fraction_rule_of, limit_place_of, style_of}
+use Rattle.latex2mathml_tex.specs.Meanings.{alphabet_of, box_of, class_of, fraction_rule_of, limit_place_of, style_of}
 use Rattle.latex2mathml_tex.specs.Models.{context_of, core_with, row_count, row_with, script_count, scripts_with, top, words_with}
 use Rattle.latex2mathml_tex.specs.Tables.{TableMade, table_end}
 use Rattle.latex2mathml_tex.specs.{Delimiters.delimiter_text, declared.atoms.Core.Core as CodeCore, declared.atoms.Scripts.Scripts}
+use Rattle.latex2mathml_tex.specs.declared.parse.Form.{Form}
+use Rattle.latex2mathml_tex.specs.declared.parse.Form.TheVariants as form
 use Rattle.latex2mathml_tex.specs.declared.parse.frames.{Ending.Ending, First.First, Frame.Frame, Last.Last}
 use Rattle.latex2mathml_tex.specs.declared.parse.frames.Ending.TheVariants as ending
 use Rattle.latex2mathml_tex.specs.declared.parse.frames.First.TheVariants as first
@@ -25,14 +27,20 @@ use Rattle.latex2mathml_tex.specs.declared.parse.frames.Last.TheVariants as last
 use Rattle.latex2mathml_builder.specs.declared.attributes.Side.{Side}
 use Rattle.latex2mathml_builder.specs.declared.attributes.Side.TheVariants as side
 
--- a formula: its units, and its style
+-- what units come to, read in this form
+abbrev pub ReadsAs : Form → Style → Units → Outcome Row → Type 0
+ReadsAs form.Atoms style l = ReadsAtoms WholeText (formula_context style) empty_row l
+ReadsAs form.Rows style l = λ o. (p : Outcome Core) × ReadsRule (rows_of_text (formula_context style)) l p × (o ≡ alone style p)
+
+-- a formula: its units, its style, and the form that it is read in
 pub record Start : Type 0 where
   pub units : Units
   pub style : Style
+  pub form : Form
 
 -- what the whole formula comes to
 abbrev pub Whole : Start → Outcome Row → Type 0
-Whole s = ReadsAtoms WholeText (formula_context s.style) empty_row s.units
+Whole s = ReadsAs s.form s.style s.units
 
 -- the level of the whole formula
 abbrev pub whole_level : Start → Level
@@ -83,6 +91,7 @@ made_of (last.Brace s c) xs y = brace (side_of s) c y.element
 made_of (last.OperatorName limits) xs y = operator_name (limit_place_of limits) y
 made_of last.Slash xs y = slashed y (struck y.element)
 made_of (last.Classed class style) xs y = classed (class_of class) (as_base (style_of style) (class_of class) y)
+made_of (last.Boxed b style) xs y = core (boxed_atom (box_of b) (as_base (style_of style) Ordinary y))
 made_of (last.Fraction rule own) xs y = fraction (fraction_rule_of rule) (option_map style_of own) (top xs) y.element
 made_of (last.Stack s style) xs y = stack (side_of s) y.class (top xs) (as_base (style_of style) y.class y).element
 made_of (last.StackedRelation style) xs y = stack Above Relation (top xs) (as_base (style_of style) Relation y).element

@@ -9,6 +9,7 @@ pub mod Expanded
 pub mod Frames
 pub mod Innermost
 pub mod Left
+pub mod Lengths
 pub mod Levels
 pub mod MacroTables
 pub mod Meanings

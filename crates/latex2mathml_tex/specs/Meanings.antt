@@ -17,6 +17,8 @@ use Rattle.latex2mathml_tex.specs.declared.meaning.LimitPlace.{LimitPlace}
 use Rattle.latex2mathml_tex.specs.declared.meaning.LimitPlace.TheVariants as code_limitplace
 use Rattle.latex2mathml_tex.specs.declared.meaning.Change.{Change}
 use Rattle.latex2mathml_tex.specs.declared.meaning.Change.TheVariants as code_change
+use Rattle.latex2mathml_tex.specs.declared.meaning.OperandBox.{OperandBox}
+use Rattle.latex2mathml_tex.specs.declared.meaning.OperandBox.TheVariants as code_box
 use Rattle.latex2mathml_tex.specs.declared.meaning.Meaning.{Meaning}
 use Rattle.latex2mathml_tex.specs.declared.meaning.Meaning.TheVariants as code_meaning
 use Rattle.latex2mathml_tex.specs.declared.meaning.Entry.{Entry}
@@ -72,10 +74,30 @@ change_of (code_change.ToAlphabet x) = meant.ToAlphabet (alphabet_of x)
 change_of (code_change.ToStyle x) = meant.ToStyle (style_of x)
 change_of (code_change.Divides x) = meant.Divides (fraction_rule_of x)
 
+abbrev pub box_of : OperandBox → meant.Box
+box_of code_box.Phantom = meant.Phantom
+box_of code_box.PhantomWidth = meant.PhantomWidth
+box_of code_box.PhantomHeight = meant.PhantomHeight
+box_of code_box.Smashed = meant.Smashed
+box_of code_box.WithoutHeight = meant.WithoutHeight
+box_of code_box.WithoutDepth = meant.WithoutDepth
+box_of code_box.OverRight = meant.OverRight
+box_of code_box.OverLeft = meant.OverLeft
+box_of code_box.OverBoth = meant.OverBoth
+box_of code_box.Frame = meant.Frame
+box_of code_box.StrikeUp = meant.StrikeUp
+box_of code_box.StrikeDown = meant.StrikeDown
+box_of code_box.StrikeTwice = meant.StrikeTwice
+
 abbrev pub meaning_of : Meaning → meant.Meaning
 meaning_of (code_meaning.Shows x) = meant.Shows (symbol_of x)
 meaning_of (code_meaning.FunctionName x y) = meant.FunctionName (limit_place_of x) y.now
+meaning_of code_meaning.Dots = meant.Dots
 meaning_of (code_meaning.Spacing x) = meant.Spacing x
+meaning_of code_meaning.Skip = meant.Skip
+meaning_of code_meaning.SkipInBraces = meant.SkipInBraces
+meaning_of (code_meaning.Boxed x) = meant.Boxed (box_of x)
+meaning_of code_meaning.Smash = meant.Smash
 meaning_of (code_meaning.Styled x) = meant.Styled (alphabet_of x)
 meaning_of (code_meaning.Words x) = meant.Words (option_map alphabet_of x)
 meaning_of (code_meaning.Fraction x y) = meant.Fraction (fraction_rule_of x) (option_map style_of y)

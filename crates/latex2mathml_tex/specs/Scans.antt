@@ -5,15 +5,21 @@ use Rattle.latex2mathml_tex_grammar.specs.Scanning as scanning
 use Rattle.latex2mathml_tex_grammar.specs.Scanning.{Found, Given, Missing}
 use Rattle.latex2mathml_tex_grammar.specs.Units.{Units}
 use Rattle.latex2mathml_tex.specs.{Errors.refusal_of, declared.error.TexError.TexError}
-use Rattle.latex2mathml_tex.specs.declared.scanning.{Argument.Argument, Deed.Deed, Spot.Spot}
+use Rattle.latex2mathml_tex.specs.declared.scanning.{Argument.Argument, Deed.Deed, LengthEnd.LengthEnd, Spot.Spot}
 use Rattle.latex2mathml_tex.specs.declared.scanning.Argument.TheVariants as argument
 use Rattle.latex2mathml_tex.specs.declared.scanning.Deed.TheVariants as deed
+use Rattle.latex2mathml_tex.specs.declared.scanning.LengthEnd.TheVariants as length_end
 use Rattle.latex2mathml_tex.specs.declared.scanning.Spot.TheVariants as spot
 
 abbrev pub argument_of : Argument → scanning.Argument
 argument_of argument.Name = scanning.Name
 argument_of argument.ColumnList = scanning.ColumnList
 argument_of argument.Number = scanning.Number
+
+abbrev pub length_end_of : LengthEnd → scanning.LengthEnd
+length_end_of length_end.AtBracket = scanning.AtBracket
+length_end_of length_end.AtBrace = scanning.AtBrace
+length_end_of length_end.AtUnit = scanning.AtUnit
 
 abbrev pub spot_of : Spot → scanning.Spot
 spot_of (spot.BeforeArgument a) = scanning.BeforeArgument (argument_of a)
@@ -29,11 +35,13 @@ spot_of spot.BehindPosition = scanning.BehindPosition
 spot_of spot.BeforeStar = scanning.BeforeStar
 spot_of spot.BehindStar = scanning.BehindStar
 spot_of spot.BeforeLength = scanning.BeforeLength
-spot_of spot.InLength = scanning.InLength
-spot_of spot.BehindSign = scanning.BehindSign
-spot_of spot.InNumber = scanning.InNumber
-spot_of (spot.BehindLetter c) = scanning.BehindLetter c
-spot_of spot.BehindLength = scanning.BehindLength
+spot_of spot.BeforeLengthInBraces = scanning.BeforeLengthInBraces
+spot_of (spot.InLength end) = scanning.InLength (length_end_of end)
+spot_of (spot.BehindSign end) = scanning.BehindSign (length_end_of end)
+spot_of (spot.InNumber end) = scanning.InNumber (length_end_of end)
+spot_of (spot.InDecimals end n) = scanning.InDecimals (length_end_of end) n
+spot_of (spot.BehindLetter end c) = scanning.BehindLetter (length_end_of end) c
+spot_of (spot.BehindLength end) = scanning.BehindLength (length_end_of end)
 spot_of spot.BeforeRow = scanning.BeforeRow
 
 abbrev pub deed_of : Deed → scanning.Deed

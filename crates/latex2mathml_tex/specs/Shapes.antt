@@ -1,7 +1,8 @@
 -- Changes of the uppermost elements.
-use Rattle.std.specs.Prelude.{◌≡◌, ℕ, zero, suc, List, [], ◌∷◌, Some}
+use Rattle.std.specs.Prelude.{◌≡◌, ℕ, zero, suc, List, [], ◌∷◌, Option, None, Some}
 use Rattle.std.specs.Str.{encode_utf8_all}
 use Rattle.latex2mathml_elements.specs.{Attributes.Attributes, Attributes.Stretch, Attributes.plain, Element.Element, Element.Mo, Element.token}
+use Rattle.latex2mathml_builder.specs.{Arounds.element_around, declared.around.Around.Around}
 use Rattle.latex2mathml_tex_grammar.specs.Makes
 use Rattle.latex2mathml_tex.specs.Models.{core_with}
 use Rattle.latex2mathml_tex.specs.declared.atoms.Core.{Core as CodeCore}
@@ -13,6 +14,11 @@ delimiter_element a text = token Mo a text
 -- a mark that stretches or does not
 abbrev pub mark_element : ℕ → Stretch → Element
 mark_element mark stretch = token Mo (record plain { stretch = Some stretch }) (encode_utf8_all (mark ∷ []))
+
+-- an element within another, if there is one
+abbrev pub within_any : Option Around → Element → Element
+within_any None x = x
+within_any (Some a) x = element_around a x
 
 -- the element below so many others changed
 abbrev pub changed_at : (Element → Element) → ℕ → List Element → List Element

@@ -12,11 +12,10 @@ use Rattle.latex2mathml_tex_grammar.specs.Reading.{Read, Refused, Outcome, Reads
 use Rattle.latex2mathml_tex_grammar.specs.{Refusal.Refusal, Rests.finished, Rows.Row, Starts.unended}
 use Rattle.latex2mathml_builder.specs.Columns.{columns_of}
 use Rattle.latex2mathml_tex.specs.Tables.{RowsLead, after_rows, behind_rows, delimiter_texts, cell_context, cells_of, rows_of, table_end}
-use Rattle.latex2mathml_tex_grammar.specs.Tables.{Lines, a_table}
+use Rattle.latex2mathml_tex_grammar.specs.Tables.{Lines, a_table, with_last}
 use Rattle.latex2mathml_tex_grammar.specs.Scanning.{Spot, Given, Missing, scan}
-use Rattle.std.specs.Borrow.{Bor}
 use Rattle.latex2mathml_builder.specs.declared.columns.Columns.{Columns}
-use Rattle.latex2mathml_tex.specs.declared.{environments.Environment.Environment, meaning.Style.Style}
+use Rattle.latex2mathml_tex.specs.declared.meaning.Style.{Style}
 use Rattle.latex2mathml_tex_grammar.specs.Rules.{Rule, a_number, gives, rule, takes_delimiter}
 use Rattle.latex2mathml_tex_grammar.specs.{Symbols.Alphabet, Symbols.Class, Words.Word, Words.with_word}
 use Rattle.latex2mathml_tex_grammar.specs.Starts as starts
@@ -29,11 +28,11 @@ use Rattle.latex2mathml_tex.specs.Levels.{AtomMade, CoreMade, Leads, Level, Oper
 use Rattle.latex2mathml_tex.specs.Meanings.{alphabet_of, limit_place_of, style_of}
 use Rattle.latex2mathml_tex.specs.Models.{context_of, core_with, operand_with, row_count, row_with, script_count, scripts_with, top, words_with}
 use Rattle.latex2mathml_tex.specs.Numbers.{after_point}
-use Rattle.latex2mathml_tex.specs.declared.{atoms.Context.Context, atoms.Core.Core as CodeCore, atoms.Operand.Operand as CodeOperand, atoms.Row.Row as CodeRow, atoms.Scripts.Scripts as CodeScripts, atoms.Words.Words as CodeWords, meaning.Alphabet.Alphabet as CodeAlphabet, meaning.Style.Style as CodeStyle, parse.Parser.Parser, parse.State.State, parse.scripts.Mark.Mark, unit.Unit.Unit}
+use Rattle.latex2mathml_tex.specs.declared.{atoms.Context.Context, atoms.Core.Core as CodeCore, atoms.Operand.Operand as CodeOperand, atoms.Row.Row as CodeRow, atoms.Scripts.Scripts as CodeScripts, atoms.Words.Words as CodeWords, meaning.Alphabet.Alphabet as CodeAlphabet, meaning.Style.Style as CodeStyle, parse.Form.Form, parse.Parser.Parser, parse.State.State, parse.scripts.Mark.Mark, unit.Unit.Unit}
 use Rattle.latex2mathml_tex.specs.declared.parse.scripts.Mark.TheVariants as mark
 use Rattle.latex2mathml_builder.specs.declared.attributes.Side.TheVariants as side
 use Rattle.latex2mathml_tex.specs.declared.parse.State.TheVariants as state
-use Rattle.latex2mathml_tex.specs.declared.parse.frames.{Ending.Ending, First.First, Frame.Frame, Table.Table}
+use Rattle.latex2mathml_tex.specs.declared.parse.frames.{Ending.Ending, First.First, Frame.Frame, Table.Table, TableKind.TableKind}
 use Rattle.latex2mathml_tex.specs.declared.parse.frames.Ending.TheVariants as ending
 use Rattle.latex2mathml_tex.specs.declared.parse.frames.Frame.TheVariants as frame
 
@@ -86,6 +85,10 @@ pub record Holds (s : Start) (p : Parser) (st : State) : Type 0 where
 
 abbrev pub HoldsIn : State → Start → Parser → Type 0
 HoldsIn st s p = Holds s p st
+
+-- the formula that a parser is to read in this form
+abbrev pub start_of : Form → Parser → Start
+start_of form p = record { units = left_of p; style = style_of p.style; form = form }
 
 -- What is so of the parser before a step leads to what its result claims.
 abbrev pub LeadsOn : (Start → Parser → Type 0) → Parser → Parser → Result State AllocError → Type 0
@@ -311,8 +314,14 @@ pub record GoesOnTable (t : Table) (place : ℕ) (s : Start) (p : Parser) : Type
       → ReadsRows (table_end t) place (columns_of t.columns) (cell_context t (context_at (level (t.cells + t.rows) s p))) (rows_of t (elements_of p)) (cells_of t (elements_of p)) (left_of p) o
       → RowsLead (behind_rows t (context_at (level (t.cells + t.rows) s p))) (CoreMade (level (t.cells + t.rows) s p)) o
 
+-- A table ends at this place, behind its last cell, whose elements are so many of the uppermost.
+pub record EndsCells (t : Table) (count at : ℕ) (s : Start) (p : Parser) : Type 0 where
+  pub style : s.style ≡ style_of p.style
+  pub leads : RuleLeads (behind_rows t (context_at (level (count + (t.cells + t.rows)) s p)) (with_last (rows_of t (drop count (elements_of p))) (cells_of t (drop count (elements_of p))) (take count (elements_of p))) at)
+      (CoreMade (level (count + (t.cells + t.rows)) s p)) (left_of p)
+
 -- The end of a table was taken at this place. Its rows are so many of the uppermost elements.
-pub record EndsRows (e : Option (Bor Environment)) (columns : Columns) (rows at : ℕ) (s : Start) (p : Parser) : Type 0 where
+pub record EndsRows (e : TableKind) (columns : Columns) (rows at : ℕ) (s : Start) (p : Parser) : Type 0 where
   pub style : s.style ≡ style_of p.style
   pub lines : Lines
   pub are : take rows (elements_of p) ≡ lines.last ∷ lines.others
@@ -349,16 +358,26 @@ pub record EndsFormula (style : CodeStyle) (xs : CodeRow) (s : Start) (p : Parse
   pub at : ℕ
   pub leads : Whole s (Read (finished (style_of style) (row_with xs (elements_of p))) (End at))
 
--- The text ends in a row, which was read so far in this style.
-pub record EndsText (e : Ending) (place : ℕ) (style : CodeStyle) (xs : CodeRow) (s : Start) (p : Parser) : Type 0 where
+-- The row ends with the text, at this place, as it was read so far in this style.
+pub record EndsWithText (e : Ending) (place : ℕ) (style : CodeStyle) (xs : CodeRow) (at : ℕ) (s : Start) (p : Parser) : Type 0 where
   pub same_style : s.style ≡ style_of p.style
-  pub at : ℕ
-  pub ends : unended (ending_of e place) ≡ None → Whole s (Read (finished (style_of style) (row_with xs (elements_of p))) (End at))
+  pub left : left_of p ≡ End at
+  pub leads : RowMade s e place (drop (row_count xs) (elements_of p)) (level (row_count xs + ending_count e) s p)
+      (Read (finished (style_of style) (row_with xs (elements_of p))) (End at))
+
+-- The text ends at this place in a row, which was read so far in this style. Its frame is taken off.
+pub record EndsText (e : Ending) (place : ℕ) (style : CodeStyle) (xs : CodeRow) (at : ℕ) (s : Start) (p : Parser) : Type 0 where
+  pub same_style : s.style ≡ style_of p.style
+  pub ends : unended (ending_of e place) ≡ None → EndsWithText e place style xs at s p
   pub refuses : (r : Refusal) → unended (ending_of e place) ≡ Some r → Whole s (Refused r)
 
 -- how much a frame still brings; the row of the whole text may be begun where nothing is read
+abbrev pub ending_weight : Ending → ℕ
+ending_weight ending.Text = 0
+ending_weight e = 4
+
 abbrev pub frame_weight : Frame → ℕ
-frame_weight (frame.Row ending.Text place c row) = 0
+frame_weight (frame.Row e place c row) = ending_weight e
 frame_weight (frame.First one place c) = 8
 frame_weight f = 4
 

@@ -1,6 +1,6 @@
 -- The tables of the code, as the definitions have them.
-use Rattle.std.specs.Prelude.{◌≡◌, ℕ, List, [], ◌∷◌, drop, option_map, Option, Some, None, take}
-use Rattle.std.specs.{Borrow.Bor, Str.bytes_eq}
+use Rattle.std.specs.Prelude.{◌≡◌, ℕ, List, [], ◌∷◌, drop, option_map, Option, None, take}
+use Rattle.std.specs.Str.{bytes_eq}
 use Rattle.latex2mathml_elements.specs.Columns.{Centered, LeftAligned, RightAligned, Dense, Columns as DefinedColumns, Alike, InPairs, Listed}
 use Rattle.latex2mathml_builder.specs.Columns.{columns_of}
 use Rattle.latex2mathml_tex_grammar.specs.{Next.past_space, Reading.ReadsBehindCell, Rows.Row, Tables.Lines, Tables.a_table}
@@ -8,15 +8,16 @@ use Rattle.latex2mathml_tex_grammar.specs.Environments as environments
 use Rattle.latex2mathml_tex_grammar.specs.Makes.{Core}
 use Rattle.latex2mathml_tex_grammar.specs.Reading.{Outcome, Read, Refused}
 use Rattle.latex2mathml_elements.specs.Element.{Element}
-use Rattle.latex2mathml_tex_grammar.specs.Rules.{Context, TableEnd, ByName, ByBrace, Rule, gives, styled, takes_found, ended_table}
+use Rattle.latex2mathml_tex_grammar.specs.Rules.{Context, TableEnd, ByName, ByBrace, ByText, Rule, gives, styled, takes_found, ended_table}
 use Rattle.latex2mathml_tex_grammar.specs.Scanning.{BeforeArgument, Name}
 use Rattle.latex2mathml_tex_grammar.specs.Starts as starts
 use Rattle.latex2mathml_tex_grammar.specs.Symbols as symbols
-use Rattle.latex2mathml_tex_grammar.specs.Units.{Unit, Units, Next}
+use Rattle.latex2mathml_tex_grammar.specs.Units.{Unit, Units, Next, End}
 use Rattle.latex2mathml_tex.specs.{Delimiters.delimiter_text, Levels.RuleLeads, Meanings.style_of, Scans.argument_of}
 use Rattle.latex2mathml_tex.specs.declared.environments.{Environment.Environment, Layout.Layout}
 use Rattle.latex2mathml_tex.specs.declared.environments.Layout.TheVariants as layout
-use Rattle.latex2mathml_tex.specs.declared.parse.frames.Table.{Table}
+use Rattle.latex2mathml_tex.specs.declared.parse.frames.{Table.Table, TableKind.TableKind}
+use Rattle.latex2mathml_tex.specs.declared.parse.frames.TableKind.TheVariants as kind
 use Rattle.latex2mathml_tex.specs.declared.parse.tables.CellEnd.{CellEnd}
 use Rattle.latex2mathml_tex.specs.declared.parse.tables.CellEnd.TheVariants as cell_end
 
@@ -48,33 +49,41 @@ cell_end_of cell_end.EndsRow = starts.EndsRow
 cell_end_of cell_end.EndsTable = starts.EndsTable
 
 -- how a table ends
-abbrev pub end_of : Option (Bor Environment) → TableEnd
-end_of None = ByBrace
-end_of (Some e) = ByName
+abbrev pub end_of : TableKind → TableEnd
+end_of (kind.Environment e) = ByName
+end_of kind.Braces = ByBrace
+end_of kind.Text = ByText
 
 abbrev pub table_end : Table → TableEnd
-table_end t = end_of t.environment
+table_end t = end_of t.kind
 
 -- the style of its cells
-abbrev pub style_in : Option (Bor Environment) → symbols.Style
-style_in None = symbols.InScript
-style_in (Some e) = style_of e.now.style
+abbrev pub style_in : TableKind → symbols.Style
+style_in (kind.Environment e) = style_of e.now.style
+style_in kind.Braces = symbols.InScript
+style_in kind.Text = symbols.InDisplay
 
 abbrev pub cell_context : Table → Context → Context
-cell_context t around = styled around (style_in t.environment)
+cell_context t around = styled around (style_in t.kind)
 
 -- what follows its rows, where it stands in this context
-abbrev pub after_rows : Option (Bor Environment) → DefinedColumns → Context → Lines → ℕ → Rule
-after_rows None columns around lines at = gives (a_table None columns symbols.InScript around.style lines)
-after_rows (Some e) columns around lines at =
+abbrev pub after_rows : TableKind → DefinedColumns → Context → Lines → ℕ → Rule
+after_rows kind.Braces columns around lines at = gives (a_table None columns symbols.InScript around.style lines)
+after_rows kind.Text columns around lines at = gives (a_table None columns symbols.InDisplay around.style lines)
+after_rows (kind.Environment e) columns around lines at =
     takes_found (BeforeArgument Name) at (λ other. ended_table at around (environment_of e.now) columns lines (bytes_eq other e.now.name.now))
 
 abbrev pub behind_rows : Table → Context → Lines → ℕ → Rule
-behind_rows t around = after_rows t.environment (columns_of t.columns) around
+behind_rows t around = after_rows t.kind (columns_of t.columns) around
+
+-- where rows lead, to what follows them: what ends them stands next, a unit or the end of the text
+pub record LinesLead (then : Lines → ℕ → Rule) (K : Outcome Core → Type 0) (lines : Lines) (m : Units) : Type 0 where
+  pub at_unit : (u : Unit) (n : Units) → past_space m ≡ Next u n → RuleLeads (then lines u.place) K n
+  pub at_end : (at : ℕ) → past_space m ≡ End at → RuleLeads (then lines at) K (End at)
 
 -- where the outcome of rows leads
 abbrev pub RowsLead : (Lines → ℕ → Rule) → (Outcome Core → Type 0) → Outcome Lines → Type 0
-RowsLead then K (Read lines m) = (u : Unit) (n : Units) → past_space m ≡ Next u n → RuleLeads (then lines u.place) K n
+RowsLead then K (Read lines m) = LinesLead then K lines m
 RowsLead then K (Refused r) = K (Refused r)
 
 -- .. of a cell, behind these rows and these cells

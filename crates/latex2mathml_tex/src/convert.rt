@@ -4,18 +4,18 @@ ghost use Rattle.std.specs.Str.{chars};
 ghost use Rattle.latex2mathml_elements.specs.{Characters.IsAllowed, Dollars.IsDollarFree, Element.children, Print.formula_print, Print.math_tag};
 ghost use Rattle.latex2mathml_builder.specs.Built.{elements_in, nothing};
 ghost use Rattle.latex2mathml_trees.specs.MathSchema.{IsMathElement};
-ghost use Rattle.latex2mathml_tex.specs.{Answers.IsAnswer, Answers.IsRefusal, Answers.style_in, Errors.IfRefused, MacroTables.AreDefined, MacroTables.Holding};
-ghost use Rattle.latex2mathml_tex.specs.{Left.units_at, Meanings.style_of, Steps.left_of, Whole.whole_units};
-ghost use Rattle.latex2mathml_tex_grammar.specs.Formulas as formula;
-ghost use Rattle.latex2mathml_tex_grammar.specs.{Formulas.IsExpansion, Formulas.row_print, Macros.Table, Makes.is_display, Rows.Row};
+ghost use Rattle.latex2mathml_tex.specs.{Answers.IsAnswer, Answers.IsRefusal, Answers.style_in, Errors.IfRefused, Errors.is_outside_error, MacroTables.AreDefined, MacroTables.Holding};
+ghost use Rattle.latex2mathml_tex.specs.{Frames.ReadsAs, Left.units_at, Meanings.style_of, Steps.left_of, Whole.whole_units};
+ghost use Rattle.latex2mathml_tex_grammar.specs.{Formulas.ReadsFormula, Formulas.row_print, Makes.is_display, Rows.Row};
+ghost use Rattle.latex2mathml_tex_grammar.specs.{Reading.Read, Reading.Refused, Units.End};
 
-use crate::error::TexError;
+use crate::error::{TexError, TexErrorKind};
 use crate::macros::expander::Expander;
 use crate::macros::table::Macros;
 use crate::macros::whole::Whole;
 use crate::meaning::Style;
-use crate::parse::Parser;
 use crate::parse::frames::Frames;
+use crate::parse::{Form, Parser};
 use crate::unit::Unit;
 use latex2mathml_builder::builder::Builder;
 use latex2mathml_builder::works::Works;
@@ -29,6 +29,8 @@ use std::mem;
 /// to its end. First the macros of a formula are expanded, from left to right, and then what they expand to is read.
 ///
 /// White space between the parts of a formula changes nothing, except in words such as those of `\text`.
+///
+/// A formula with `&` or `\\` outside of all tables is read as if it stood in `aligned`.
 ///
 /// # Errors
 ///
@@ -110,22 +112,45 @@ impl<'a> Converter<'a> {
         result
     }
 
-    /// Appends the markup of a formula that expands to these units.
+    /// Appends the markup of a formula that expands to these units. Where `&` or `\\` stands outside of all tables, it is read
+    /// once more, as rows.
     fn append_units(
         &mut self,
         text: &mut String,
         whole: &Whole,
         style: Style,
     ) -> Result<(), TexError>
-        ensures answer { (macros : Table) (tex : List ℕ) → IsExpansion macros tex (whole_units whole.now)
-            → OnOk result ((row : Row) × formula.IsReading macros tex (style_of style) row
-            × (string_bytes text.new ≡ string_bytes text.old ++ row_print (style_of style) row)) }
-        ensures refusal { (macros : Table) (tex : List ℕ) → IsExpansion macros tex (whole_units whole.now)
-            → IfRefused result (formula.IsRefusal macros tex (style_of style)) }
+        ensures answer { OnOk result ((row : Row) × ((at : ℕ)
+            × ReadsFormula (style_of style) (whole_units whole.now) (Read row (End at))
+            × (string_bytes text.new ≡ string_bytes text.old ++ row_print (style_of style) row))) }
+        ensures refusal { IfRefused result (λ r.
+            ReadsFormula (style_of style) (whole_units whole.now) (Refused r)) }
+        ensures unchanged { IfRefused result (λ r. string_bytes text.new ≡ string_bytes text.old) }
+    {
+        let result = self.append_as(Form::Atoms, text, whole, style);
+        if is_outside_table(&result) {
+            return self.append_as(Form::Rows, text, whole, style);
+        }
+        result
+    }
+
+    /// Appends the markup of a formula that expands to these units and is read in this form.
+    fn append_as(
+        &mut self,
+        form: Form,
+        text: &mut String,
+        whole: &Whole,
+        style: Style,
+    ) -> Result<(), TexError>
+        ensures answer { OnOk result ((row : Row) × ((at : ℕ)
+            × ReadsAs form (style_of style) (whole_units whole.now) (Read row (End at))
+            × (string_bytes text.new ≡ string_bytes text.old ++ row_print (style_of style) row))) }
+        ensures refusal { IfRefused result (λ r.
+            ReadsAs form (style_of style) (whole_units whole.now) (Refused r)) }
         ensures unchanged { IfRefused result (λ r. string_bytes text.new ≡ string_bytes text.old) }
     {
         let mut parser = self.parser(whole, style);
-        let result = render(&mut parser, &mut self.works, text);
+        let result = render(&mut parser, form, &mut self.works, text);
         self.frames = mem::replace(&mut parser.frames, Frames::new(self.alloc));
         self.builder = mem::replace(&mut parser.builder, Builder::new(self.alloc));
         result
@@ -146,17 +171,35 @@ impl<'a> Converter<'a> {
     }
 }
 
-/// Appends the markup of the formula that a parser is to read.
-fn render(parser: &mut Parser, works: &mut Works, text: &mut String) -> Result<(), TexError>
+/// Whether a formula is refused because of `&` or `\\`.
+fn is_outside_table(answer: &Result<(), TexError>) -> bool
+    ensures { result ≡ is_outside_error answer.now }
+{
+    matches!(
+        answer,
+        Err(TexError {
+            kind: TexErrorKind::OutsideTable,
+            ..
+        })
+    )
+}
+
+/// Appends the markup of the formula that a parser is to read in this form.
+fn render(
+    parser: &mut Parser,
+    form: Form,
+    works: &mut Works,
+    text: &mut String,
+) -> Result<(), TexError>
     requires { parser.old.frames.stack.items ≡ [] }
-    ensures answer { (macros : Table) (tex : List ℕ) → IsExpansion macros tex (left_of parser.old)
-        → OnOk result ((row : Row) × formula.IsReading macros tex (style_of parser.old.style) row
-        × (string_bytes text.new ≡ string_bytes text.old ++ row_print (style_of parser.old.style) row)) }
-    ensures refusal { (macros : Table) (tex : List ℕ) → IsExpansion macros tex (left_of parser.old)
-        → IfRefused result (formula.IsRefusal macros tex (style_of parser.old.style)) }
+    ensures answer { OnOk result ((row : Row) × ((at : ℕ)
+        × ReadsAs form (style_of parser.old.style) (left_of parser.old) (Read row (End at))
+        × (string_bytes text.new ≡ string_bytes text.old ++ row_print (style_of parser.old.style) row))) }
+    ensures refusal { IfRefused result (λ r.
+        ReadsAs form (style_of parser.old.style) (left_of parser.old) (Refused r)) }
     ensures unchanged { IfRefused result (λ r. string_bytes text.new ≡ string_bytes text.old) }
 {
-    let Some(count) = parser.finish()? else {
+    let Some(count) = parser.finish(form)? else {
         return Err(parser.refusal());
     };
     write_math(&parser.builder, count, parser.style, works, text)?;

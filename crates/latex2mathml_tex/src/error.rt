@@ -1,6 +1,7 @@
 //! Why a formula is refused.
 ghost use Rattle.std.specs.Prelude.{◌≡◌, Some};
-ghost use Rattle.latex2mathml_tex.specs.ErrorTexts.{error_text, has_place, kind_text};
+ghost use Rattle.std.specs.Option.{is_some};
+ghost use Rattle.latex2mathml_tex.specs.ErrorTexts.{error_kind_text, error_text};
 ghost use Rattle.latex2mathml_tex.specs.{Errors.kind_of_error, Errors.out_of_memory, Taking.kind_of};
 
 use crate::unit::Fault;
@@ -35,6 +36,10 @@ pub enum TexErrorKind {
     LimitsWithoutOperator,
     SecondSubscript,
     SecondSuperscript,
+    /// No length stands behind a command that takes one.
+    MissingLength,
+    /// A length of more than 16384 points.
+    LengthTooLarge,
     /// A command for the rest of its group that stands where an argument is to stand.
     ChangeAsArgument,
     /// A second `\over` or the like in one group.
@@ -93,7 +98,7 @@ pub struct TexError {
 
 /// Prints the kind in words, such as `unknown command \foo`.
 impl fmt::Display for TexErrorKind {
-    ghost output = { λ kind. Some (kind_text kind) };
+    ghost output = { λ kind. Some (error_kind_text kind) };
 
     fn fmt<W: fmt::Write>(&self, f: &mut fmt::Formatter<W>) -> fmt::Result {
         match self {
@@ -115,6 +120,8 @@ impl fmt::Display for TexErrorKind {
             TexErrorKind::LimitsWithoutOperator => f.write_str("limits without an operator"),
             TexErrorKind::SecondSubscript => f.write_str("a second subscript"),
             TexErrorKind::SecondSuperscript => f.write_str("a second superscript"),
+            TexErrorKind::MissingLength => f.write_str("a length is missing"),
+            TexErrorKind::LengthTooLarge => f.write_str("a length of more than 16384 points"),
             TexErrorKind::ChangeAsArgument => f.write_str(
                 "a command for the rest of a group is no argument",
             ),
@@ -182,7 +189,7 @@ impl TexErrorKind {
 
     /// Whether errors of this kind are about a place of the text.
     fn has_place(&self) -> bool
-        ensures { result ≡ has_place self.now }
+        ensures { result ≡ is_some (kind_of_error self.now) }
     {
         !matches!(self, TexErrorKind::OutOfMemory)
     }

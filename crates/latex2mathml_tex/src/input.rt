@@ -1,13 +1,14 @@
 //! The units that are left, of which the next one is in sight.
 ghost use Rattle.std.specs.Prelude.{◌≡◌, ◌∷◌, [], false, IsTrue, MatchBool, MatchOption, None, Some};
 ghost use Rattle.latex2mathml_tex_grammar.specs.Delimiters.{delimiter_of, negated_of};
-ghost use Rattle.latex2mathml_tex_grammar.specs.Next.{next_are, past_space};
-ghost use Rattle.latex2mathml_tex_grammar.specs.Rules.{a_character, a_digit};
+ghost use Rattle.latex2mathml_tex_grammar.specs.{Dots.centers_dots, Next.follows, Next.next_are, Next.past_space};
+ghost use Rattle.latex2mathml_tex_grammar.specs.Rules.{a_character, a_digit, in_brackets};
 ghost use Rattle.latex2mathml_tex.specs.{Left.end_of, Left.put_back, Left.units_at, Left.units_behind, Whole.whole_units};
 ghost use Rattle.latex2mathml_tex_grammar.specs.Units as units;
 ghost use Rattle.latex2mathml_tex.specs.Delimiters.{delimiter_text};
 
 use crate::delimiters::{delimiter_of, negated_of};
+use crate::dots::centers_dots;
 use crate::macros::whole::{End, Whole};
 use crate::unit::{Next, Piece, Unit};
 
@@ -84,6 +85,18 @@ impl<'a> Input<'a> {
         }
     }
 
+    /// Whether dots before what stands next stand in the middle of the line.
+    pub(crate) fn centers_dots(&self) -> bool
+        ensures { result ≡ follows centers_dots (units_at self.now) }
+    {
+        let mut ahead = *self;
+        ahead.skip_space();
+        match ahead.next {
+            Next::Unit(unit) => centers_dots(unit.piece),
+            Next::End(_) | Next::Fault(_, _) => false,
+        }
+    }
+
     /// Takes the delimiter that stands next, if one does. Otherwise nothing is passed over.
     pub(crate) fn take_delimiter(&mut self) -> Option<Option<char>>
         ensures { MatchOption result
@@ -152,6 +165,20 @@ impl<'a> Input<'a> {
             && c == d
         {
             ahead.advance();
+            *self = ahead;
+            return true;
+        }
+        false
+    }
+
+    /// Takes this ASCII character in brackets, if it stands next.
+    pub(crate) fn take_in_brackets(&mut self, c: char) -> bool
+        ensures { MatchBool result
+            (next_are (in_brackets c) (units_at self.old) ≡ Some (91 ∷ c ∷ 93 ∷ [], units_at self.new))
+            ((next_are (in_brackets c) (units_at self.old) ≡ None) × (units_at self.new ≡ units_at self.old)) }
+    {
+        let mut ahead = *self;
+        if ahead.take_character('[') && ahead.take_character(c) && ahead.take_character(']') {
             *self = ahead;
             return true;
         }

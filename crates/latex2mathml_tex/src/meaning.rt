@@ -84,6 +84,35 @@ pub(crate) enum Change {
     Divides(FractionRule),
 }
 
+/// What is made of the box of an operand.
+#[derive(Clone, Copy)]
+pub(crate) enum OperandBox {
+    /// It is not seen.
+    Phantom,
+    /// Nor has its box a height or a depth.
+    PhantomWidth,
+    /// Nor has its box a width.
+    PhantomHeight,
+    /// It has no height and no depth.
+    Smashed,
+    WithoutHeight,
+    WithoutDepth,
+    /// It has no width, and reaches over what stands to the right of it.
+    OverRight,
+    /// To the left of it.
+    OverLeft,
+    /// On both sides of it.
+    OverBoth,
+    /// A line stands around it.
+    Frame,
+    /// A line goes through it, from its lower left.
+    StrikeUp,
+    /// From its upper left.
+    StrikeDown,
+    /// Both.
+    StrikeTwice,
+}
+
 /// What a command means.
 #[derive(Clone, Copy)]
 pub(crate) enum Meaning {
@@ -91,8 +120,18 @@ pub(crate) enum Meaning {
     Shows(Symbol),
     /// The name of a function.
     FunctionName(LimitPlace, &'static str),
+    /// Dots, in the middle of the line before an operator or a relation, otherwise on the line.
+    Dots,
     /// A space, in eighteenths of an em.
     Spacing(i8),
+    /// A space as wide as the length that stands next.
+    Skip,
+    /// A space as wide as the length that stands next in braces.
+    SkipInBraces,
+    /// Its operand in a box.
+    Boxed(OperandBox),
+    /// Its operand in a box without height or depth.
+    Smash,
     /// Its operand in an alphabet.
     Styled(Alphabet),
     /// Words, which may have an alphabet.

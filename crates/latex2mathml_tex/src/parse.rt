@@ -4,9 +4,10 @@ ghost use Rattle.std.specs.Prelude.{◌≡◌, ◌≢◌, ◌+◌, ℕ, [], IfOk
 ghost use Rattle.latex2mathml_tex_grammar.specs.{Next.past_space, Next.refusal_here};
 ghost use Rattle.latex2mathml_tex_grammar.specs.Refusal.{MissingDelimiter, refusal_at};
 ghost use Rattle.latex2mathml_tex.specs.{Errors.refusal_of, Frames.Start, Frames.element_count, Left.units_at, Levels.Leads, Meanings.style_of, Taking.kind_of, Whole.whole_units};
-ghost use Rattle.latex2mathml_tex.specs.Steps.{CanMake, Holds, HoldsIn, IsStep, LeadsOn, Ready, accepts, core_made, frame_weight, last_state, left_of, level_within, makes, state_weight};
+ghost use Rattle.latex2mathml_tex.specs.Steps.{CanMake, Holds, HoldsIn, IsStep, LeadsOn, Ready, accepts, core_made, frame_weight, last_state, left_of, level_within, makes, start_of, state_weight};
 
 mod begin;
+mod boxes;
 mod deliver;
 pub(crate) mod frames;
 mod leaves;
@@ -48,6 +49,15 @@ pub(crate) enum State {
     Refused,
 }
 
+/// As what a formula is read.
+#[derive(Clone, Copy)]
+pub(crate) enum Form {
+    /// Atoms side by side.
+    Atoms,
+    /// Rows, as those of `aligned`.
+    Rows,
+}
+
 /// Reads a formula.
 #[derive(Drop)]
 pub(crate) struct Parser<'a> {
@@ -85,14 +95,17 @@ impl<'a> Parser<'a> {
         }
     }
 
-    /// Goes on until the formula is read or refused. Returns how many elements it has, if it is read.
-    pub(crate) fn finish(&mut self) -> Result<Option<usize>, AllocError>
+    /// Reads the formula, until it is read or refused. Returns how many elements it has, if it is read.
+    pub(crate) fn finish(&mut self, form: Form) -> Result<Option<usize>, AllocError>
         requires { self.old.frames.stack.items ≡ [] }
-        ensures holds { (s : Start) → Holds s self.old State.Next
-            → IfOk result (λ read. Holds s self.new (last_state read)) }
+        ensures holds { IfOk result (λ read.
+            Holds (start_of form self.old) self.new (last_state read)) }
         ensures ready { IfOk result (λ read. Ready self.new (last_state read)) }
     {
-        let mut state = State::Next;
+        let mut state = match form {
+            Form::Atoms => State::Next,
+            Form::Rows => self.begin_text()?,
+        };
         'steps: loop {
             match state {
                 State::End(count) => return Ok(Some(count)),

@@ -1,20 +1,18 @@
-//! What is taken unit by unit: the name of an environment, its columns, a length. Each unit has a spot, which says what the
-//! unit does there. White space is nothing.
-ghost use Rattle.std.specs.Prelude.{◌≡◌, ℕ, [], IfOk, OnOk, Some, string_bytes};
+//! What each unit does where the name of an environment, its columns or a length is taken unit by unit. A spot says where it
+//! stands. White space is nothing.
+ghost use Rattle.std.specs.Prelude.{◌≡◌, ℕ, [], Some};
 ghost use Rattle.latex2mathml_tex_grammar.specs.Refusal.{refusal_at};
 ghost use Rattle.latex2mathml_tex_grammar.specs.Commands.{meaning_of};
 ghost use Rattle.latex2mathml_tex_grammar.specs.Scanning;
-ghost use Rattle.latex2mathml_tex_grammar.specs.Scanning.{past, past_break, scan};
+ghost use Rattle.latex2mathml_tex_grammar.specs.Scanning.{scan};
 ghost use Rattle.latex2mathml_tex_grammar.specs.Units.{End, Stop};
-ghost use Rattle.latex2mathml_tex.specs.{Errors.kind_of_error, Left.units_at, Taking.kind_of, Taking.piece_of};
-ghost use Rattle.latex2mathml_tex.specs.Scans.{IsFound, argument_of, behind_text, deed_of, spot_of};
+ghost use Rattle.latex2mathml_tex.specs.{Errors.kind_of_error, Taking.kind_of, Taking.piece_of};
+ghost use Rattle.latex2mathml_tex.specs.Scans.{IsFound, argument_of, deed_of, length_end_of, spot_of};
 
 use crate::commands;
 use crate::error::{TexError, TexErrorKind};
-use crate::input::Input;
 use crate::meaning::Meaning;
-use crate::unit::{Fault, Next, Piece};
-use std::alloc::{AllocError, Global};
+use crate::unit::{Fault, Piece};
 
 /// What stands in braces behind `\begin` and its like.
 #[derive(Clone, Copy)]
@@ -25,6 +23,15 @@ pub(crate) enum Argument {
     ColumnList,
     /// A number, which means nothing here.
     Number,
+}
+
+/// What ends a length.
+#[derive(Clone, Copy)]
+pub(crate) enum LengthEnd {
+    AtBracket,
+    AtBrace,
+    /// Its unit.
+    AtUnit,
 }
 
 /// Where a unit stands.
@@ -47,21 +54,24 @@ pub(crate) enum Spot {
     /// Behind the sign that ends a row.
     BeforeStar,
     BehindStar,
-    /// A length in brackets.
+    /// Before a length in brackets, or in braces.
     BeforeLength,
-    InLength,
-    BehindSign,
-    InNumber,
+    BeforeLengthInBraces,
+    InLength(LengthEnd),
+    BehindSign(LengthEnd),
+    InNumber(LengthEnd),
+    /// Behind so many decimals.
+    InDecimals(LengthEnd, u8),
     /// Behind the first letter of a unit of length.
-    BehindLetter(char),
-    BehindLength,
+    BehindLetter(LengthEnd, char),
+    BehindLength(LengthEnd),
     /// Before a row, where lines may be drawn.
     BeforeRow,
 }
 
 /// What a unit does.
 #[derive(Clone, Copy)]
-enum Deed {
+pub(crate) enum Deed {
     /// It is nothing, and the next unit stands there.
     Passes(Spot),
     /// It adds this character, and the next unit stands there.
@@ -158,12 +168,6 @@ fn brace_deed(opened: Deed, otherwise: Deed, piece: Piece) -> Deed
     }
 }
 
-fn is_in_number(c: char) -> bool
-    ensures { result ≡ Scanning.is_in_number c }
-{
-    c.is_ascii_digit() || c == '.'
-}
-
 fn is_unit_of_length(c: char, d: char) -> bool
     ensures { result ≡ Scanning.is_unit_of_length c d }
 {
@@ -183,6 +187,109 @@ fn begins_unit_of_length(c: char) -> bool
     c == 'b' || c == 'c' || c == 'd' || c == 'e' || c == 'i' || c == 'm' || c == 'p' || c == 's'
 }
 
+fn adds_if(test: bool, c: char, spot: Spot) -> Deed
+    ensures { deed_of result ≡ Scanning.adds_if test c (spot_of spot) }
+{
+    if test {
+        Deed::Adds(c, spot)
+    } else {
+        Deed::Misses
+    }
+}
+
+fn number_deed(end: LengthEnd, c: char) -> Deed
+    ensures { deed_of result ≡ Scanning.number_deed (length_end_of end) c }
+{
+    if c.is_ascii_digit() {
+        return Deed::Adds(c, Spot::InNumber(end));
+    }
+    adds_if(c == '.', c, Spot::InDecimals(end, 0))
+}
+
+fn sign_deed(end: LengthEnd, c: char) -> Deed
+    ensures { deed_of result ≡ Scanning.sign_deed (length_end_of end) c }
+{
+    if c == '-' {
+        return Deed::Adds(c, Spot::BehindSign(end));
+    }
+    if c == '+' {
+        return Deed::Passes(Spot::BehindSign(end));
+    }
+    number_deed(end, c)
+}
+
+fn unit_deed(end: LengthEnd, c: char) -> Deed
+    ensures { deed_of result ≡ Scanning.unit_deed (length_end_of end) c }
+{
+    adds_if(begins_unit_of_length(c), c, Spot::BehindLetter(end, c))
+}
+
+fn digit_or_unit_deed(end: LengthEnd, c: char) -> Deed
+    ensures { deed_of result ≡ Scanning.length_deed (Scanning.InNumber (length_end_of end)) c }
+{
+    if c.is_ascii_digit() {
+        return Deed::Adds(c, Spot::InNumber(end));
+    }
+    if c == '.' {
+        return Deed::Adds(c, Spot::InDecimals(end, 0));
+    }
+    unit_deed(end, c)
+}
+
+/// Behind so many decimals. More than five make no difference.
+fn decimal_deed(end: LengthEnd, count: u8, c: char) -> Deed
+    ensures { deed_of result ≡ Scanning.decimal_deed (length_end_of end) count c }
+{
+    if !c.is_ascii_digit() {
+        return unit_deed(end, c);
+    }
+    if count < 5 {
+        return Deed::Adds(c, Spot::InDecimals(end, count + 1));
+    }
+    Deed::Passes(Spot::InDecimals(end, count))
+}
+
+fn length_deed(spot: Spot, c: char) -> Deed
+    ensures { deed_of result ≡ Scanning.length_deed (spot_of spot) c }
+{
+    match spot {
+        Spot::InLength(end) => sign_deed(end, c),
+        Spot::BehindSign(end) => number_deed(end, c),
+        Spot::InNumber(end) => digit_or_unit_deed(end, c),
+        Spot::InDecimals(end, count) => decimal_deed(end, count, c),
+        Spot::BehindLetter(end, first) => {
+            adds_if(is_unit_of_length(first, c), c, Spot::BehindLength(end))
+        }
+        _ => Deed::Misses,
+    }
+}
+
+fn in_length(spot: Spot, piece: Piece) -> Deed
+    ensures { deed_of result ≡ Scanning.in_length (spot_of spot) (piece_of piece.entry) }
+{
+    match piece {
+        Piece::Character(c) => length_deed(spot, c),
+        _ => Deed::Misses,
+    }
+}
+
+/// What a unit does behind a length.
+fn ending_deed(end: LengthEnd, piece: Piece) -> Deed
+    ensures { deed_of result ≡ Scanning.ending_deed (length_end_of end) (piece_of piece.entry) }
+{
+    match end {
+        LengthEnd::AtBracket => match piece {
+            Piece::Character(c) => ends_if(c == ']'),
+            _ => Deed::Misses,
+        },
+        LengthEnd::AtBrace => match piece {
+            Piece::Close => Deed::Ends,
+            _ => Deed::Misses,
+        },
+        LengthEnd::AtUnit => Deed::Leaves,
+    }
+}
+
 fn ends_if(test: bool) -> Deed
     ensures { deed_of result ≡ Scanning.ends_if test }
 {
@@ -195,13 +302,8 @@ fn bracket_deed(spot: Spot, c: char) -> Deed
     match spot {
         Spot::BeforePosition => passes_if(c == '[', Spot::InPosition),
         Spot::InPosition => passes_if(c == 't' || c == 'b' || c == 'c', Spot::BehindPosition),
-        Spot::BehindPosition | Spot::BehindLength => ends_if(c == ']'),
-        Spot::BeforeLength => passes_if(c == '[', Spot::InLength),
-        Spot::InLength if c == '-' || c == '+' => Deed::Passes(Spot::BehindSign),
-        Spot::InLength | Spot::BehindSign => passes_if(is_in_number(c), Spot::InNumber),
-        Spot::InNumber if is_in_number(c) => Deed::Passes(Spot::InNumber),
-        Spot::InNumber => passes_if(begins_unit_of_length(c), Spot::BehindLetter(c)),
-        Spot::BehindLetter(first) => passes_if(is_unit_of_length(first, c), Spot::BehindLength),
+        Spot::BehindPosition => ends_if(c == ']'),
+        Spot::BeforeLength => passes_if(c == '[', Spot::InLength(LengthEnd::AtBracket)),
         _ => Deed::Misses,
     }
 }
@@ -256,12 +358,23 @@ impl Spot {
             Spot::BeforeStar => star_deed(piece),
             Spot::BehindStar => Deed::Leaves,
             Spot::BeforeRow => row_deed(piece),
+            Spot::BeforeLengthInBraces => brace_deed(
+                Deed::Passes(Spot::InLength(LengthEnd::AtBrace)),
+                Deed::Misses,
+                piece,
+            ),
+            Spot::InLength(_)
+            | Spot::BehindSign(_)
+            | Spot::InNumber(_)
+            | Spot::InDecimals(_, _)
+            | Spot::BehindLetter(_, _) => in_length(self, piece),
+            Spot::BehindLength(end) => ending_deed(end, piece),
             spot => in_brackets(spot, piece),
         }
     }
 
     /// What the unit does that stands there.
-    fn deed(self, piece: Piece) -> Deed
+    pub(crate) fn deed(self, piece: Piece) -> Deed
         ensures { deed_of result ≡ Scanning.deed (spot_of self) (piece_of piece.entry) }
     {
         match piece {
@@ -274,11 +387,17 @@ impl Spot {
     fn may_end(self) -> bool
         ensures { result ≡ Scanning.may_end (spot_of self) }
     {
-        matches!(self, Spot::BeforeStar | Spot::BehindStar | Spot::BeforeRow)
+        matches!(
+            self,
+            Spot::BeforeStar
+                | Spot::BehindStar
+                | Spot::BeforeRow
+                | Spot::BehindLength(LengthEnd::AtUnit)
+        )
     }
 
     /// Why the end of the text is refused, unless nothing has to follow.
-    fn end(self, place: usize) -> Option<TexError>
+    pub(crate) fn end(self, place: usize) -> Option<TexError>
         ensures { (at : ℕ) → IsFound result [] (End at) (scan place (End at) (spot_of self)) }
     {
         if self.may_end() {
@@ -291,7 +410,7 @@ impl Spot {
     }
 
     /// Why what is no unit is refused, unless nothing has to follow.
-    fn fault(self, fault: Fault, at: usize) -> Option<TexError>
+    pub(crate) fn fault(self, fault: Fault, at: usize) -> Option<TexError>
         ensures { (place : ℕ) → IsFound result [] (Stop (refusal_at (kind_of fault) at))
             (scan place (Stop (refusal_at (kind_of fault) at)) (spot_of self)) }
     {
@@ -305,88 +424,21 @@ impl Spot {
     }
 
     /// Why it is refused that what was to be taken does not stand there.
-    fn missing(self) -> TexErrorKind
+    pub(crate) fn missing(self) -> TexErrorKind
         ensures { kind_of_error result ≡ Some (Scanning.missing (spot_of self)) }
     {
         match self {
             Spot::BeforeArgument(Argument::Name) | Spot::InArgument(Argument::Name) => {
                 TexErrorKind::MissingName
             }
+            Spot::BeforeLengthInBraces
+            | Spot::InLength(_)
+            | Spot::BehindSign(_)
+            | Spot::InNumber(_)
+            | Spot::InDecimals(_, _)
+            | Spot::BehindLetter(_, _)
+            | Spot::BehindLength(_) => TexErrorKind::MissingLength,
             _ => TexErrorKind::MissingArgument,
         }
-    }
-}
-
-impl<'a> Input<'a> {
-    /// Takes what is found from this spot on, and puts its text behind this one. Returns why it is refused, where it does not
-    /// stand here: then units before that may have been passed over. The place is of what takes it.
-    pub(crate) fn scan(
-        &mut self,
-        place: usize,
-        spot: Spot,
-        text: &mut String,
-    ) -> Result<Option<TexError>, AllocError>
-        ensures { IfOk result (λ error. IsFound error (string_bytes text.new) (units_at self.new)
-            (behind_text (string_bytes text.old)
-            (scan place (units_at self.old) (spot_of spot)))) }
-    {
-        let mut spot = spot;
-        'units: loop {
-            match self.next {
-                Next::Fault(fault, at) => return Ok(spot.fault(fault, at)),
-                Next::End(_) => return Ok(spot.end(place)),
-                Next::Unit(unit) => match spot.deed(unit.piece) {
-                    Deed::Passes(next) => {
-                        self.advance();
-                        spot = next;
-                    }
-                    Deed::Adds(c, next) => {
-                        text.push(c)?;
-                        self.advance();
-                        spot = next;
-                    }
-                    Deed::Ends => {
-                        self.advance();
-                        return Ok(None);
-                    }
-                    Deed::Leaves => return Ok(None),
-                    Deed::Misses => {
-                        return Ok(Some(TexError {
-                            kind: spot.missing(),
-                            place,
-                        }));
-                    }
-                    Deed::Refuses => {
-                        return Ok(Some(TexError {
-                            kind: TexErrorKind::UnknownColumn,
-                            place: unit.place,
-                        }));
-                    }
-                },
-            }
-        }
-    }
-
-    /// Passes over what is found from this spot on, if it stands here.
-    pub(crate) fn pass(&mut self, alloc: Global, spot: Spot) -> Result<(), AllocError>
-        ensures { OnOk result (units_at self.new ≡ past (spot_of spot) (units_at self.old)) }
-    {
-        let mut ahead = *self;
-        let mut text = String::new(alloc);
-        if ahead.scan(0, spot, &mut text)?.is_none() {
-            *self = ahead;
-        }
-        Ok(())
-    }
-
-    /// Passes over what stands behind the sign that ends a row and is nothing: its star, a length, the lines before the next
-    /// row.
-    pub(crate) fn pass_break(&mut self, alloc: Global) -> Result<(), AllocError>
-        ensures { OnOk result (units_at self.new ≡ past_break (units_at self.old)) }
-    {
-        self.pass(alloc, Spot::BeforeStar)?;
-        self.pass(alloc, Spot::BeforeLength)?;
-        self.pass(alloc, Spot::BeforeRow)?;
-        Ok(())
     }
 }

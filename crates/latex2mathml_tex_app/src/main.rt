@@ -1,7 +1,7 @@
 //! Turns a LaTeX formula on standard input into MathML on standard output.
 #![tactic(auto)]
 
-use latex2mathml::Stream;
+use latex2mathml::{Disk, Stream};
 use latex2mathml_tex_program::{requested, serve, status_of_error};
 use std::io::{ErrorKind, Write};
 use std::process::ExitCode;
@@ -39,7 +39,14 @@ fn main(rt: HostRuntime) -> ExitCode {
     let mut input = Stream::new(rt.stdin());
     let mut output = Stream::new(rt.stdout());
     let mut errors = Stream::new(rt.stderr());
-    let status = serve(alloc, request, &mut input, &mut output, &mut errors);
+    let status = serve(
+        alloc,
+        &Disk { rt: &rt, alloc },
+        request,
+        &mut input,
+        &mut output,
+        &mut errors,
+    );
     if status == 0 && output.inner.flush().is_err() {
         return ExitCode::from(1);
     }

@@ -1,5 +1,5 @@
 -- The rules of a piece at two places are alike: they differ in places alone, of refusals too.
-use Rattle.std.proofs.Common.{◌≡◌, ◌==◌, ℕ, Bool, nat_le, length, true, false, List, inl, inr, [], ◌∷◌, ◌++◌, Option, Some, None, codes, refl, sym, subst, if◌then◌else◌}
+use Rattle.std.proofs.Common.{◌≡◌, ◌==◌, ℕ, ℤ, Bool, nat_le, length, true, false, List, inl, inr, [], ◌∷◌, ◌++◌, Option, Some, None, codes, refl, sym, subst, if◌then◌else◌}
 use Rattle.std.proofs.lemmas.Bool.{cases_Bool}
 use Rattle.std.specs.{Char.is_ascii_alphabetic, Char.is_ascii_digit, Str.byte, Str.bytes_eq}
 use Rattle.latex2mathml_elements.specs.Element.{Element}
@@ -8,8 +8,9 @@ use Rattle.latex2mathml_tex_grammar.specs.Environments.{Environment, environment
 use Rattle.latex2mathml_tex_grammar.specs.Scanning.{Spot, Argument, Name, ColumnList, Number}
 use Rattle.latex2mathml_tex_grammar.specs.Tables.{Lines}
 use Rattle.latex2mathml_tex_grammar.specs.{Commands.meaning_of, Commands.symbol_of, Delimiters.delimiter_of, Makes.Core, Refusal.Refusal, Rows.Row, Rows.Operand, Symbols.Alphabet, Symbols.Symbol, Words.Words}
-use Rattle.latex2mathml_tex_grammar.specs.Meaning.{Meaning, Shows, FunctionName, Spacing, Styled, Words as TakesWordsIn, Fraction, Root, Accent, Brace, Stack, StackedRelation, OperatorName, Negation, Slash, Sized, Left, Middle, Right, Limits, NoLimits, Classed, Changes, BeginTable, EndTable, LineBreak, Substack}
-use Rattle.latex2mathml_tex_grammar.specs.Rules.{Context, Ending, WholeText, InBraces, InBrackets, InDollars, InDelimiters, Rule, gives, refuses, reads_operand, reads_core, reads_atoms, reads_words, takes_if, takes_digits, takes_delimiter, of_one, of_two, decimal, after_digits, a_number, a_symbol, begins_none, character_rule, struck_atom, command_rule, rule, TableEnd, ByName, ByBrace, InCell, takes_found, passes_over, reads_rows, ended_table, rows_rule, listed_rule, argument_rule, position_rule, environment_rule, most_columns}
+use Rattle.latex2mathml_tex_grammar.specs.Meaning.{Meaning, Shows, FunctionName, Dots, Spacing, Styled, Words as TakesWordsIn, Fraction, Root, Accent, Brace, Stack, StackedRelation, OperatorName, Negation, Slash, Sized, Left, Middle, Right, Limits, NoLimits, Classed, Changes, BeginTable, EndTable, LineBreak, Substack, Skip, SkipInBraces, Boxed, Smash}
+use Rattle.latex2mathml_tex_grammar.specs.Rules.{Context, Ending, WholeText, InBraces, InBrackets, InDollars, InDelimiters, Rule, gives, refuses, reads_operand, reads_core, reads_atoms, reads_words, takes_if, if_follows, takes_digits, takes_delimiter, of_one, of_two, decimal, after_digits, a_number, a_symbol, begins_none, character_rule, struck_atom, command_rule, rule, TableEnd, ByName, ByBrace, InCell, takes_found, passes_over, reads_rows, ended_table, rows_rule, listed_rule, argument_rule, position_rule, environment_rule, most_columns, ByText, wide_rule, in_brackets}
+use Rattle.latex2mathml_tex_grammar.specs.Lengths.{width_of}
 use Rattle.latex2mathml_tex_grammar.specs.Spacing.{Standing, BeforeWords, InWords, BetweenDollars, standing_behind, behind_unit, takes_words, AreAlike, same_piece}
 use Rattle.latex2mathml_tex_grammar.specs.Starts.{atom_start, ends, unended, is_close, is_character, is_command, left_behind, is_break}
 use Rattle.latex2mathml_tex_grammar.specs.Units.{Piece, Space, Open, Close, Command, Character, Unit, Units}
@@ -35,6 +36,7 @@ same_ends both_dollars piece = refl
 same_ends both_delimiters piece = refl
 same_ends (both_cells ByName) piece = refl
 same_ends (both_cells ByBrace) piece = refl
+same_ends (both_cells ByText) piece = refl
 
 pub same_start : {e f : Ending} → AlikeEndings e f → (piece : Piece) → atom_start e piece ≡ atom_start f piece
 same_start both_whole piece = refl
@@ -52,6 +54,7 @@ unended_too both_dollars h = cc
 unended_too both_delimiters h = cc
 unended_too (both_cells ByName) h = cc
 unended_too (both_cells ByBrace) h = cc
+unended_too (both_cells ByText) h = refl
 
 same_some : {r q : Refusal} → Some r ≡ Some q → r ≡ q
 same_some e = cc
@@ -64,6 +67,7 @@ never_ended_too both_dollars h = (_, rw (sym (same_some h)) refl, refl)
 never_ended_too both_delimiters h = (_, rw (sym (same_some h)) refl, refl)
 never_ended_too (both_cells ByName) h = (_, rw (sym (same_some h)) refl, refl)
 never_ended_too (both_cells ByBrace) h = (_, rw (sym (same_some h)) refl, refl)
+never_ended_too (both_cells ByText) h = cc
 
 -- where atoms stand that have this ending, which itself stands here
 abbrev pub inside : Ending → Standing → Standing
@@ -107,6 +111,7 @@ pub cell_ends : (end : TableEnd) (place : ℕ) (piece : Piece) → ends (InCell 
 cell_ends ByName place (Command name) h =
     takes_none name (either_holds _ _ (either_holds _ _ (named (codes "end") name end_plain) (λ k. absurd (cc))) (break_command name) h)
 cell_ends ByBrace place (Command name) h = takes_none name (break_command name h)
+cell_ends ByText place (Command name) h = takes_none name (break_command name h)
 cell_ends end place (Character c) h = elim (cases_Bool (c == byte "$")) [
   | inl s ↦ absurd (dollar_in_cell end place (subst (λ d. ends (InCell end place) (Character d) ≡ true) (is_byte c (byte "$") s) h))
   | inr s ↦ character_plain c s
@@ -115,12 +120,16 @@ cell_ends end place (Character c) h = elim (cases_Bool (c == byte "$")) [
     dollar_in_cell : (end : TableEnd) (place : ℕ) → ends (InCell end place) (Character (byte "$")) ≡ true → ⊥
     dollar_in_cell ByName place h = cc
     dollar_in_cell ByBrace place h = cc
+    dollar_in_cell ByText place h = cc
 cell_ends ByBrace place Close h = close_plain
 cell_ends ByName place Close h = cc
+cell_ends ByText place Close h = cc
 cell_ends ByName place Space h = cc
 cell_ends ByName place Open h = cc
 cell_ends ByBrace place Space h = cc
 cell_ends ByBrace place Open h = cc
+cell_ends ByText place Space h = cc
+cell_ends ByText place Open h = cc
 
 dollar_ends : (at : Standing) (piece : Piece) → is_character (byte "$") piece ≡ true → standing_behind piece (BetweenDollars at) ≡ at
 dollar_ends at (Character c) h = subst (λ d. standing_behind (Character d) (BetweenDollars at) ≡ at) (is_byte (byte "$") c h) refl
@@ -164,6 +173,7 @@ pub data AlikeRules (at : Standing) : Standing → Rule → Rule → Type 0 wher
   atoms_too : {d e : Ending} {c : Context} {f g : Row → Rule} → AlikeEndings d e → at ≡ inside d at → ((x : Row) → AlikeRules at at (f x) (g x)) → AlikeRules at at (reads_atoms d c f) (reads_atoms e c g)
   words_too : {p q : ℕ} {a : Option Alphabet} {f g : Words → Rule} → ((x : Words) → AlikeRules at at (f x) (g x)) → AlikeRules at (BeforeWords at) (reads_words p a f) (reads_words q a g)
   if_too : {tests : List (Piece → Option (List ℕ))} {f g : List ℕ → Rule} {r s : Rule} → AllPlain tests → ((x : List ℕ) → AlikeRules at at (f x) (g x)) → AlikeRules at at r s → AlikeRules at at (takes_if tests f r) (takes_if tests g s)
+  follows_too : {test : Piece → Bool} {r s t k : Rule} → AlikeRules at at r s → AlikeRules at at t k → AlikeRules at at (if_follows test r t) (if_follows test s k)
   digits_taken_too : {f g : List ℕ → Rule} → ((x : List ℕ) → AlikeRules at at (f x) (g x)) → AlikeRules at at (takes_digits f) (takes_digits g)
   delimiter_too : {f g : List ℕ → Rule} → ((x : List ℕ) → AlikeRules at at (f x) (g x)) → AlikeRules at at (takes_delimiter f) (takes_delimiter g)
   scanned_too : {spot : Spot} {p q : ℕ} {f g : List ℕ → Rule} → ((x : List ℕ) → AlikeRules at at (f x) (g x)) → AlikeRules at at (takes_found spot p f) (takes_found spot q g)
@@ -233,6 +243,15 @@ environment_too : {at : Standing} (p q : ℕ) (c : Context) (name : List ℕ) (e
 environment_too p q c name None = refuses_too refl
 environment_too p q c name (Some e) = position_too e.may_have_position (argument_too p q c name e e.argument)
 
+-- lengths
+
+wide_too : {at : Standing} (p q : ℕ) (width : Option ℤ) → AlikeRules at at (wide_rule p width) (wide_rule q width)
+wide_too p q None = refuses_too refl
+wide_too p q (Some width) = gives_too
+
+in_brackets_plain : (c : ℕ) → (byte "$" == c) ≡ false → AllPlain (in_brackets c)
+in_brackets_plain c h = (a_character_plain (byte "[") refl, (a_character_plain c h, (a_character_plain (byte "]") refl, tt)))
+
 -- a command that takes no words leaves it as it is where units stand
 as_is : {at : Standing} {r s : Rule} → IsCalm at → AlikeRules at at r s → AlikeRules at (behind_unit at) r s
 as_is in_formula h = h
@@ -249,7 +268,13 @@ command_too : {at : Standing} (p q : ℕ) (c : Context) (name : List ℕ) (meani
 command_too p q c name None calm = refuses_too refl
 command_too p q c name (Some (Shows s)) calm = as_is calm gives_too
 command_too p q c name (Some (FunctionName limits own)) calm = as_is calm gives_too
+command_too p q c name (Some Dots) calm = as_is calm (follows_too gives_too gives_too)
 command_too p q c name (Some (Spacing width)) calm = as_is calm gives_too
+command_too p q c name (Some Skip) calm = as_is calm (scanned_too (λ text. wide_too p q (width_of text)))
+command_too p q c name (Some SkipInBraces) calm = as_is calm (passed_too (scanned_too (λ text. wide_too p q (width_of text))))
+command_too p q c name (Some (Boxed box)) calm = as_is calm one_too
+command_too p q c name (Some Smash) calm =
+    as_is calm (if_too (in_brackets_plain (byte "t") refl) (λ top. one_too) (if_too (in_brackets_plain (byte "b") refl) (λ bottom. one_too) one_too))
 command_too p q c name (Some (Styled alphabet)) calm = as_is calm one_too
 command_too p q c name (Some (TakesWordsIn alphabet)) calm = words_follow calm (words_too (λ ws. gives_too))
 command_too p q c name (Some (Fraction bar own)) calm = as_is calm two_too

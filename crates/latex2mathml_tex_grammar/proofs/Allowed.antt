@@ -5,7 +5,7 @@ use Rattle.latex2mathml_elements.specs.{Characters.IsAllowed, Characters.HasAllo
 use Rattle.latex2mathml_elements.proofs.Plain.{IsPlain}
 use Rattle.latex2mathml_tex_grammar.specs.{Atoms.Atom, Reading.Outcome, Reading.Read, Reading.Refused, Rests.Rest, Rests.GoesOnIn, Rests.NoRest, Rows.Restyled, Rows.Row, Rows.Operand, Rows.Upper}
 use Rattle.latex2mathml_tex_grammar.specs.Makes.{Core, Scripts}
-use Rattle.latex2mathml_tex_grammar.specs.Rules.{Rule, gives, refuses, reads_operand, reads_core, reads_atoms, reads_words, takes_if, takes_digits, takes_delimiter, takes_found, passes_over, reads_rows}
+use Rattle.latex2mathml_tex_grammar.specs.Rules.{Rule, gives, refuses, reads_operand, reads_core, reads_atoms, reads_words, takes_if, if_follows, takes_digits, takes_delimiter, takes_found, passes_over, reads_rows}
 use Rattle.latex2mathml_tex_grammar.specs.Starts.{Step, GoesOn, TakesOperand, Forbidden}
 use Rattle.latex2mathml_tex_grammar.specs.ExpansionLaws.{EachPiece}
 use Rattle.latex2mathml_tex_grammar.specs.Tables.{Lines}
@@ -109,6 +109,7 @@ IsAllowedRule (reads_atoms ending c then) = (row : Row) → IsAllowedRow row →
 IsAllowedRule (reads_words place a then) = (ws : Words) → AreAllowedWords ws → IsAllowedRule (then ws)
 IsAllowedRule (takes_if tests then otherwise) =
     ((text : List ℕ) → AreGiven tests text → IsAllowedRule (then text)) × IsAllowedRule otherwise
+IsAllowedRule (if_follows test then otherwise) = IsAllowedRule then × IsAllowedRule otherwise
 IsAllowedRule (takes_digits then) = (digits : List ℕ) → IsPlain digits → IsAllowedRule (then digits)
 IsAllowedRule (takes_delimiter then) = (sign_text : List ℕ) → IsAllowed sign_text → IsAllowedRule (then sign_text)
 IsAllowedRule (takes_found spot place then) = (text : List ℕ) → IsAllowedRule (then text)

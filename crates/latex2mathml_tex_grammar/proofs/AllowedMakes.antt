@@ -4,7 +4,7 @@ use Rattle.std.proofs.{lemmas.Bool.and_parts, lemmas.Grind.reverse_onto}
 use Rattle.std.specs.{List.list_all, Str.NonePass}
 use Rattle.latex2mathml_elements.specs.Attributes.{Attributes, Side, Above, Below, Stretch}
 use Rattle.latex2mathml_elements.specs.Characters.{is_forbidden, IsAllowed, HasAllowedTexts, EachTextOf}
-use Rattle.latex2mathml_elements.specs.Element.{Mi, Mn, Mo, Mtext, Element, token, space, container, pair, triple, table, children}
+use Rattle.latex2mathml_elements.specs.Element.{Mi, Mn, Mo, Mtext, Element, token, space, rectangle, container, pair, triple, table, children}
 use Rattle.latex2mathml_elements.proofs.{Characters.allowed_both, Characters.allowed_char, Characters.allowed_plain, Characters.plain_is_allowed, Plain.IsPlain, Plain.is_plain}
 use Rattle.latex2mathml_tex_grammar.specs.Alphabets.{in_alphabet}
 use Rattle.latex2mathml_tex_grammar.specs.Atoms.{Atom, Kind, SignOf, PlusOrMinus, Plain, UprightLetters, FunctionWord, Blank, Divider, Before, begins_operand, class_there, as_prefix, without_space, tight, sign_there, element_there, is_parted, lone_sign, element_as}
@@ -78,6 +78,7 @@ row_element_allowed (x ∷ y ∷ xs) h = row_children_allowed (x ∷ y ∷ xs) h
 prefix_allowed : (x : Element) → HasAllowedTexts x → HasAllowedTexts (as_prefix x)
 prefix_allowed (token t a text) h = h
 prefix_allowed (space width) h = h
+prefix_allowed (rectangle e) h = h
 prefix_allowed (container c a xs) h = h
 prefix_allowed (pair p a x y) h = h
 prefix_allowed (triple t a x y z) h = h
@@ -86,6 +87,7 @@ prefix_allowed (table a rows) h = h
 without_space_allowed : (x : Element) → HasAllowedTexts x → HasAllowedTexts (without_space x)
 without_space_allowed (token t a text) h = h
 without_space_allowed (space width) h = h
+without_space_allowed (rectangle e) h = h
 without_space_allowed (container c a xs) h = h
 without_space_allowed (pair p a x y) h = h
 without_space_allowed (triple t a x y z) h = h
@@ -124,11 +126,13 @@ join_allowed : (x : Element) (xs : List Element) → HasAllowedTexts x → AreAl
 join_allowed (token t a letter) [] h k = (h, k)
 join_allowed (token t a letter) (token u b word ∷ xs) h k = (allowed_both word letter k.0 h, k.1)
 join_allowed (token t a letter) (space width ∷ xs) h k = (h, k)
+join_allowed (token t a letter) (rectangle e ∷ xs) h k = (h, k)
 join_allowed (token t a letter) (container c b ys ∷ xs) h k = (h, k)
 join_allowed (token t a letter) (pair p b y z ∷ xs) h k = (h, k)
 join_allowed (token t a letter) (triple u b x y z ∷ xs) h k = (h, k)
 join_allowed (token t a letter) (table b rows ∷ xs) h k = (h, k)
 join_allowed (space width) xs h k = (h, k)
+join_allowed (rectangle e) xs h k = (h, k)
 join_allowed (container c a ys) xs h k = (h, k)
 join_allowed (pair p a y z) xs h k = (h, k)
 join_allowed (triple t a x y z) xs h k = (h, k)
@@ -151,6 +155,7 @@ single_allowed style x h =
 pub struck_allowed : (x : Element) → HasAllowedTexts x → IsAllowedElement (struck x)
 struck_allowed (token t a sign_text) h = allowed_both sign_text (text 0x0338) h (allowed_char 0x0338 refl)
 struck_allowed (space width) h = tt
+struck_allowed (rectangle e) h = tt
 struck_allowed (container c a xs) h = tt
 struck_allowed (pair p a x y) h = tt
 struck_allowed (triple t a x y z) h = tt
@@ -162,6 +167,7 @@ lone_sign_allowed style class (token Mi a text) h = h
 lone_sign_allowed style class (token Mn a text) h = h
 lone_sign_allowed style class (token Mtext a text) h = h
 lone_sign_allowed style class (space width) h = h
+lone_sign_allowed style class (rectangle e) h = h
 lone_sign_allowed style class (container c a xs) h = h
 lone_sign_allowed style class (pair p a x y) h = h
 lone_sign_allowed style class (triple t a x y z) h = h
@@ -228,6 +234,7 @@ fraction_allowed rule own above below h k = in_style_allowed own _ (fraction_ele
 lowered_divider_allowed : (x : Element) → HasAllowedTexts x → HasAllowedTexts (lowered_divider x)
 lowered_divider_allowed (token t a sign_text) h = h
 lowered_divider_allowed (space width) h = h
+lowered_divider_allowed (rectangle e) h = h
 lowered_divider_allowed (container c a xs) h = h
 lowered_divider_allowed (pair p a x y) h = h
 lowered_divider_allowed (triple t a x y z) h = h
@@ -276,6 +283,7 @@ fixed_base_allowed Stacked (token Mn a sign_text) h = h
 fixed_base_allowed Stacked (token Mo a sign_text) h = h
 fixed_base_allowed Stacked (token Mtext a sign_text) h = h
 fixed_base_allowed Stacked (space width) h = h
+fixed_base_allowed Stacked (rectangle e) h = h
 fixed_base_allowed Stacked (container c a xs) h = h
 fixed_base_allowed Stacked (pair p a x y) h = h
 fixed_base_allowed Stacked (triple t a x y z) h = h

@@ -2,11 +2,10 @@
 use Rattle.std.proofs.Common.{ℕ, List, [], ◌∷◌, Option, subst, reverse}
 use Rattle.latex2mathml_elements.specs.{Characters.IsAllowed, Dollars.IsDollarFree, Element.Element, Element.children}
 use Rattle.latex2mathml_elements.specs.Columns.{Columns}
-use Rattle.latex2mathml_tex_grammar.specs.{Scanning.BeforeRow, Tables.Lines}
+use Rattle.latex2mathml_tex_grammar.specs.{Scanning.BeforeRow, Tables.Lines, Atoms.Atom, DefinitionTexts.Defines, Delimiters.delimiter_of, Formulas.IsReading, Formulas.row_print, Laws.ReadingsAreAllowed, Macros.Table, Rows.Row, Rows.Operand, Rows.empty_row, Rows.row_element, Symbols.Alphabet, Symbols.Style, Environments.pairs, Rows.with_atom}
 use Rattle.latex2mathml_elements.proofs.{Characters.allowed_print, Characters.dollar_free}
-use Rattle.latex2mathml_tex_grammar.specs.{Atoms.Atom, DefinitionTexts.Defines, Delimiters.delimiter_of, Formulas.IsReading, Formulas.row_print, Laws.ReadingsAreAllowed, Macros.Table, Rows.Row, Rows.Operand, Rows.empty_row, Rows.row_element, Symbols.Alphabet, Symbols.Style}
 use Rattle.latex2mathml_tex_grammar.specs.Makes.{Core, core, divider, is_display, number, Scripts}
-use Rattle.latex2mathml_tex_grammar.specs.Reading.{Outcome, ReadsRule, rule_gives, rule_refuses, operand_read, operand_refused, core_read, core_refused, core_missing, core_stopped, atoms_read, atoms_refused, words_read, words_refused, units_taken, units_missing, digits_taken, delimiter_taken, delimiter_missing, ReadsOperand, group_operand, group_refused, digit_operand, other_operand, other_refused, no_operand, operand_at_end, operand_stopped, ReadsScripts, scripts_end, mark_taken, script_read, script_refused, mark_refused, ReadsAtom, divider_read, divider_refused, on_empty_row, base_read, base_refused, ReadsAtoms, text_ends, never_ended, atoms_stopped, atoms_end, atom_read, atom_refused, rest_read, change_refused, ReadsWord, word_stands, group_of_words, formula_read, formula_refused, words_in_alphabet, no_word, word_missing, word_at_end, word_stopped, ReadsWords, words_end, words_never_ended, words_stopped, word_read, word_refused, found_taken, found_refused, passed_over, rows_read, rows_refused, ReadsRows, cell_read, cell_refused, ReadsBehindCell, next_cell, next_row, table_ends}
+use Rattle.latex2mathml_tex_grammar.specs.Reading.{Outcome, ReadsRule, rule_gives, rule_refuses, operand_read, operand_refused, core_read, core_refused, core_missing, core_stopped, atoms_read, atoms_refused, words_read, words_refused, units_taken, units_missing, unit_follows, no_unit_follows, digits_taken, delimiter_taken, delimiter_missing, ReadsOperand, group_operand, group_refused, digit_operand, other_operand, other_refused, no_operand, operand_at_end, operand_stopped, ReadsScripts, scripts_end, mark_taken, script_read, script_refused, mark_refused, ReadsAtom, divider_read, divider_refused, on_empty_row, base_read, base_refused, ReadsAtoms, text_ends, never_ended, atoms_stopped, atoms_end, atom_read, atom_refused, rest_read, change_refused, ReadsWord, word_stands, group_of_words, formula_read, formula_refused, words_in_alphabet, no_word, word_missing, word_at_end, word_stopped, ReadsWords, words_end, words_never_ended, words_stopped, word_read, word_refused, found_taken, found_refused, passed_over, rows_read, rows_refused, ReadsRows, cell_read, cell_refused, ReadsBehindCell, next_cell, next_row, table_ends, rows_to_end, text_ends_table, Read, Refused}
 use Rattle.latex2mathml_tex_grammar.specs.Rules.{Context, Ending, Rule, gives, takes_delimiter, TableEnd, WholeText, InBraces, InBrackets, InDollars, InDelimiters, InCell}
 use Rattle.latex2mathml_tex_grammar.specs.Starts.{mark_of, left_behind}
 use Rattle.latex2mathml_tex_grammar.specs.Units.{Unit, Units}
@@ -18,6 +17,8 @@ use Rattle.latex2mathml_tex_grammar.proofs.AllowedRests.{finished_allowed, rest_
 use Rattle.latex2mathml_tex_grammar.proofs.AllowedRows.{given_allowed, past_spot_allowed, past_break_allowed, a_row_allowed, with_last_allowed}
 use Rattle.latex2mathml_tex_grammar.proofs.AllowedRules.{IsPlainStart, start_plain, delimiter_given, rule_allowed, step_allowed, with_word_allowed, word_rule_allowed}
 use Rattle.latex2mathml_tex_grammar.proofs.AllowedUnits.{digits_taken as digits_next_allowed, next_allowed, next_taken, past_allowed, units_allowed}
+use Rattle.latex2mathml_tex_grammar.specs.Formulas.{ReadsFormula, as_atoms, as_rows, alone}
+use Rattle.latex2mathml_tex_grammar.proofs.{AllowedMakes.with_atom_allowed, AllowedRests.finished_allowed, AllowedRows.a_table_allowed}
 
 divider_allowed : IsAllowedRule (takes_delimiter (λ sign_text. gives (core (divider sign_text))))
 divider_allowed = λ sign_text h. h
@@ -53,6 +54,8 @@ mutual
   rules (units_taken {tests = tests} {l = l} {m = m} {texts = texts} p ds) h k =
       let taken = next_taken tests l m texts p k in rules ds (h.0 texts taken.0) taken.1
   rules (units_missing p ds) h k = rules ds h.1 k
+  rules (unit_follows p d) h k = rules d h.0 k
+  rules (no_unit_follows p d) h k = rules d h.1 k
   rules (digits_taken {l = l} d) h k = (let taken = digits_next_allowed l k in rules d (h _ taken.0) taken.1)
   rules (delimiter_taken {l = l} {m = m} {sign_text = sign_text} p ds) h k =
       let taken = next_taken (delimiter_of ∷ []) l m sign_text p k in rules ds (h sign_text (delimiter_given sign_text taken.0)) taken.1
@@ -62,6 +65,7 @@ mutual
   rules (passed_over {spot = spot} {l = l} d) h k = rules d h (past_spot_allowed spot l k)
   rules (rows_read {l = l} {m = m} {u = u} {lines = lines} d p ds) h k =
       let read = tables d tt tt (past_spot_allowed BeforeRow l k) in rules ds (h lines u.place read.0) (next_allowed m p read.1).1
+  rules (rows_to_end {at = at} {l = l} {lines = lines} d p ds) h k = (let read = tables d tt tt (past_spot_allowed BeforeRow l k) in rules ds (h lines at read.0) tt)
   rules (rows_refused d) h k = tt
 
   operands : {place : ℕ} {c : Context} {l : Units} {o : Outcome Operand} → ReadsOperand place c l o → AreAllowedUnits l → IsAllowedOutcome IsAllowedOperand o
@@ -119,6 +123,7 @@ mutual
   behind_cells (next_row {cells = cells} {cell = cell} {l = l} {m = m} p s d) h i j k =
       tables d (a_row_allowed (row_element cell ∷ cells) (row_element_allowed cell j, i), h) tt (past_break_allowed m (next_allowed l p k).1)
   behind_cells (table_ends {rows = before} {cells = cells} {cell = cell} p s) h i j k = (with_last_allowed before cells cell h i j, k)
+  behind_cells (text_ends_table {rows = before} {cells = cells} {cell = cell} p) h i j k = (with_last_allowed before cells cell h i j, k)
 
   words : {place : ℕ} {a : Option Alphabet} {ws : Words} {l : Units} {o : Outcome Words} → ReadsWord place a ws l o → AreAllowedWords ws → AreAllowedUnits l → IsAllowedOutcome AreAllowedWords o
   words (word_stands {a = a} {ws = ws} {u = u} {w = w} s) h k =
@@ -140,10 +145,23 @@ mutual
   word_lists (word_read s d ds) h k = (let read = words d h k in word_lists ds read.0 read.1)
   word_lists (word_refused s d) h k = tt
 
+-- what units are read as that are a formula
+
+alone_allowed : (style : Style) (o : Outcome Core) → IsAllowedOutcome IsAllowedCore o → IsAllowedOutcome IsAllowedRow (alone style o)
+alone_allowed style (Read x m) h =
+    let row = with_atom_allowed style empty_row x.atom tt h.0 in
+    (finished_allowed style (with_atom style empty_row x.atom) (record { elements = row; before = tt; upper = tt }), h.1)
+alone_allowed style (Refused r) h = tt
+
+formula_allowed : {style : Style} {l : Units} {o : Outcome Row} → ReadsFormula style l o → AreAllowedUnits l → IsAllowedOutcome IsAllowedRow o
+formula_allowed (as_atoms d s) k = rows d nothing_read k
+formula_allowed {style} (as_rows {p = p} d s t) k =
+    alone_allowed style p (rules t (λ lines at h. a_table_allowed pairs.delimiters pairs.columns pairs.style style lines tt h) k)
+
 pub reading_allowed : (definitions : List ℕ) (macros : Table) (text : List ℕ) (style : Style) (row : Row) → Defines definitions macros → IsReading macros text style row → IsAllowedRow row
 unfolding IsReading
 reading_allowed definitions macros text style row h (units, own, (end, d)) =
-    (rows d nothing_read (expansion_allowed own.expands (macros_allowed h) (units_allowed own.spelled))).0
+    (formula_allowed d (expansion_allowed own.expands (macros_allowed h) (units_allowed own.spelled))).0
 
 -- the markup of a reading holds no character that XML forbids, and no dollar sign
 pub markup_allowed : (definitions : List ℕ) (macros : Table) (text : List ℕ) (style : Style) (row : Row) → Defines definitions macros → IsReading macros text style row → IsAllowed (row_print style row) × IsDollarFree (row_print style row)

@@ -4,7 +4,7 @@ use Rattle.std.proofs.lemmas.Bool.{and_parts}
 use Rattle.std.specs.{Bool.⊤, Char.encode_utf8, List.list_all, Str.bytes_eq, Str.chars}
 use Rattle.latex2mathml_elements.specs.Characters.{IsAllowed, HasAllowedTexts, EachTextOf, EachTextOfCells, EachTextOfRows}
 use Rattle.latex2mathml_elements.specs.{Columns.Columns, Columns.Listed, Tables.cells_behind, Tables.cells_in, Tables.rows_in}
-use Rattle.latex2mathml_elements.specs.Element.{Mrow, Msqrt, Mstyle, Element, Elements, token, space, container, pair, triple, table, more, none}
+use Rattle.latex2mathml_elements.specs.Element.{Mrow, Msqrt, Mstyle, Mpadded, Mphantom, Element, Elements, token, space, rectangle, container, pair, triple, table, more, none}
 use Rattle.latex2mathml_tex_grammar.specs.Environments.{columns_of, Environment, environments, entry_environment, environment_of}
 use Rattle.latex2mathml_tex_grammar.specs.{Rows.row_element, Symbols.Style}
 use Rattle.latex2mathml_tex_grammar.specs.Rules.{Context, Rule, ended_table, rows_rule, most_columns, listed_rule, argument_rule, position_rule, environment_rule}
@@ -37,8 +37,11 @@ cells_in_allowed columns (container Mrow a (more x xs)) h = cells_behind_allowed
 cells_in_allowed columns (container Mrow a none) h = (h, tt)
 cells_in_allowed columns (container Msqrt a xs) h = (h, tt)
 cells_in_allowed columns (container Mstyle a xs) h = (h, tt)
+cells_in_allowed columns (container Mpadded a xs) h = (h, tt)
+cells_in_allowed columns (container Mphantom a xs) h = (h, tt)
 cells_in_allowed columns (token t a text) h = (h, tt)
 cells_in_allowed columns (space width) h = (h, tt)
+cells_in_allowed columns (rectangle e) h = (h, tt)
 cells_in_allowed columns (pair p a x y) h = (h, tt)
 cells_in_allowed columns (triple t a x y z) h = (h, tt)
 cells_in_allowed columns (table a rows) h = (h, tt)

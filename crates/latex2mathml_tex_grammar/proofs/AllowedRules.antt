@@ -1,17 +1,18 @@
 -- The rule of a unit without a character that XML forbids gives none, and so it is of marks and in words.
-use Rattle.std.proofs.Common.{◌≡◌, ℕ, pos, Bool, true, false, ◌==◌, List, [], ◌∷◌, ◌++◌, Option, Some, None, refl, sym, ap, subst, ◌∙◌, append-nil}
+use Rattle.std.proofs.Common.{◌≡◌, ℕ, ℤ, pos, Bool, true, false, ◌==◌, List, [], ◌∷◌, ◌++◌, Option, Some, None, refl, sym, ap, subst, ◌∙◌, append-nil}
 use Rattle.std.specs.{Bool.⊤, Char.is_ascii_digit, Str.byte}
-use Rattle.latex2mathml_elements.specs.{Element.Element, Element.token, Element.space, Element.container, Element.pair, Element.triple, Element.table}
+use Rattle.latex2mathml_elements.specs.{Element.Element, Element.token, Element.space, Element.rectangle, Element.container, Element.pair, Element.triple, Element.table}
 use Rattle.latex2mathml_elements.specs.Characters.{is_forbidden, IsAllowed, HasAllowedTexts}
 use Rattle.latex2mathml_elements.proofs.{Characters.allowed_both, Characters.allowed_char, Characters.allowed_plain, Plain.IsPlain}
-use Rattle.latex2mathml_tex_grammar.specs.{Commands.meaning_of, Commands.symbol_of, Delimiters.negated_of, Delimiters.delimiter_of}
-use Rattle.latex2mathml_tex_grammar.specs.Makes.{Core, core, Scripts, letter, symbol, spacing, struck, text}
+use Rattle.latex2mathml_tex_grammar.specs.{Commands.meaning_of, Commands.symbol_of, Delimiters.negated_of, Delimiters.delimiter_of, Dots.centered_dots, Dots.low_dots}
+use Rattle.latex2mathml_tex_grammar.specs.Makes.{Core, core, Scripts, letter, symbol, spacing, struck, text, in_box}
 use Rattle.latex2mathml_tex_grammar.specs.Refusal.{Refusal, OutsideTable, MisplacedCharacter, CharacterInWords, refusal_at}
-use Rattle.latex2mathml_tex_grammar.specs.Meaning.{Meaning, Shows, FunctionName, Spacing, Styled, Words as TakesWordsIn, Fraction, Root, Accent, Brace, Stack, StackedRelation, OperatorName, Negation, Slash, Sized, Left, Middle, Right, Limits, NoLimits, Classed, Changes, BeginTable, EndTable, LineBreak, Substack}
+use Rattle.latex2mathml_tex_grammar.specs.Meaning.{Meaning, Shows, FunctionName, Dots, Spacing, Styled, Words as TakesWordsIn, Fraction, Root, Accent, Brace, Stack, StackedRelation, OperatorName, Negation, Slash, Sized, Left, Middle, Right, Limits, NoLimits, Classed, Changes, BeginTable, EndTable, LineBreak, Substack, Skip, SkipInBraces, Boxed, Smash, Box, Phantom, PhantomWidth, PhantomHeight, Smashed, WithoutHeight, WithoutDepth, OverRight, OverLeft, OverBoth, Frame, StrikeUp, StrikeDown, StrikeTwice}
+use Rattle.latex2mathml_tex_grammar.specs.Lengths.{width_of}
 use Rattle.latex2mathml_tex_grammar.specs.Rows.{Operand}
-use Rattle.latex2mathml_tex_grammar.specs.Rules.{Context, Rule, gives, refuses, takes_if, a_character, a_digit, decimal, after_digits, a_number, a_symbol, begins_none, character_rule, struck_atom, slashed, meaning_rule, command_rule, rule}
+use Rattle.latex2mathml_tex_grammar.specs.Rules.{Context, Rule, gives, refuses, takes_if, a_character, a_digit, decimal, after_digits, a_number, a_symbol, begins_none, character_rule, struck_atom, slashed, a_box, wide_rule, meaning_rule, command_rule, rule}
 use Rattle.latex2mathml_tex_grammar.specs.Starts.{OperandStart, NoStart, GroupStart, DigitStart, operand_start, start_of_digit, Mark, Prime, Below, Above as AboveMark, LimitsAt, step_of, step_of_mark}
-use Rattle.latex2mathml_tex_grammar.specs.Symbols.{InText, InScript, Relation, Alphabet, Symbol}
+use Rattle.latex2mathml_tex_grammar.specs.Symbols.{InText, InScript, Ordinary, Relation, Alphabet, Symbol}
 use Rattle.latex2mathml_tex_grammar.specs.Units.{Piece, Space, Open, Close, Command, Character}
 use Rattle.latex2mathml_tex_grammar.specs.Words.{Word, Shown, Formula, WordRule, IsWord, BeginsFormula, NoWord, Words, is_escape, word_space, word_character, with_text, with_word, words_element, word_rule, character_rule as word_of_character, meaning_rule as word_of_meaning}
 use Rattle.latex2mathml_tex_grammar.proofs.Allowed.{IsAllowedPiece, AreAllowedElements, IsAllowedElement, IsAllowedCore, IsAllowedOperand, AreAllowedScripts, AreAllowedWords, IsAllowedWord, IsAllowedWordRule, IsAllowedStep, IsAllowedRule, AreGiven}
@@ -97,10 +98,38 @@ words_element_allowed : (xs : List Element) → AreAllowedElements xs → HasAll
 words_element_allowed [] h = allowed_plain [] refl
 words_element_allowed (x ∷ xs) h = row_element_allowed (x ∷ xs) h
 
+wide_allowed : (place : ℕ) (width : Option ℤ) → IsAllowedRule (wide_rule place width)
+wide_allowed place None = tt
+wide_allowed place (Some width) = tt
+
+in_box_allowed : (box : Box) (x : Element) → HasAllowedTexts x → HasAllowedTexts (in_box box x)
+in_box_allowed Phantom x h = (h, tt)
+in_box_allowed PhantomWidth x h = ((h, tt), tt)
+in_box_allowed PhantomHeight x h = ((h, tt), tt)
+in_box_allowed Smashed x h = (h, tt)
+in_box_allowed WithoutHeight x h = (h, tt)
+in_box_allowed WithoutDepth x h = (h, tt)
+in_box_allowed OverRight x h = (h, tt)
+in_box_allowed OverLeft x h = ((h, tt), tt)
+in_box_allowed OverBoth x h = ((h, tt), tt)
+in_box_allowed Frame x h = (h, tt)
+in_box_allowed StrikeUp x h = (h, tt)
+in_box_allowed StrikeDown x h = (h, tt)
+in_box_allowed StrikeTwice x h = (h, tt)
+
+a_box_allowed : (place : ℕ) (c : Context) (box : Box) → IsAllowedRule (a_box place c box)
+a_box_allowed place c box = λ x k. in_box_allowed box _ (as_base_allowed c.style Ordinary x k)
+
 meaning_rule_allowed : (place : ℕ) (c : Context) (meaning : Meaning) → is_allowed_meaning meaning ≡ true → IsAllowedRule (meaning_rule place c meaning)
 meaning_rule_allowed place c (Shows s) h = symbol_allowed c.alphabet s h
 meaning_rule_allowed place c (FunctionName limits name) h = allowed_text name h
+meaning_rule_allowed place c Dots h = (symbol_allowed c.alphabet centered_dots refl, symbol_allowed c.alphabet low_dots refl)
 meaning_rule_allowed place c (Spacing width) h = tt
+meaning_rule_allowed place c Skip h = λ text. wide_allowed place (width_of text)
+meaning_rule_allowed place c SkipInBraces h = λ text. wide_allowed place (width_of text)
+meaning_rule_allowed place c (Boxed box) h = a_box_allowed place c box
+meaning_rule_allowed place c Smash h =
+    (λ top given. a_box_allowed place c WithoutHeight, (λ bottom given. a_box_allowed place c WithoutDepth, a_box_allowed place c Smashed))
 meaning_rule_allowed place c (Styled alphabet) h = λ x k. k
 meaning_rule_allowed place c (TakesWordsIn alphabet) h = λ ws k. words_element_allowed ws.elements k
 meaning_rule_allowed place c (Fraction rule own) h = λ above k below i. fraction_allowed rule own above.element below.element k i
@@ -191,6 +220,7 @@ word_of_meaning_allowed : (name : List ℕ) (meaning : Option Meaning) → Passe
 word_of_meaning_allowed name None h = tt
 word_of_meaning_allowed name (Some (Shows s)) h = single_allowed InText (symbol None s).atom (symbol_allowed None s h)
 word_of_meaning_allowed name (Some (FunctionName limits own)) h = tt
+word_of_meaning_allowed name (Some Dots) h = single_allowed InText (symbol None low_dots).atom (symbol_allowed None low_dots refl)
 word_of_meaning_allowed name (Some (Spacing width)) h = word_space_allowed
 word_of_meaning_allowed name (Some (Styled alphabet)) h = tt
 word_of_meaning_allowed name (Some (TakesWordsIn alphabet)) h = tt
@@ -215,6 +245,10 @@ word_of_meaning_allowed name (Some BeginTable) h = tt
 word_of_meaning_allowed name (Some EndTable) h = tt
 word_of_meaning_allowed name (Some LineBreak) h = tt
 word_of_meaning_allowed name (Some Substack) h = tt
+word_of_meaning_allowed name (Some Skip) h = tt
+word_of_meaning_allowed name (Some SkipInBraces) h = tt
+word_of_meaning_allowed name (Some (Boxed box)) h = tt
+word_of_meaning_allowed name (Some Smash) h = tt
 
 pub word_rule_allowed : (alphabet : Option Alphabet) (piece : Piece) → IsAllowedPiece piece → IsAllowedWordRule (word_rule alphabet piece)
 word_rule_allowed alphabet Space h = word_space_allowed
@@ -228,6 +262,7 @@ with_text_allowed : (ends_in_text : Bool) (more : List ℕ) (xs : List Element) 
 with_text_allowed true more [] h k = (h, k)
 with_text_allowed true more (token t a before ∷ xs) h k = (allowed_both before more k.0 h, k.1)
 with_text_allowed true more (space width ∷ xs) h k = (h, k)
+with_text_allowed true more (rectangle e ∷ xs) h k = (h, k)
 with_text_allowed true more (container c a ys ∷ xs) h k = (h, k)
 with_text_allowed true more (pair p a y z ∷ xs) h k = (h, k)
 with_text_allowed true more (triple t a x y z ∷ xs) h k = (h, k)

@@ -3,14 +3,14 @@ use Rattle.std.proofs.Common.{◌≡◌, ℕ, List, true, [], ◌∷◌, Option,
 use Rattle.latex2mathml_elements.specs.Columns.{Columns}
 use Rattle.latex2mathml_tex_grammar.specs.{Atoms.Atom, Delimiters.delimiter_of, Makes.Core, Makes.Scripts, Refusal.MissingDelimiter, Refusal.Refusal, Rows.Row, Rows.Operand, Symbols.Alphabet, Words.Words}
 use Rattle.latex2mathml_tex_grammar.specs.Next.{digits_next, past_space}
-use Rattle.latex2mathml_tex_grammar.specs.Reading.{Outcome, Read, Refused, ReadsRule, rule_gives, rule_refuses, operand_read, operand_refused, core_read, core_refused, core_missing, core_stopped, atoms_read, atoms_refused, words_read, words_refused, units_taken, units_missing, digits_taken, delimiter_taken, delimiter_missing, ReadsOperand, group_operand, group_refused, digit_operand, other_operand, other_refused, no_operand, operand_at_end, operand_stopped, ReadsScripts, scripts_end, mark_taken, script_read, script_refused, mark_refused, ReadsAtom, divider_read, divider_refused, on_empty_row, base_read, base_refused, ReadsAtoms, text_ends, never_ended, atoms_stopped, atoms_end, atom_read, atom_refused, rest_read, change_refused, ReadsWord, word_stands, group_of_words, formula_read, formula_refused, words_in_alphabet, no_word, word_missing, word_at_end, word_stopped, ReadsWords, words_end, words_never_ended, words_stopped, word_read, word_refused, found_taken, found_refused, passed_over, rows_read, rows_refused, ReadsRows, cell_read, cell_refused, ReadsBehindCell, next_cell, next_row, table_ends}
+use Rattle.latex2mathml_tex_grammar.specs.Reading.{Outcome, Read, Refused, ReadsRule, rule_gives, rule_refuses, operand_read, operand_refused, core_read, core_refused, core_missing, core_stopped, atoms_read, atoms_refused, words_read, words_refused, units_taken, units_missing, unit_follows, no_unit_follows, digits_taken, delimiter_taken, delimiter_missing, ReadsOperand, group_operand, group_refused, digit_operand, other_operand, other_refused, no_operand, operand_at_end, operand_stopped, ReadsScripts, scripts_end, mark_taken, script_read, script_refused, mark_refused, ReadsAtom, divider_read, divider_refused, on_empty_row, base_read, base_refused, ReadsAtoms, text_ends, never_ended, atoms_stopped, atoms_end, atom_read, atom_refused, rest_read, change_refused, ReadsWord, word_stands, group_of_words, formula_read, formula_refused, words_in_alphabet, no_word, word_missing, word_at_end, word_stopped, ReadsWords, words_end, words_never_ended, words_stopped, word_read, word_refused, found_taken, found_refused, passed_over, rows_read, rows_refused, ReadsRows, cell_read, cell_refused, ReadsBehindCell, next_cell, next_row, table_ends, rows_to_end, text_ends_table}
 use Rattle.latex2mathml_tex_grammar.specs.Rules.{Context, Ending, Rule, TableEnd, InCell}
 use Rattle.latex2mathml_tex_grammar.specs.Spacing.{Standing, InWords, standing_behind, AreAlike, both_end, same_piece}
 use Rattle.latex2mathml_tex_grammar.specs.Starts.{is_close}
 use Rattle.latex2mathml_tex_grammar.specs.Units.{Piece, Space, Open, Close, Command, Character, Unit, unit, Units, End, Next}
-use Rattle.latex2mathml_tex_grammar.proofs.AlikeRules.{AlikeEndings, both_braces, both_dollars, same_ends, same_start, unended_too, never_ended_too, inside, WordsStand, before_words, within_words, AlikeRules, gives_too, refuses_too, operand_too, core_too, atoms_too, words_too, if_too, digits_taken_too, delimiter_too, rules_too, delimiter_tests, both_cells, cell_ends, left_too, scanned_too, passed_too, rows_too}
-use Rattle.latex2mathml_tex_grammar.proofs.Plain.{has_end, change_start_plain, divider_plain, digit_start_plain, group_start_plain, step_plain}
-use Rattle.latex2mathml_tex_grammar.proofs.Spaces.{Front, next_stays, both_next, both_ended, both_stopped, fronts, fronts_of_words, next_too, end_too, stop_too, refused_too, same_step, IsCalm, in_dollars, behind_plain, taken_too, missing_too, digits_too, IsPlain}
+use Rattle.latex2mathml_tex_grammar.proofs.AlikeRules.{AlikeEndings, both_braces, both_dollars, same_ends, same_start, unended_too, never_ended_too, inside, WordsStand, before_words, within_words, AlikeRules, gives_too, refuses_too, operand_too, core_too, atoms_too, words_too, if_too, follows_too, digits_taken_too, delimiter_too, rules_too, delimiter_tests, both_cells, cell_ends, left_too, scanned_too, passed_too, rows_too}
+use Rattle.latex2mathml_tex_grammar.proofs.Plain.{change_start_plain, divider_plain, digit_start_plain, group_start_plain, step_plain}
+use Rattle.latex2mathml_tex_grammar.proofs.Spaces.{Front, next_stays, both_next, both_ended, both_stopped, fronts, fronts_of_words, looks_too, next_too, end_too, stop_too, refused_too, same_step, IsCalm, in_dollars, behind_plain, taken_too, missing_too, digits_too, IsPlain}
 use Rattle.latex2mathml_elements.specs.Element.{Element}
 use Rattle.latex2mathml_tex_grammar.specs.{Scanning.BeforeRow, Tables.Lines}
 use Rattle.latex2mathml_tex_grammar.proofs.{Scans.found_too, Scans.refused_too as found_refused_too, Scans.past_too, Scans.past_break_too}
@@ -50,7 +50,7 @@ abbrev EndsInCell : Units → Type 0
 EndsInCell l = (m : Units) (u : Unit) → past_space l ≡ Next u m → IsPlain u.piece
 
 left_ends : {end : TableEnd} {place : ℕ} {c : Context} {row other : Row} {l n : Units} → ReadsAtoms (InCell end place) c row l (Read other n) → EndsInCell n
-left_ends {end} {place} (text_ends p s) m v q = absurd (has_end end place s)
+left_ends (text_ends p s) m v q = cc
 left_ends {end} {place} (atoms_end {l = l} {m = k} {u = u} p s) m v q = (let stays : past_space (Next u k) ≡ Next u k = next_stays l u k p in let same : u ≡ v = cc in subst (λ u. IsPlain u.piece) same (cell_ends end place u.piece s))
 left_ends (atom_read p s d ds) m v q = left_ends ds m v q
 left_ends (rest_read p s t r d) m v q = left_ends d m v q
@@ -63,10 +63,11 @@ mutual
   cell_behind_ends (next_cell p s d) ended = rows_end d
   cell_behind_ends (next_row p s d) ended = rows_end d
   cell_behind_ends (table_ends p s) ended = ended
+  cell_behind_ends (text_ends_table p) ended = ended
 
 mutual
   -- Where units stand in a formula all is carried over, to rules that are alike.
-  carry_rule : {at before : Standing} {r s : Rule} {l m : Units} {o : Outcome Core} → ReadsRule r l o → AlikeRules at before r s → IsCalm at → AreAlike before l m → Carried at (ReadsRule s m) o
+  pub carry_rule : {at before : Standing} {r s : Rule} {l m : Units} {o : Outcome Core} → ReadsRule r l o → AlikeRules at before r s → IsCalm at → AreAlike before l m → Carried at (ReadsRule s m) o
   carry_rule {m = m} rule_gives gives_too calm h = also_read m h rule_gives
   carry_rule rule_refuses (refuses_too e) calm h = also_refused _ e rule_refuses
   carry_rule (operand_read {x = x} d ds) (operand_too {q = q} same) calm h =
@@ -91,6 +92,8 @@ mutual
   carry_rule (units_taken {tests = tests} {texts = texts} p d) (if_too plain same other) calm h =
       let taken = taken_too tests plain calm h p in also (carry_rule d (same texts) calm taken.alike) (λ p. units_taken taken.is)
   carry_rule (units_missing {tests = tests} p d) (if_too plain same other) calm h = also (carry_rule d other calm h) (λ q. units_missing (missing_too tests plain calm h p))
+  carry_rule (unit_follows {test = test} p d) (follows_too same other) calm h = also (carry_rule d same calm h) (λ q. unit_follows (sym (looks_too test h) ∙ p))
+  carry_rule (no_unit_follows {test = test} p d) (follows_too same other) calm h = also (carry_rule d other calm h) (λ q. no_unit_follows (sym (looks_too test h) ∙ p))
   carry_rule {m = m} (digits_taken {l = l} d) (digits_taken_too {g = g} same) calm h =
       let digits = digits_too calm h in
       also (carry_rule d (same (digits_next l).0) calm digits.alike) (λ p e. digits_taken (subst (λ t. ReadsRule (g t) (digits_next m).1 p) digits.texts e))
@@ -106,6 +109,10 @@ mutual
       let next = next_too alike p in
       let plain = behind_plain u.piece (rows_end d _ u p) calm next.alike in
       also (carry_rule ds (same lines u.place next.place) calm plain) (λ p. rows_read e next.is)
+  carry_rule (rows_to_end {at = end} {lines = lines} d p ds) (rows_too {q = q} same) calm h =
+      let (n, alike, e) = read_is (carry_rows q d calm (past_too BeforeRow calm h)) in
+      let (other, there) = end_too alike p in
+      also (carry_rule ds (same lines end other) calm both_end) (λ p. rows_to_end e there)
   carry_rule (rows_refused d) (rows_too {q = q} same) calm h = (let (r, kind, e) = refused_is (carry_rows q d calm (past_too BeforeRow calm h)) in also_refused r kind (rows_refused e))
 
   -- the places of what takes it are nothing
@@ -202,6 +209,7 @@ mutual
       let next = next_too h p in
       also (carry_rows other d calm (past_break_too calm (behind_plain u.piece (ended _ u p) calm next.alike))) (λ p. next_row next.is s)
   carry_behind_cell {m = m} other ended (table_ends p s) calm h = (let next = next_too h p in also_read m h (table_ends next.is s))
+  carry_behind_cell {m = m} other ended (text_ends_table p) calm h = also_read m h (text_ends_table (end_too h p).1)
 
   -- one part of words, which is all of those before which it stands
   carry_word : {before at : Standing} {place : ℕ} {a : Option Alphabet} {ws : Words} {l m : Units} {o : Outcome Words} (other : ℕ) → ReadsWord place a ws l o → WordsStand before at → Front before l m → Carried at (ReadsWord other a ws m) o

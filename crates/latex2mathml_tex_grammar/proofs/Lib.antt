@@ -13,8 +13,10 @@ pub mod Balanced
 pub mod Carrying
 pub mod Choices
 pub mod DefinitionTexts
+pub mod DefinitionsOnce
 pub mod Expanded
 pub mod Expanding
+pub mod Following
 pub mod OneList
 pub mod Plain
 pub mod Readings

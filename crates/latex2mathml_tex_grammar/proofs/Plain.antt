@@ -7,8 +7,8 @@ use Rattle.latex2mathml_tex_grammar.specs.Delimiters.{delimiter_characters, deli
 use Rattle.latex2mathml_tex_grammar.specs.{Rules.a_character, Rules.a_digit}
 use Rattle.latex2mathml_tex_grammar.specs.Spacing.{takes_words}
 use Rattle.latex2mathml_tex_grammar.specs.Meaning.{Change, Changes, Meaning}
-use Rattle.latex2mathml_tex_grammar.specs.Starts.{unended, change_meant, change_by, ChangeStart, Mark, Prime, Below, Above, LimitsAt, Step, atom_start, DividerStart, start_of_mark, OperandStart, DigitStart, GroupStart, NoStart, operand_start, is_no_operand, is_open, start_of_digit, mark_of, step_of_mark, is_command}
-use Rattle.latex2mathml_tex_grammar.specs.{Makes.Scripts, Rules.Ending, Rules.WholeText, Rules.InBraces, Rules.InBrackets, Rules.InDollars, Rules.InDelimiters, Rules.InCell, Rules.TableEnd, Rules.ByName, Rules.ByBrace}
+use Rattle.latex2mathml_tex_grammar.specs.Starts.{change_meant, change_by, ChangeStart, Mark, Prime, Below, Above, LimitsAt, Step, atom_start, DividerStart, start_of_mark, OperandStart, DigitStart, GroupStart, NoStart, operand_start, is_no_operand, is_open, start_of_digit, mark_of, step_of_mark, is_command}
+use Rattle.latex2mathml_tex_grammar.specs.{Makes.Scripts, Rules.Ending, Rules.WholeText, Rules.InBraces, Rules.InBrackets, Rules.InDollars, Rules.InDelimiters, Rules.InCell}
 use Rattle.latex2mathml_tex_grammar.specs.Units.{Piece, Space, Open, Close, Command, Character}
 use Rattle.latex2mathml_tex_grammar.proofs.Spaces.{in_formula, in_dollars, no_dollar, IsPlain, ArePlain, character_plain, digit_plain}
 
@@ -146,11 +146,6 @@ step_plain piece scripts step e = step_of (mark_of piece) refl e
     step_of : (mark : Option Mark) → mark_of piece ≡ mark → step_of_mark scripts mark ≡ Some step → IsPlain piece
     step_of None p e = cc
     step_of (Some mark) p e = mark_plain piece mark p
-
--- a cell does not end with the text
-pub has_end : (end : TableEnd) (place : ℕ) → unended (InCell end place) ≡ None → ⊥
-has_end ByName place e = cc
-has_end ByBrace place e = cc
 
 -- no mark begins a divider, and no change does
 none : (change : Option Change) (mark : Option Mark) → start_of_mark change mark ≡ DividerStart → ⊥

@@ -3,9 +3,9 @@ use Rattle.std.proofs.Common.{◌≡◌, ◌==◌, ◌||◌, ℕ, Bool, true, fa
 use Rattle.std.proofs.{lemmas.Bool.cases_Bool}
 use Rattle.std.specs.{Char.encode_utf8, Str.byte}
 use Rattle.latex2mathml_tex_grammar.specs.{Commands.command_entries, Commands.meaning_of, CommandsFromM.commands_from_m, CommandsUpToL.commands_up_to_l}
-use Rattle.latex2mathml_tex_grammar.specs.Meaning.{Meaning, Shows, FunctionName, Spacing, Styled, Words as TakesWordsIn, Fraction, Root, Accent, Brace, Stack, StackedRelation, OperatorName, Negation, Slash, Sized, Left, Middle, Right, Limits, NoLimits, Classed, Changes, BeginTable, EndTable, LineBreak, Substack}
+use Rattle.latex2mathml_tex_grammar.specs.Meaning.{Meaning, Shows, FunctionName, Dots, Spacing, Styled, Words as TakesWordsIn, Fraction, Root, Accent, Brace, Stack, StackedRelation, OperatorName, Negation, Slash, Sized, Left, Middle, Right, Limits, NoLimits, Classed, Changes, BeginTable, EndTable, LineBreak, Substack, Skip, SkipInBraces, Boxed, Smash}
 use Rattle.latex2mathml_tex_grammar.specs.Refusal.{UnknownColumn, Refusal}
-use Rattle.latex2mathml_tex_grammar.specs.Scanning.{Name, ColumnList, Number, Spot, BeforeArgument, InArgument, BeforeGap, InGap, BeforeWidth, InWidth, BeforeBrace, BeforePosition, InPosition, BehindPosition, BeforeStar, BehindStar, BeforeLength, InLength, BehindSign, InNumber, BehindLetter, BehindLength, BeforeRow, Deed, Passes, Adds, Ends, Leaves, Misses, Refuses, deed, done, is_spacing, is_line, may_end, found_at_end, with_character, Found, Given, Missing, scan, behind_found, past, past_break}
+use Rattle.latex2mathml_tex_grammar.specs.Scanning.{Name, ColumnList, Number, Spot, BeforeArgument, InArgument, BeforeGap, InGap, BeforeWidth, InWidth, BeforeBrace, BeforePosition, InPosition, BehindPosition, BeforeStar, BehindStar, BeforeLength, BeforeLengthInBraces, InLength, BehindSign, InNumber, InDecimals, BehindLetter, BehindLength, AtBracket, AtBrace, AtUnit, BeforeRow, Deed, Passes, Adds, Ends, Leaves, Misses, Refuses, deed, done, is_spacing, is_line, may_end, found_at_end, with_character, Found, Given, Missing, scan, behind_found, past, past_break}
 use Rattle.latex2mathml_tex_grammar.specs.Spacing.{Standing, standing_behind, takes_words, AreAlike, both_end, both_stop, same_piece, space_before, space_behind}
 use Rattle.latex2mathml_tex_grammar.specs.Units.{Piece, Space, Open, Close, Command, Character, Unit, Units, Next}
 use Rattle.latex2mathml_tex_grammar.proofs.{OneList.is_byte, Plain.TakesNone, Plain.takes_none, Plain.open_plain, Plain.close_plain, Plain.is_named}
@@ -38,11 +38,15 @@ no_dollar_taken BehindPosition = refl
 no_dollar_taken BeforeStar = refl
 no_dollar_taken BehindStar = refl
 no_dollar_taken BeforeLength = refl
-no_dollar_taken InLength = refl
-no_dollar_taken BehindSign = refl
-no_dollar_taken InNumber = refl
-no_dollar_taken (BehindLetter first) = refl
-no_dollar_taken BehindLength = refl
+no_dollar_taken BeforeLengthInBraces = refl
+no_dollar_taken (InLength end) = refl
+no_dollar_taken (BehindSign end) = refl
+no_dollar_taken (InNumber end) = refl
+no_dollar_taken (InDecimals end n) = refl
+no_dollar_taken (BehindLetter end first) = refl
+no_dollar_taken (BehindLength AtBracket) = refl
+no_dollar_taken (BehindLength AtBrace) = refl
+no_dollar_taken (BehindLength AtUnit) = refl
 no_dollar_taken BeforeRow = refl
 
 character_taken : (spot : Spot) (c : ℕ) → takes (deed spot (Character c)) ≡ true → IsPlain (Character c)
@@ -58,6 +62,7 @@ spaces_take_none (Some (Spacing width)) h = refl
 spaces_take_none None h = cc
 spaces_take_none (Some (Shows s)) h = cc
 spaces_take_none (Some (FunctionName limits name)) h = cc
+spaces_take_none (Some Dots) h = cc
 spaces_take_none (Some (Styled alphabet)) h = cc
 spaces_take_none (Some (TakesWordsIn alphabet)) h = cc
 spaces_take_none (Some (Fraction rule own)) h = cc
@@ -81,6 +86,10 @@ spaces_take_none (Some BeginTable) h = cc
 spaces_take_none (Some EndTable) h = cc
 spaces_take_none (Some LineBreak) h = cc
 spaces_take_none (Some Substack) h = cc
+spaces_take_none (Some Skip) h = cc
+spaces_take_none (Some SkipInBraces) h = cc
+spaces_take_none (Some (Boxed box)) h = cc
+spaces_take_none (Some Smash) h = cc
 
 hline_plain : TakesNone (codes "hline")
 unfolding meaning_of command_entries commands_up_to_l commands_from_m
@@ -138,11 +147,15 @@ command_taken BehindPosition name h = cc
 command_taken BeforeStar name h = cc
 command_taken BehindStar name h = cc
 command_taken BeforeLength name h = cc
-command_taken InLength name h = cc
-command_taken BehindSign name h = cc
-command_taken InNumber name h = cc
-command_taken (BehindLetter first) name h = cc
-command_taken BehindLength name h = cc
+command_taken BeforeLengthInBraces name h = cc
+command_taken (InLength end) name h = cc
+command_taken (BehindSign end) name h = cc
+command_taken (InNumber end) name h = cc
+command_taken (InDecimals end n) name h = cc
+command_taken (BehindLetter end first) name h = cc
+command_taken (BehindLength AtBracket) name h = cc
+command_taken (BehindLength AtBrace) name h = cc
+command_taken (BehindLength AtUnit) name h = cc
 
 taken_plain : (spot : Spot) (piece : Piece) → takes (deed spot piece) ≡ true → IsPlain piece
 taken_plain spot Space h = λ at calm. refl

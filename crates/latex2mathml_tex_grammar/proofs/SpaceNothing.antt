@@ -1,13 +1,14 @@
 -- White space between the units of a formula is nothing.
-use Rattle.std.proofs.Common.{◌≡◌, ℕ, List, refl, sym, subst, ◌∙◌}
+use Rattle.std.proofs.Common.{◌≡◌, ℕ, List, refl, sym, subst, ◌∙◌, IsTrue, IsFalse}
 use Rattle.latex2mathml_tex_grammar.specs.{Expansion.Stands, Expansion.role_of, ExpansionLaws.AllStand, Formulas.IsExpansion, Formulas.IsReading, Formulas.IsRefusal, Formulas.formula_context, Laws.HaveAlikeExpansions, Laws.IsSpaceNothing, Laws.StandsByItself, Macros.Table, Refusal.Refusal, Rows.Row, Rows.empty_row, Symbols.Style}
-use Rattle.latex2mathml_tex_grammar.specs.Reading.{Outcome, Read, Refused, ReadsAtoms}
-use Rattle.latex2mathml_tex_grammar.specs.Rules.{Context, WholeText}
+use Rattle.latex2mathml_tex_grammar.specs.Reading.{Outcome, Read, Refused, ReadsAtoms, ReadsRule}
+use Rattle.latex2mathml_tex_grammar.specs.Rules.{Context, WholeText, rows_of_text}
 use Rattle.latex2mathml_tex_grammar.specs.Spacing.{Standing, InFormula, standing_behind, AreAlike, both_end, both_stop, same_piece, space_before, space_behind, Alike, AreAlikeOutcomes, HaveAlikeUnits}
 use Rattle.latex2mathml_tex_grammar.specs.Units.{Units, Next, End, Stop, HasUnits}
-use Rattle.latex2mathml_tex_grammar.proofs.{AlikeRules.both_whole}
+use Rattle.latex2mathml_tex_grammar.proofs.{AlikeRules.both_whole, Expanded.own, OneList.units_are, Readings.expanded_are, Readings.formula_to_the_end, Spaces.in_formula, Unique.one_atoms, AlikeRules.rows_too, AlikeRules.gives_too, Carrying.carry_rule}
 use Rattle.latex2mathml_tex_grammar.proofs.Carrying.{Carried, also_read, also_refused, carry_atoms}
-use Rattle.latex2mathml_tex_grammar.proofs.{Expanded.own, OneList.units_are, Readings.expanded_are, Readings.to_the_end, Spaces.in_formula, Unique.one_atoms}
+use Rattle.latex2mathml_tex_grammar.specs.Formulas.{ReadsFormula, as_atoms, as_rows, alone, asks_for_rows, is_outside}
+use Rattle.latex2mathml_tex_grammar.specs.Makes.{Core}
 
 carried : {c : Context} {row : Row} {l m : Units} {o : Outcome Row} → Alike l m → ReadsAtoms WholeText c row l o → Carried InFormula (ReadsAtoms WholeText c row m) o
 carried h d = carry_atoms InFormula d both_whole in_formula h
@@ -33,12 +34,27 @@ alike_outcomes p (also_refused {r = r} q e d) one = subst (AreAlikeOutcomes (Ref
 with_units : {macros : Table} {text : List ℕ} {l m : Units} (P : Units → Type 0) → IsExpansion macros text l → IsExpansion macros text m → P l → P m
 with_units P h k p = subst P (sym (expanded_are h) ∙ expanded_are k) p
 
-reading_there : {macros : Table} {text : List ℕ} {style : Style} {row : Row} {end : ℕ} {m : Units} → IsExpansion macros text m → Carried InFormula (ReadsAtoms WholeText (formula_context style) empty_row m) (Read row (End end)) → IsReading macros text style row
+-- and so are formulas
+
+atoms_there : {style : Style} {m : Units} {o : Outcome Row} → IsFalse (asks_for_rows o) → Carried InFormula (ReadsAtoms WholeText (formula_context style) empty_row m) o → Carried InFormula (ReadsFormula style m) o
+atoms_there s (also_read n h d) = also_read n h (as_atoms d s)
+atoms_there s (also_refused q e d) = also_refused q e (as_atoms d (subst (λ k. IsFalse (is_outside k)) e s))
+
+rows_there : {style : Style} {m : Units} {o : Outcome Row} {p : Outcome Core} → IsTrue (asks_for_rows o) → Carried InFormula (ReadsAtoms WholeText (formula_context style) empty_row m) o → Carried InFormula (ReadsRule (rows_of_text (formula_context style)) m) p → Carried InFormula (ReadsFormula style m) (alone style p)
+rows_there s (also_read n h d) rows = cc s
+rows_there s (also_refused q e d) (also_read n h t) = also_read n h (as_rows d (subst (λ k. IsTrue (is_outside k)) e s) t)
+rows_there s (also_refused q e d) (also_refused r f t) = also_refused r f (as_rows d (subst (λ k. IsTrue (is_outside k)) e s) t)
+
+carried_formula : {style : Style} {l m : Units} {o : Outcome Row} → Alike l m → ReadsFormula style l o → Carried InFormula (ReadsFormula style m) o
+carried_formula h (as_atoms d s) = atoms_there s (carried h d)
+carried_formula h (as_rows d s t) = rows_there s (carried h d) (carry_rule t (rows_too (λ lines at other. gives_too)) in_formula h)
+
+reading_there : {macros : Table} {text : List ℕ} {style : Style} {row : Row} {end : ℕ} {m : Units} → IsExpansion macros text m → Carried InFormula (ReadsFormula style m) (Read row (End end)) → IsReading macros text style row
 unfolding IsReading
 reading_there {style = style} {row = row} {m = m} has (also_read n h d) =
-    let (other, e) = to_the_end d in (m, has, (other, subst (λ k. ReadsAtoms WholeText (formula_context style) empty_row m (Read row k)) e d))
+    let (other, e) = formula_to_the_end d in (m, has, (other, subst (λ k. ReadsFormula style m (Read row k)) e d))
 
-refusal_there : {macros : Table} {text : List ℕ} {style : Style} {r : Refusal} {m : Units} → IsExpansion macros text m → Carried InFormula (ReadsAtoms WholeText (formula_context style) empty_row m) (Refused r) → (q : Refusal) × (r.kind ≡ q.kind) × IsRefusal macros text style q
+refusal_there : {macros : Table} {text : List ℕ} {style : Style} {r : Refusal} {m : Units} → IsExpansion macros text m → Carried InFormula (ReadsFormula style m) (Refused r) → (q : Refusal) × (r.kind ≡ q.kind) × IsRefusal macros text style q
 unfolding IsRefusal
 refusal_there {m = m} has (also_refused q e d) = (q, e, (m, has, d))
 
@@ -66,8 +82,8 @@ is_space_nothing = record {
   turned = λ l m h. turned h;
   outcomes = λ c row l m o p h d e. alike_outcomes p (carried h d) (λ q k. one_atoms k e);
   readings = λ macros text other style row (l, m, has, there, h) (k, here, (end, d)).
-      reading_there there (carried h (with_units (λ k. ReadsAtoms WholeText (formula_context style) empty_row k (Read row (End end))) here has d));
+      reading_there there (carried_formula h (with_units (λ k. ReadsFormula style k (Read row (End end))) here has d));
   refusals = λ macros text other style r (l, m, has, there, h) (k, here, d).
-      refusal_there there (carried h (with_units (λ k. ReadsAtoms WholeText (formula_context style) empty_row k (Refused r)) here has d));
+      refusal_there there (carried_formula h (with_units (λ k. ReadsFormula style k (Refused r)) here has d));
   expansions = alike_there;
 }

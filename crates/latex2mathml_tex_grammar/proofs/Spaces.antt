@@ -2,7 +2,7 @@
 use Rattle.std.proofs.Common.{◌≡◌, ◌==◌, ℕ, Bool, true, false, inl, inr, List, [], ◌∷◌, ◌++◌, Option, Some, None, refl, sym, ap, subst, ◌∙◌}
 use Rattle.std.specs.{Bool.⊤, Str.byte}
 use Rattle.std.proofs.lemmas.Bool.{cases_Bool}
-use Rattle.latex2mathml_tex_grammar.specs.Next.{is_space_piece, past_space, first_is, first_passes, next_are, digits_next, digits_here, refusal_here}
+use Rattle.latex2mathml_tex_grammar.specs.Next.{is_space_piece, past_space, begins_with, follows, first_is, first_passes, next_are, digits_next, digits_here, refusal_here}
 use Rattle.latex2mathml_tex_grammar.specs.{Makes.Scripts, Refusal.Kind, Refusal.Refusal, Rules.a_digit, Starts.step_next}
 use Rattle.latex2mathml_tex_grammar.specs.Spacing.{Standing, InFormula, InWords, BetweenDollars, standing_behind, is_in_words, AreAlike, both_end, both_stop, same_piece, space_before, space_behind}
 use Rattle.latex2mathml_tex_grammar.specs.Units.{Piece, Space, Open, Close, Command, Character, Unit, unit, Units, Next, End, Stop}
@@ -66,6 +66,15 @@ fronts_of_words (both_stop e) = both_stopped e
 fronts_of_words (space_before w e h) = cc
 fronts_of_words (space_behind w e h) = cc
 fronts_of_words (same_piece {v = v} e h) = with_piece v e (λ w. cc) h
+
+passes_too : {at : Standing} {k n : Units} (test : Piece → Bool) → Front at k n → begins_with test k ≡ begins_with test n
+passes_too test (both_next place s h) = refl
+passes_too test both_ended = refl
+passes_too test (both_stopped e) = refl
+
+-- a unit that passes a test stands next in both, or in neither
+pub looks_too : {at : Standing} {l m : Units} (test : Piece → Bool) → AreAlike at l m → follows test l ≡ follows test m
+looks_too test h = passes_too test (fronts h)
 
 -- a unit that stands next in the one stands next in the other, at a place of its own
 pub record NextToo (at : Standing) (u : Unit) (l m : Units) : Type 0 where

@@ -5,18 +5,18 @@ use Rattle.latex2mathml_elements.specs.Element.{Element}
 use Rattle.std.proofs.lemmas.Bool.{cases_Bool}
 use Rattle.std.specs.Bool.{⊤}
 use Rattle.latex2mathml_tex_grammar.specs.{Atoms.Atom, Rows.Row, Rows.Operand, Rows.empty_row, Rows.row_element, Rows.with_atom, Rows.operand_of, Rows.single, Delimiters.delimiter_of, Laws.HasOneOutcome, Makes.Core, Makes.core, Makes.divider, Makes.Scripts, Makes.no_scripts, Meaning.Beside, Meaning.Change, Tables.Lines, Tables.begun_cell, Tables.a_row, Tables.with_last}
-use Rattle.latex2mathml_tex_grammar.specs.Next.{is_space_piece, past_space, next_are, digits_next, digits_here}
-use Rattle.latex2mathml_tex_grammar.specs.Reading.{Outcome, Read, Refused, ReadsRule, rule_gives, rule_refuses, operand_read, operand_refused, core_read, core_refused, core_missing, core_stopped, atoms_read, atoms_refused, words_read, words_refused, units_taken, units_missing, digits_taken, delimiter_taken, delimiter_missing, ReadsOperand, group_operand, group_refused, digit_operand, other_operand, other_refused, no_operand, operand_at_end, operand_stopped, ReadsScripts, scripts_end, mark_taken, script_read, script_refused, mark_refused, ReadsAtom, divider_read, divider_refused, on_empty_row, base_read, base_refused, ReadsAtoms, text_ends, never_ended, atoms_stopped, atoms_end, atom_read, atom_refused, rest_read, change_refused, ReadsWord, word_stands, group_of_words, formula_read, formula_refused, words_in_alphabet, no_word, word_missing, word_at_end, word_stopped, ReadsWords, words_end, words_never_ended, words_stopped, word_read, word_refused, found_taken, found_refused, passed_over, rows_read, rows_refused, ReadsRows, cell_read, cell_refused, ReadsBehindCell, next_cell, next_row, table_ends}
+use Rattle.latex2mathml_tex_grammar.specs.Next.{follows, is_space_piece, past_space, next_are, digits_next, digits_here}
+use Rattle.latex2mathml_tex_grammar.specs.Reading.{Outcome, Read, Refused, ReadsRule, rule_gives, rule_refuses, operand_read, operand_refused, core_read, core_refused, core_missing, core_stopped, atoms_read, atoms_refused, words_read, words_refused, units_taken, units_missing, unit_follows, no_unit_follows, digits_taken, delimiter_taken, delimiter_missing, ReadsOperand, group_operand, group_refused, digit_operand, other_operand, other_refused, no_operand, operand_at_end, operand_stopped, ReadsScripts, scripts_end, mark_taken, script_read, script_refused, mark_refused, ReadsAtom, divider_read, divider_refused, on_empty_row, base_read, base_refused, ReadsAtoms, text_ends, never_ended, atoms_stopped, atoms_end, atom_read, atom_refused, rest_read, change_refused, ReadsWord, word_stands, group_of_words, formula_read, formula_refused, words_in_alphabet, no_word, word_missing, word_at_end, word_stopped, ReadsWords, words_end, words_never_ended, words_stopped, word_read, word_refused, found_taken, found_refused, passed_over, rows_read, rows_refused, ReadsRows, cell_read, cell_refused, ReadsBehindCell, next_cell, next_row, table_ends, rows_to_end, text_ends_table}
 use Rattle.latex2mathml_tex_grammar.specs.Refusal.{Refusal}
 use Rattle.latex2mathml_tex_grammar.specs.Rests.{Rest, GoesOnIn, NoRest, finished, rest_of}
-use Rattle.latex2mathml_tex_grammar.specs.Rules.{Context, in_context, styled, Ending, WholeText, InBraces, InBrackets, InDollars, InDelimiters, Rule, gives, refuses, reads_operand, reads_core, reads_atoms, reads_words, takes_if, takes_digits, takes_delimiter, rule, a_digit, TableEnd, InCell, takes_found, passes_over, reads_rows}
+use Rattle.latex2mathml_tex_grammar.specs.Rules.{Context, in_context, styled, Ending, WholeText, InBraces, InBrackets, InDollars, InDelimiters, Rule, gives, refuses, reads_operand, reads_core, reads_atoms, reads_words, takes_if, if_follows, takes_digits, takes_delimiter, rule, a_digit, TableEnd, InCell, takes_found, passes_over, reads_rows}
 use Rattle.latex2mathml_tex_grammar.specs.Starts.{Mark, change_by, start_of_mark, is_command, step_of, AtomStart, DividerStart, ScriptStart, RuleStart, ChangeStart, OperandStart, NoStart, GroupStart, DigitStart, OtherStart, atom_start, operand_start, mark_of, Step, GoesOn, TakesOperand, Forbidden, step_of_mark, step_next, empty_base, ends, unended, is_close, left_behind, CellEnd, PartsCells, EndsRow, EndsTable, cell_end}
 use Rattle.latex2mathml_elements.specs.Columns.{Columns}
 use Rattle.latex2mathml_tex_grammar.specs.Scanning.{Spot, BeforeStar, BeforeLength, BeforeRow, Deed, Passes, Adds, Ends, Leaves, Misses, Refuses, deed, done, may_end, found_at_end, with_character, Found, Given, Missing, scan, behind_found, past, past_break}
 use Rattle.latex2mathml_tex_grammar.specs.Symbols.{InText, InScript, Alphabet}
 use Rattle.latex2mathml_tex_grammar.specs.Units.{Piece, Space, Open, Close, Command, Character, Unit, Units, Next, End, Stop}
 use Rattle.latex2mathml_tex_grammar.specs.Words.{Words, no_words, Formula, with_word, WordRule, IsWord, BeginsGroup, EndsGroup, BeginsFormula, TakesWords, NoWord, word_rule}
-use Rattle.latex2mathml_tex_grammar.proofs.{Plain.has_end, Spaces.next_stays, Unique.one_atoms}
+use Rattle.latex2mathml_tex_grammar.proofs.{Spaces.next_stays, Unique.one_atoms}
 
 -- how many units there are
 abbrev size : Units → ℕ
@@ -139,13 +139,16 @@ find_next (test ∷ tests) l = elim (sees l) [
   | sees_stop r p ↦ finds_none (rw p refl)
 ]
 
--- the rows of a table have an outcome, which leaves the unit that ends it, and fewer than k units behind it
+-- the rows of a table have an outcome, which leaves the unit that ends it, and fewer than k units behind it, or the end of
+-- the text
 data RowsCome (reads : Outcome Lines → Type 0) (k : ℕ) : Type 0 where
   rows_come : (lines : Lines) (l m : Units) (u : Unit) → past_space l ≡ Next u m → size m < k → reads (Read lines l) → RowsCome reads k
+  rows_come_to_end : (lines : Lines) (l : Units) (at : ℕ) → past_space l ≡ End at → reads (Read lines l) → RowsCome reads k
   rows_none : (r : Refusal) → reads (Refused r) → RowsCome reads k
 
 with_rows : {P Q : Outcome Lines → Type 0} {j k : ℕ} → RowsCome P j → j ≤ k → ((o : Outcome Lines) → P o → Q o) → RowsCome Q k
 with_rows (rows_come lines l m u p fits d) h f = rows_come lines l m u p (omega arith) (f (Read lines l) d)
+with_rows (rows_come_to_end lines l at p d) h f = rows_come_to_end lines l at p (f (Read lines l) d)
 with_rows (rows_none r d) h f = rows_none r (f (Refused r) d)
 
 -- there is an outcome for fewer than k units
@@ -282,10 +285,14 @@ atoms_total k has ending c row l h = elim (sees l) [
   ]
 ]
 
--- atoms of a cell leave the unit that ends it
-left_in_cell : {end : TableEnd} {place : ℕ} {c : Context} {row other : Row} {l n : Units} → ReadsAtoms (InCell end place) c row l (Read other n) → (u : Unit) × ((m : Units) × (past_space n ≡ Next u m))
-left_in_cell {end} {place} (text_ends p s) = absurd (has_end end place s)
-left_in_cell (atoms_end {l = l} {m = m} {u = u} p s) = (u, (m, next_stays l u m p))
+-- atoms of a cell leave the unit that ends it, or the end of the text
+data LeavesEnd (n : Units) : Type 0 where
+  leaves_unit : (u : Unit) (m : Units) → past_space n ≡ Next u m → LeavesEnd n
+  leaves_end : (at : ℕ) → past_space n ≡ End at → LeavesEnd n
+
+left_in_cell : {end : TableEnd} {place : ℕ} {c : Context} {row other : Row} {l n : Units} → ReadsAtoms (InCell end place) c row l (Read other n) → LeavesEnd n
+left_in_cell (text_ends {at = at} p s) = leaves_end at refl
+left_in_cell (atoms_end {l = l} {m = m} {u = u} p s) = leaves_unit u m (next_stays l u m p)
 left_in_cell (atom_read p s d ds) = left_in_cell ds
 left_in_cell (rest_read p s t r d) = left_in_cell d
 
@@ -306,9 +313,11 @@ size-next l m u p = (let fewer = size-past_space l in let same : size (past_spac
 
 rows_total : (k : ℕ) → HasOutcomes k → (end : TableEnd) (place : ℕ) (columns : Columns) (c : Context) (rows cells : List Element) (l : Units) → size l < suc k → RowsCome (ReadsRows end place columns c rows cells l) (size l)
 rows_total k has end place columns c rows cells l h = elim (atoms_total k has (InCell end place) c (begun_cell columns (length cells)) l h) [
-  | comes_to row n fits d ↦ (let (u, (m, p)) = left_in_cell d in
-      let less = size-next n m u p in
-      with_rows (behind_cell_total k has end place columns c rows cells row.elements n m u p less (omega arith) (cell_end u.piece) refl) fits (λ o. cell_read d))
+  | comes_to row n fits d ↦ elim (left_in_cell d) [
+    | leaves_unit u m p ↦ (let less = size-next n m u p in
+        with_rows (behind_cell_total k has end place columns c rows cells row.elements n m u p less (omega arith) (cell_end u.piece) refl) fits (λ o. cell_read d))
+    | leaves_end at p ↦ rows_come_to_end (with_last rows cells row.elements) n at p (cell_read d (text_ends_table p))
+  ]
   | is_refused r d ↦ rows_none r (cell_refused d)
 ]
 
@@ -348,6 +357,12 @@ after_tests : (l : Units) (tests : List (Piece → Option (List ℕ))) (then : L
 after_tests l tests then otherwise (finds texts m f fits) first second = with_outcome (first texts m fits) fits (λ o. units_taken f)
 after_tests l tests then otherwise (finds_none f) first second = with_outcome second (omega arith) (λ o. units_missing f)
 
+after_look : (l : Units) (test : Piece → Bool) (then otherwise : Rule) → Comes Core (ReadsRule then l) (size l) → Comes Core (ReadsRule otherwise l) (size l) → Comes Core (ReadsRule (if_follows test then otherwise) l) (size l)
+after_look l test then otherwise first second = elim (cases_Bool (follows test l)) [
+  | inl f ↦ with_outcome first (omega arith) (λ o. unit_follows f)
+  | inr f ↦ with_outcome second (omega arith) (λ o. no_unit_follows f)
+]
+
 after_delimiter : (l : Units) (then : List ℕ → Rule) → Finds (delimiter_of ∷ []) l → ((texts : List ℕ) (m : Units) → size m ≤ size l → Comes Core (ReadsRule (then texts) m) (size m)) → Comes Core (ReadsRule (takes_delimiter then) l) (size l)
 after_delimiter l then (finds texts m f fits) first = with_outcome (first texts m fits) fits (λ o. delimiter_taken f)
 after_delimiter l then (finds_none f) first = is_refused _ (delimiter_missing f)
@@ -363,8 +378,9 @@ after_found : (spot : Spot) (place : ℕ) (then : List ℕ → Rule) (l : Units)
 after_found spot place then l (Given text m) e fits follow = with_outcome (follow text m fits) fits (λ o. found_taken e)
 after_found spot place then l (Missing r) e fits follow = is_refused r (found_refused e)
 
-after_rows : {end : TableEnd} {place : ℕ} {columns : Columns} {c : Context} (then : Lines → ℕ → Rule) (l : Units) → RowsCome (ReadsRows end place columns c [] [] (past BeforeRow l)) (size l) → ((lines : Lines) (at : ℕ) (m : Units) → size m < size l → Comes Core (ReadsRule (then lines at) m) (size m)) → Comes Core (ReadsRule (reads_rows end place columns c then) l) (size l)
-after_rows then l (rows_come lines j m u p fits d) follow = with_outcome (follow lines u.place m fits) (omega arith) (λ o. rows_read d p)
+after_rows : {end : TableEnd} {place : ℕ} {columns : Columns} {c : Context} (then : Lines → ℕ → Rule) (l : Units) → RowsCome (ReadsRows end place columns c [] [] (past BeforeRow l)) (size l) → ((lines : Lines) (at : ℕ) (m : Units) → size m ≤ size l → Comes Core (ReadsRule (then lines at) m) (size m)) → Comes Core (ReadsRule (reads_rows end place columns c then) l) (size l)
+after_rows then l (rows_come lines j m u p fits d) follow = with_outcome (follow lines u.place m (omega arith)) (omega arith) (λ o. rows_read d p)
+after_rows then l (rows_come_to_end lines j at p d) follow = with_outcome (follow lines at (End at) (omega arith)) (omega arith) (λ o. rows_to_end d p)
 after_rows then l (rows_none r d) follow = is_refused r (rows_refused d)
 
 rule_total : (k : ℕ) → HasOutcomes k → (r : Rule) (l : Units) → size l < suc k → Comes Core (ReadsRule r l) (size l)
@@ -379,6 +395,7 @@ rule_total k has (reads_words place a then) l h =
     let less = size-past_space l in after (λ ws m. ReadsRule (then ws) m) (word_total k has place a no_words (past_space l) (omega arith)) (omega arith) (λ ws m fits. rule_total k has (then ws) m (omega arith)) (λ ws m o. words_read) (λ r. words_refused)
 rule_total k has (takes_if tests then otherwise) l h =
     after_tests l tests then otherwise (find_next tests l) (λ texts m fits. rule_total k has (then texts) m (omega arith)) (rule_total k has otherwise l h)
+rule_total k has (if_follows test then otherwise) l h = after_look l test then otherwise (rule_total k has then l h) (rule_total k has otherwise l h)
 rule_total k has (takes_digits then) l h =
     let less = size-digits_next l in with_outcome (rule_total k has (then (digits_next l).0) (digits_next l).1 (omega arith)) (omega arith) (λ o. digits_taken)
 rule_total k has (takes_found spot place then) l h =
@@ -414,6 +431,10 @@ outcomes (suc k) = record {
 found_outcome : {A : Type 0} {reads : Outcome A → Type 0} {k : ℕ} → Comes A reads k → (o : Outcome A) × reads o
 found_outcome (comes_to x m fits d) = (Read x m, d)
 found_outcome (is_refused r d) = (Refused r, d)
+
+-- a rule has one
+pub rule_outcome : (r : Rule) (l : Units) → (o : Outcome Core) × ReadsRule r l o
+rule_outcome r l = found_outcome ((outcomes (suc (size l))).of_rule r l (omega arith))
 
 -- the law
 pub has_one_outcome : (ending : Ending) (c : Context) (row : Row) (l : Units) → HasOneOutcome ending c row l

@@ -3,7 +3,7 @@ use Rattle.std.proofs.Common.{◌≡◌, ℕ, Bool, true, false, inl, inr, List,
 use Rattle.std.proofs.lemmas.Bool.{cases_Bool}
 use Rattle.std.specs.Str.{byte, bytes_eq}
 use Rattle.latex2mathml_tex_grammar.specs.{Commands.command_entries, Commands.meaning_of, CommandsFromM.commands_from_m, CommandsUpToL.commands_up_to_l}
-use Rattle.latex2mathml_tex_grammar.specs.Meaning.{Meaning, Shows, FunctionName, Spacing, Styled, Words as TakesWordsIn, Fraction, Root, Accent, Brace, Stack, StackedRelation, OperatorName, Negation, Slash, Sized, Left, Middle, Right, Limits, NoLimits, Classed, Changes, BeginTable, EndTable, LineBreak, Substack}
+use Rattle.latex2mathml_tex_grammar.specs.Meaning.{Meaning, Shows, FunctionName, Dots, Spacing, Styled, Words as TakesWordsIn, Fraction, Root, Accent, Brace, Stack, StackedRelation, OperatorName, Negation, Slash, Sized, Left, Middle, Right, Limits, NoLimits, Classed, Changes, BeginTable, EndTable, LineBreak, Substack, Skip, SkipInBraces, Boxed, Smash}
 use Rattle.latex2mathml_tex_grammar.specs.{Next.is_space_piece, Refusal.Kind, Symbols.Alphabet}
 use Rattle.latex2mathml_tex_grammar.specs.Spacing.{Standing, BeforeWords, InWords, BetweenDollars, standing_behind, is_in_words, takes_words}
 use Rattle.latex2mathml_tex_grammar.specs.Units.{Piece, Space, Open, Close, Command, Character}
@@ -70,6 +70,7 @@ by_meaning : (name : List ℕ) (meaning : Option Meaning) → meaning_of name �
 by_meaning name None e = no_word_here
 by_meaning name (Some (Shows s)) e = a_word (command_ends name (rw e refl))
 by_meaning name (Some (FunctionName limits own)) e = no_word_here
+by_meaning name (Some Dots) e = a_word (command_ends name (rw e refl))
 by_meaning name (Some (Spacing width)) e = a_word (command_ends name (rw e refl))
 by_meaning name (Some (Styled alphabet)) e = no_word_here
 by_meaning name (Some (TakesWordsIn alphabet)) e = more_words (rw e refl)
@@ -94,6 +95,10 @@ by_meaning name (Some BeginTable) e = no_word_here
 by_meaning name (Some EndTable) e = no_word_here
 by_meaning name (Some LineBreak) e = no_word_here
 by_meaning name (Some Substack) e = no_word_here
+by_meaning name (Some Skip) e = no_word_here
+by_meaning name (Some SkipInBraces) e = no_word_here
+by_meaning name (Some (Boxed box)) e = no_word_here
+by_meaning name (Some Smash) e = no_word_here
 
 -- one or the other
 either : {piece : Piece} {r s : WordRule} (b : Bool) → (b ≡ true → InAWord piece r) → (b ≡ false → InAWord piece s) → InAWord piece (if b then r else s)

@@ -1,10 +1,10 @@
 -- The commands from those that begin with m, in the order of their names' bytes. A name is its bytes, without the
 -- backslash; a character is its code point, and stands after its line as well.
 use Rattle.std.specs.Prelude.{ℕ, pos, negsuc, List, [], ◌∷◌, Some, None, codes}
-use Rattle.latex2mathml_tex_grammar.specs.Meaning.{Meaning, Shows, FunctionName, Spacing, Styled, Words, Fraction, Root, Accent, Brace, Stack, StackedRelation, OperatorName, Negation, Slash, Middle, Right, NoLimits, Classed, Changes, ToAlphabet, ToStyle, Divides, words_apart, LineBreak, Substack}
+use Rattle.latex2mathml_tex_grammar.specs.Meaning.{Meaning, Shows, FunctionName, Spacing, Skip, SkipInBraces, Boxed, Smash, Styled, Words, Fraction, Root, Accent, Brace, Stack, StackedRelation, OperatorName, Negation, Slash, Middle, Right, NoLimits, Classed, Changes, ToAlphabet, ToStyle, Divides, words_apart, LineBreak, Substack}
 use Rattle.latex2mathml_tex_grammar.specs.Symbols.{Letter, UprightLetter, Sign, BigOperator, Integral, Ordinary, Operator, Binary, Relation, Opening, Closing, Punctuation, Inner, Upright, Italic, Bold, BoldItalic, DoubleStruck, Fraktur, Calligraphic, SansSerif, Monospace, InText, InScript}
 use Rattle.latex2mathml_elements.specs.Attributes.{Above, Below, Stretching, Rigid}
-use Rattle.latex2mathml_tex_grammar.specs.Meaning.{Beside, ByStyle, Bar, NoBar}
+use Rattle.latex2mathml_tex_grammar.specs.Meaning.{Phantom, PhantomHeight, OverRight, OverLeft, OverBoth, StrikeTwice, Beside, ByStyle, Bar, NoBar}
 
 unfoldable pub commands_from_m : List (List ℕ × Meaning)
 commands_from_m =
@@ -16,12 +16,14 @@ commands_from_m =
     (codes "mathbf", Styled Bold) ∷
     (codes "mathbin", Classed Binary) ∷
     (codes "mathcal", Styled Calligraphic) ∷
+    (codes "mathclap", Boxed OverBoth) ∷
     (codes "mathclose", Classed Closing) ∷
     (codes "mathds", Styled DoubleStruck) ∷
     (codes "mathellipsis", Shows (Sign Inner 0x2026)) ∷  -- …
     (codes "mathfrak", Styled Fraktur) ∷
     (codes "mathinner", Classed Inner) ∷
     (codes "mathit", Styled Italic) ∷
+    (codes "mathllap", Boxed OverLeft) ∷
     (codes "mathnormal", Styled Italic) ∷
     (codes "mathop", Classed Operator) ∷
     (codes "mathopen", Classed Opening) ∷
@@ -29,6 +31,7 @@ commands_from_m =
     (codes "mathpunct", Classed Punctuation) ∷
     (codes "mathrel", Classed Relation) ∷
     (codes "mathring", Accent Above 0x02DA Rigid) ∷  -- ˚
+    (codes "mathrlap", Boxed OverRight) ∷
     (codes "mathrm", Styled Upright) ∷
     (codes "mathscr", Styled Calligraphic) ∷
     (codes "mathsf", Styled SansSerif) ∷
@@ -45,8 +48,11 @@ commands_from_m =
     (codes "middle", Middle) ∷
     (codes "min", FunctionName ByStyle (codes "min")) ∷
     (codes "mit", Changes (ToAlphabet Italic)) ∷
+    (codes "mkern", Skip) ∷
     (codes "models", Shows (Sign Relation 0x22A8)) ∷  -- ⊨
     (codes "mp", Shows (Sign Binary 0x2213)) ∷  -- ∓
+    (codes "mskip", Skip) ∷
+    (codes "mspace", SkipInBraces) ∷
     (codes "mu", Shows (Letter 0x03BC)) ∷  -- μ
     (codes "multimap", Shows (Sign Relation 0x22B8)) ∷  -- ⊸
     (codes "nLeftarrow", Shows (Sign Relation 0x21CD)) ∷  -- ⇍
@@ -125,6 +131,7 @@ commands_from_m =
     (codes "parallel", Shows (Sign Relation 0x2225)) ∷  -- ∥
     (codes "partial", Shows (Sign Ordinary 0x2202)) ∷  -- ∂
     (codes "perp", Shows (Sign Relation 0x22A5)) ∷  -- ⊥
+    (codes "phantom", Boxed Phantom) ∷
     (codes "phi", Shows (Letter 0x03D5)) ∷  -- ϕ
     (codes "pi", Shows (Letter 0x03C0)) ∷  -- π
     (codes "pitchfork", Shows (Sign Relation 0x22D4)) ∷  -- ⋔
@@ -196,6 +203,7 @@ commands_from_m =
     (codes "smallint", Shows (Integral 0x222B)) ∷  -- ∫
     (codes "smallsetminus", Shows (Sign Binary 0x2216)) ∷  -- ∖
     (codes "smallsmile", Shows (Sign Relation 0x2323)) ∷  -- ⌣
+    (codes "smash", Smash) ∷
     (codes "smile", Shows (Sign Relation 0x2323)) ∷  -- ⌣
     (codes "space", Spacing (pos 6)) ∷
     (codes "spadesuit", Shows (Sign Ordinary 0x2660)) ∷  -- ♠
@@ -316,11 +324,13 @@ commands_from_m =
     (codes "veebar", Shows (Sign Binary 0x22BB)) ∷  -- ⊻
     (codes "venus", Shows (Sign Ordinary 0x2640)) ∷  -- ♀
     (codes "vert", Shows (Sign Ordinary 0x2223)) ∷  -- ∣
+    (codes "vphantom", Boxed PhantomHeight) ∷
     (codes "wedge", Shows (Sign Binary 0x2227)) ∷  -- ∧
     (codes "widecheck", Accent Above 0x02C7 Stretching) ∷  -- ˇ
     (codes "widehat", Accent Above 0x0302 Stretching) ∷
     (codes "widetilde", Accent Above 0x7E Stretching) ∷  -- ~
     (codes "wr", Shows (Sign Binary 0x2240)) ∷  -- ≀
+    (codes "xcancel", Boxed StrikeTwice) ∷
     (codes "xi", Shows (Letter 0x03BE)) ∷  -- ξ
     (codes "yen", Shows (Sign Ordinary 0xA5)) ∷  -- ¥
     (codes "zeta", Shows (Letter 0x03B6)) ∷  -- ζ

@@ -1,10 +1,9 @@
 -- The commands up to those that begin with l, in the order of their names' bytes. A name is its bytes, without the
 -- backslash; a character is its code point, and stands after its line as well.
 use Rattle.std.specs.Prelude.{ℕ, pos, negsuc, List, [], ◌∷◌, Some, None, codes}
-use Rattle.latex2mathml_tex_grammar.specs.Meaning.{Meaning, Shows, FunctionName, Spacing, Styled, Words, Fraction, Accent, Sized, Left, Limits, Changes, ToAlphabet, ToStyle, Divides, words_apart, BeginTable, EndTable, LineBreak}
+use Rattle.latex2mathml_tex_grammar.specs.Meaning.{Meaning, Dots, Shows, FunctionName, Spacing, Styled, Words, Fraction, Accent, Sized, Left, Limits, Changes, ToAlphabet, ToStyle, Divides, words_apart, BeginTable, EndTable, LineBreak, Skip, SkipInBraces, Boxed, PhantomWidth, StrikeUp, StrikeDown, Beside, ByStyle, Bar, NoBar, Braced, Bracketed, Bare, Frame}
 use Rattle.latex2mathml_tex_grammar.specs.Symbols.{Letter, UprightLetter, Sign, BigOperator, Integral, Ordinary, Binary, Relation, Opening, Closing, Punctuation, Inner, Italic, Bold, BoldItalic, DoubleStruck, Fraktur, Calligraphic, InDisplay}
 use Rattle.latex2mathml_elements.specs.Attributes.{Above, Rigid, Big, Bigger, VeryBig, Biggest}
-use Rattle.latex2mathml_tex_grammar.specs.Meaning.{Beside, ByStyle, Bar, NoBar, Braced, Bracketed, Bare}
 
 unfoldable pub commands_up_to_l : List (List ℕ × Meaning)
 commands_up_to_l =
@@ -126,6 +125,7 @@ commands_up_to_l =
     (codes "backslash", Shows (Sign Ordinary 0x5C)) ∷  -- \
     (codes "bar", Accent Above 0xAF Rigid) ∷  -- ¯
     (codes "barwedge", Shows (Sign Binary 0x22BC)) ∷  -- ⊼
+    (codes "bcancel", Boxed StrikeDown) ∷
     (codes "because", Shows (Sign Relation 0x2235)) ∷  -- ∵
     (codes "begin", BeginTable) ∷
     (codes "beta", Shows (Letter 0x03B2)) ∷  -- β
@@ -169,6 +169,7 @@ commands_up_to_l =
     (codes "boxbox", Shows (Sign Relation 0x29C8)) ∷  -- ⧈
     (codes "boxbslash", Shows (Sign Relation 0x29C5)) ∷  -- ⧅
     (codes "boxdot", Shows (Sign Binary 0x22A1)) ∷  -- ⊡
+    (codes "boxed", Boxed Frame) ∷
     (codes "boxminus", Shows (Sign Binary 0x229F)) ∷  -- ⊟
     (codes "boxplus", Shows (Sign Binary 0x229E)) ∷  -- ⊞
     (codes "boxslash", Shows (Sign Relation 0x29C4)) ∷  -- ⧄
@@ -179,6 +180,7 @@ commands_up_to_l =
     (codes "bullet", Shows (Sign Binary 0x2219)) ∷  -- ∙
     (codes "bumpeq", Shows (Sign Relation 0x224F)) ∷  -- ≏
     (codes "cal", Changes (ToAlphabet Calligraphic)) ∷
+    (codes "cancel", Boxed StrikeUp) ∷
     (codes "cap", Shows (Sign Binary 0x2229)) ∷  -- ∩
     (codes "cdot", Shows (Sign Binary 0x22C5)) ∷  -- ⋅
     (codes "cdotp", Shows (Sign Punctuation 0x22C5)) ∷  -- ⋅
@@ -255,6 +257,7 @@ commands_up_to_l =
     (codes "doteq", Shows (Sign Relation 0x2250)) ∷  -- ≐
     (codes "doteqdot", Shows (Sign Relation 0x2251)) ∷  -- ≑
     (codes "dotplus", Shows (Sign Binary 0x2214)) ∷  -- ∔
+    (codes "dots", Dots) ∷
     (codes "doublebarwedge", Shows (Sign Binary 0x2A5E)) ∷  -- ⩞
     (codes "doublecap", Shows (Sign Binary 0x22D2)) ∷  -- ⋒
     (codes "doublecup", Shows (Sign Binary 0x22D3)) ∷  -- ⋓
@@ -319,7 +322,10 @@ commands_up_to_l =
     (codes "hom", FunctionName Beside (codes "hom")) ∷
     (codes "hookleftarrow", Shows (Sign Relation 0x21A9)) ∷  -- ↩
     (codes "hookrightarrow", Shows (Sign Relation 0x21AA)) ∷  -- ↪
+    (codes "hphantom", Boxed PhantomWidth) ∷
+    (codes "hskip", Skip) ∷
     (codes "hslash", Shows (Letter 0x210F)) ∷  -- ℏ
+    (codes "hspace", SkipInBraces) ∷
     (codes "iff", Shows (Sign Relation 0x27FA)) ∷  -- ⟺
     (codes "iiiint", Shows (Integral 0x2A0C)) ∷  -- ⨌
     (codes "iiint", Shows (Integral 0x222D)) ∷  -- ∭
@@ -341,6 +347,7 @@ commands_up_to_l =
     (codes "jupiter", Shows (Sign Ordinary 0x2643)) ∷  -- ♃
     (codes "kappa", Shows (Letter 0x03BA)) ∷  -- κ
     (codes "ker", FunctionName Beside (codes "ker")) ∷
+    (codes "kern", Skip) ∷
     (codes "l", Shows (UprightLetter 0x0142)) ∷  -- ł
     (codes "lVert", Shows (Sign Opening 0x2225)) ∷  -- ∥
     (codes "lambda", Shows (Letter 0x03BB)) ∷  -- λ

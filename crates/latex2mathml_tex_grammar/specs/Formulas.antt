@@ -1,9 +1,9 @@
 -- What a formula is read as: the row of the atoms that its text expands to, or the refusal of it; and what a row is written
 -- as. A text is its characters here.
-use Rattle.std.specs.Prelude.{ℕ, List, None, reverse}
+use Rattle.std.specs.Prelude.{ℕ, Bool, true, false, IsTrue, IsFalse, List, None, reverse}
 use Rattle.latex2mathml_elements.specs.{Element.children, Print.formula_print}
 use Rattle.latex2mathml_tex_grammar.specs.{Expansion.Expands, Expansion.most_units, Expansion.most_uses, Macros.Table}
-use Rattle.latex2mathml_tex_grammar.specs.{Makes.is_display, Reading.Read, Reading.Refused, Reading.ReadsAtoms, Refusal.Refusal, Rows.Row, Rows.empty_row, Rules.Context, Rules.in_context, Rules.WholeText, Symbols.Style}
+use Rattle.latex2mathml_tex_grammar.specs.{Makes.Core, Makes.is_display, Reading.Outcome, Reading.Read, Reading.Refused, Reading.ReadsAtoms, Reading.ReadsRule, Refusal.Kind, Refusal.OutsideTable, Refusal.Refusal, Rests.finished, Rows.Row, Rows.empty_row, Rows.with_atom, Rules.Context, Rules.in_context, Rules.rows_of_text, Rules.WholeText, Symbols.Style}
 use Rattle.latex2mathml_tex_grammar.specs.Units.{Units, End, HasUnits}
 
 -- a formula has no alphabet of its own
@@ -16,15 +16,40 @@ pub record IsExpansion (macros : Table) (text : List ℕ) (expanded : Units) : T
   pub spelled : HasUnits 0 text units
   pub expands : Expands macros most_uses most_units units expanded
 
+-- whether a formula is refused because `&` or `\\` stands outside of all tables
+abbrev pub is_outside : Kind → Bool
+is_outside OutsideTable = true
+is_outside kind = false
+
+abbrev pub asks_for_rows : Outcome Row → Bool
+asks_for_rows (Read row l) = false
+asks_for_rows (Refused r) = is_outside r.kind
+
+-- a row of one atom, which has no scripts
+abbrev pub alone : Style → Outcome Core → Outcome Row
+alone style (Read x l) = Read (finished style (with_atom style empty_row x.atom)) l
+alone style (Refused r) = Refused r
+
+-- What the units of a formula come to: they are atoms, unless `&` or `\\` stands outside of all tables. Then they are read as
+-- if they stood in `aligned`, and whatever they come to as its rows stands.
+pub data ReadsFormula (style : Style) (l : Units) : Outcome Row → Type 0 where
+  as_atoms : {o : Outcome Row}
+      → ReadsAtoms WholeText (formula_context style) empty_row l o
+      → IsFalse (asks_for_rows o)
+      → ReadsFormula style l o
+  as_rows : {o : Outcome Row} {p : Outcome Core}
+      → ReadsAtoms WholeText (formula_context style) empty_row l o
+      → IsTrue (asks_for_rows o)
+      → ReadsRule (rows_of_text (formula_context style)) l p
+      → ReadsFormula style l (alone style p)
+
 -- the row is a reading of the text in this style, where these macros hold
 unfoldable pub IsReading : Table → List ℕ → Style → Row → Type 0
-IsReading macros text style row =
-    (units : Units) × IsExpansion macros text units × ((end : ℕ) × ReadsAtoms WholeText (formula_context style) empty_row units (Read row (End end)))
+IsReading macros text style row = (units : Units) × IsExpansion macros text units × ((end : ℕ) × ReadsFormula style units (Read row (End end)))
 
 -- the text is refused
 unfoldable pub IsRefusal : Table → List ℕ → Style → Refusal → Type 0
-IsRefusal macros text style refusal =
-    (units : Units) × IsExpansion macros text units × ReadsAtoms WholeText (formula_context style) empty_row units (Refused refusal)
+IsRefusal macros text style refusal = (units : Units) × IsExpansion macros text units × ReadsFormula style units (Refused refusal)
 
 -- the markup of a row that a formula is read as
 abbrev pub row_print : Style → Row → List ℕ

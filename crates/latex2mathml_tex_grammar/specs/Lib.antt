@@ -5,9 +5,11 @@ pub mod Commands
 pub mod CommandsFromM
 pub mod CommandsUpToL
 pub mod Cutting
+pub mod DefinitionLaws
 pub mod DefinitionTexts
 pub mod Definitions
 pub mod Delimiters
+pub mod Dots
 pub mod Environments
 pub mod Examples
 pub mod Expanding
@@ -16,6 +18,7 @@ pub mod ExpansionExamples
 pub mod ExpansionLaws
 pub mod Formulas
 pub mod Laws
+pub mod Lengths
 pub mod Macros
 pub mod Makes
 pub mod Meaning

@@ -1,11 +1,12 @@
 -- The atoms of each construct.
 use Rattle.std.specs.Prelude.{ℕ, zero, suc, ◌==◌, ◌||◌, ℤ, Bool, true, false, List, [], ◌∷◌, ◌++◌, map, Option, Some, None, codes, if◌then◌else◌}
 use Rattle.std.specs.{Char.encode_utf8, Str.encode_utf8_all}
-use Rattle.latex2mathml_elements.specs.Attributes.{Attributes, Side, Above, Below, Form, Prefix, Postfix, Stretch, Stretching, Rigid, NoSpace, Narrow, Size, MathStyle, DisplayStyle, TextStyle, ScriptStyle, plain}
-use Rattle.latex2mathml_elements.specs.Element.{Mi, Mn, Mo, Mrow, Msqrt, Mstyle, Mfrac, Mroot, Msub, Msup, Munder, Mover, Msubsup, Munderover, Element, token, space, container, pair, triple, children}
+use Rattle.latex2mathml_elements.specs.Attributes.{Attributes, Side, Above, Below, Form, Prefix, Postfix, Stretch, Stretching, Rigid, NoSpace, Narrow, Size, Boxing, NoWidth, Flat, NoHeight, NoDepth, ByItsWidth, ByHalfItsWidth, Framed, StruckUp, StruckDown, StruckTwice, boxed, MathStyle, DisplayStyle, TextStyle, ScriptStyle, plain}
+use Rattle.latex2mathml_elements.specs.Element.{Mi, Mn, Mo, Mrow, Msqrt, Mstyle, Mpadded, Mphantom, Mfrac, Mroot, Msub, Msup, Munder, Mover, Msubsup, Munderover, Element, token, space, rectangle, container, pair, triple, children}
+use Rattle.latex2mathml_elements.specs.Extents.{wide}
 use Rattle.latex2mathml_tex_grammar.specs.{Alphabets.in_alphabet, Rows.Row, Rows.Operand, Rows.row_element}
 use Rattle.latex2mathml_tex_grammar.specs.Atoms.{Atom, Kind, SignOf, PlusOrMinus, Plain, UprightLetters, FunctionWord, Blank, Divider, atom}
-use Rattle.latex2mathml_tex_grammar.specs.Meaning.{FractionRule, Bar, NoBar, Braced, Bracketed, Bare, LimitPlace, Beside, ByStyle, Movable, Stacked}
+use Rattle.latex2mathml_tex_grammar.specs.Meaning.{FractionRule, Bar, NoBar, Braced, Bracketed, Bare, LimitPlace, Beside, ByStyle, Movable, Stacked, Box, Phantom, PhantomWidth, PhantomHeight, Smashed, WithoutHeight, WithoutDepth, OverRight, OverLeft, OverBoth, Frame, StrikeUp, StrikeDown, StrikeTwice}
 use Rattle.latex2mathml_tex_grammar.specs.Symbols.{Class, Ordinary, Operator, Binary, Relation, Opening, Closing, Punctuation, Inner, Style, InDisplay, InText, InScript, Alphabet, Upright, Symbol, Letter, UprightLetter, Sign, BigOperator, Integral}
 
 -- an atom, and where its limits stand
@@ -97,6 +98,10 @@ function_name limits name = operator limits (atom FunctionWord false (token Mi p
 abbrev pub spacing : ℤ → Atom
 spacing width = atom Blank false (space width)
 
+-- a space of so many thousandths of an em
+abbrev pub blank : ℤ → Atom
+blank width = atom Blank false (rectangle (wide width))
+
 -- a stroke through a token, U+0338; what is no token has none
 abbrev pub struck : Element → Option Element
 struck (token t a sign_text) = Some (token t a (sign_text ++ text 0x0338))
@@ -113,6 +118,34 @@ classed class x = core (atom (Plain class) x.high x.element)
 
 abbrev pub operator_name : LimitPlace → Operand → Core
 operator_name limits x = operator limits (atom FunctionWord x.high x.element)
+
+-- Boxes
+
+abbrev pub around : Boxing → Element → Element
+around boxing x = container Mpadded (boxed boxing) (children (x ∷ []))
+
+abbrev pub unseen : Element → Element
+unseen x = container Mphantom plain (children (x ∷ []))
+
+-- an element in a box. What has no width begins at its place, and is moved to the left from there.
+abbrev pub in_box : Box → Element → Element
+in_box Phantom x = unseen x
+in_box PhantomWidth x = around Flat (unseen x)
+in_box PhantomHeight x = around NoWidth (unseen x)
+in_box Smashed x = around Flat x
+in_box WithoutHeight x = around NoHeight x
+in_box WithoutDepth x = around NoDepth x
+in_box OverRight x = around NoWidth x
+in_box OverLeft x = around NoWidth (around ByItsWidth x)
+in_box OverBoth x = around NoWidth (around ByHalfItsWidth x)
+in_box Frame x = around Framed x
+in_box StrikeUp x = around StruckUp x
+in_box StrikeDown x = around StruckDown x
+in_box StrikeTwice x = around StruckTwice x
+
+-- an operand in a box, which is ordinary
+abbrev pub boxed_atom : Box → Operand → Atom
+boxed_atom box x = atom (Plain Ordinary) x.high (in_box box x.element)
 
 -- Marks above and below
 

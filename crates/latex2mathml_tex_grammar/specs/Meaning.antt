@@ -28,13 +28,42 @@ pub data Change : Type 0 where
   -- all is the lower part of a fraction, and what stands before it the upper one
   Divides : FractionRule → Change
 
+-- what is made of the box of an operand
+pub data Box : Type 0 where
+  -- it is not seen; of its box, all is kept, or its width alone, or its height and depth alone
+  Phantom : Box
+  PhantomWidth : Box
+  PhantomHeight : Box
+  -- it has no height and no depth, no height, no depth
+  Smashed : Box
+  WithoutHeight : Box
+  WithoutDepth : Box
+  -- it has no width, and reaches over what stands to the right of it, to the left, or on both sides
+  OverRight : Box
+  OverLeft : Box
+  OverBoth : Box
+  -- a line around it
+  Frame : Box
+  -- a line through it, from its lower left, from its upper left, or both
+  StrikeUp : Box
+  StrikeDown : Box
+  StrikeTwice : Box
+
 pub data Meaning : Type 0 where
   -- a character
   Shows : Symbol → Meaning
   -- the name of a function, as its bytes
   FunctionName : LimitPlace → List ℕ → Meaning
+  -- dots, in the middle of the line before an operator or a relation, otherwise on the line
+  Dots : Meaning
   -- a space, in eighteenths of an em
   Spacing : ℤ → Meaning
+  -- a space as wide as the length that stands next; .. that stands next in braces
+  Skip : Meaning
+  SkipInBraces : Meaning
+  -- its operand in a box; one without height or depth
+  Boxed : Box → Meaning
+  Smash : Meaning
   -- its operand in an alphabet
   Styled : Alphabet → Meaning
   -- words, which may have an alphabet

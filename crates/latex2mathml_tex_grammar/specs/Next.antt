@@ -13,6 +13,16 @@ past_space (Next u us) = if is_space_piece u.piece then past_space us else Next 
 past_space (End place) = End place
 past_space (Stop refusal) = Stop refusal
 
+-- a unit that passes the test stands first
+abbrev pub begins_with : (Piece → Bool) → Units → Bool
+begins_with test (Next u us) = test u.piece
+begins_with test (End place) = false
+begins_with test (Stop refusal) = false
+
+-- .. or stands next
+abbrev pub follows : (Piece → Bool) → Units → Bool
+follows test l = begins_with test (past_space l)
+
 -- the refusal of this kind where these units begin; what is no unit there is refused first
 abbrev pub refusal_here : Kind → Units → Refusal
 refusal_here kind (Next u us) = refusal_at kind u.place

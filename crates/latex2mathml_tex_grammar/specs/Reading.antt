@@ -1,13 +1,13 @@
 -- Reading: what units come to, atoms or a refusal. The table of rules says what each unit begins; the relations here say
 -- how rules are read, and they are the same for every rule. White space in formulas is nothing.
-use Rattle.std.specs.Prelude.{◌≡◌, ℕ, IsTrue, IsFalse, List, [], ◌∷◌, length, Option, Some, None}
+use Rattle.std.specs.Prelude.{◌≡◌, ℕ, Bool, true, false, IsTrue, IsFalse, List, [], ◌∷◌, length, Option, Some, None}
 use Rattle.latex2mathml_elements.specs.{Columns.Columns, Element.Element}
 use Rattle.latex2mathml_tex_grammar.specs.{Atoms.Atom, Delimiters.delimiter_of, Rows.Row, Rows.empty_row, Rows.row_element, Rows.with_atom, Rows.Operand, Rows.operand_of, Rows.single}
 use Rattle.latex2mathml_tex_grammar.specs.Makes.{Core, core, number, divider, Scripts, no_scripts, scripted}
-use Rattle.latex2mathml_tex_grammar.specs.{Meaning.Beside, Meaning.Change, Next.past_space, Next.next_are, Next.digits_next, Next.refusal_here}
+use Rattle.latex2mathml_tex_grammar.specs.{Meaning.Beside, Meaning.Change, Next.past_space, Next.next_are, Next.follows, Next.digits_next, Next.refusal_here}
 use Rattle.latex2mathml_tex_grammar.specs.Refusal.{Kind, MissingArgument, UnclosedBrace, MissingDelimiter, Refusal, refusal_at}
 use Rattle.latex2mathml_tex_grammar.specs.Rests.{GoesOnIn, NoRest, finished, rest_of}
-use Rattle.latex2mathml_tex_grammar.specs.Rules.{Context, in_context, styled, Ending, InBraces, InDollars, Rule, gives, refuses, reads_operand, reads_core, reads_atoms, reads_words, takes_if, takes_digits, takes_delimiter, rule, TableEnd, InCell, takes_found, passes_over, reads_rows}
+use Rattle.latex2mathml_tex_grammar.specs.Rules.{Context, in_context, styled, Ending, InBraces, InDollars, Rule, gives, refuses, reads_operand, reads_core, reads_atoms, reads_words, takes_if, if_follows, takes_digits, takes_delimiter, rule, TableEnd, InCell, takes_found, passes_over, reads_rows}
 use Rattle.latex2mathml_tex_grammar.specs.Starts.{DividerStart, ScriptStart, RuleStart, ChangeStart, NoStart, GroupStart, DigitStart, OtherStart, atom_start, operand_start, mark_of, GoesOn, TakesOperand, Forbidden, step_of_mark, step_next, empty_base, ends, unended, is_close, left_behind, PartsCells, EndsRow, EndsTable, cell_end}
 use Rattle.latex2mathml_tex_grammar.specs.Scanning.{Spot, BeforeRow, Given, Missing, scan, past, past_break}
 use Rattle.latex2mathml_tex_grammar.specs.Symbols.{InText, InScript, Alphabet}
@@ -79,6 +79,16 @@ mutual
         → next_are tests l ≡ None
         → ReadsRule otherwise l o
         → ReadsRule (takes_if tests then otherwise) l o
+    -- a unit that passes the test stands next, and the first rule goes on
+    unit_follows : {test : Piece → Bool} {then otherwise : Rule} {l : Units} {o : Outcome Core}
+        → follows test l ≡ true
+        → ReadsRule then l o
+        → ReadsRule (if_follows test then otherwise) l o
+    -- it does not stand next, and the second rule goes on
+    no_unit_follows : {test : Piece → Bool} {then otherwise : Rule} {l : Units} {o : Outcome Core}
+        → follows test l ≡ false
+        → ReadsRule otherwise l o
+        → ReadsRule (if_follows test then otherwise) l o
     -- the digits that stand next are taken
     digits_taken : {then : List ℕ → Rule} {l : Units} {o : Outcome Core}
         → ReadsRule (then (digits_next l).0) (digits_next l).1 o
@@ -108,6 +118,12 @@ mutual
         → ReadsRows end place columns c [] [] (past BeforeRow l) (Read lines m)
         → past_space m ≡ Next u n
         → ReadsRule (then lines u.place) n o
+        → ReadsRule (reads_rows end place columns c then) l o
+    -- .. the end of the text is the end of rows that are a whole text
+    rows_to_end : {end : TableEnd} {place at : ℕ} {columns : Columns} {c : Context} {then : Lines → ℕ → Rule} {l m : Units} {lines : Lines} {o : Outcome Core}
+        → ReadsRows end place columns c [] [] (past BeforeRow l) (Read lines m)
+        → past_space m ≡ End at
+        → ReadsRule (then lines at) (End at) o
         → ReadsRule (reads_rows end place columns c then) l o
     rows_refused : {end : TableEnd} {place : ℕ} {columns : Columns} {c : Context} {then : Lines → ℕ → Rule} {l : Units} {r : Refusal}
         → ReadsRows end place columns c [] [] (past BeforeRow l) (Refused r)
@@ -206,7 +222,7 @@ mutual
 
   -- what a row comes to with the atoms that stand here, up to their ending, which is taken, unless it ends a cell
   pub data ReadsAtoms : Ending → Context → Row → Units → Outcome Row → Type 0 where
-    -- a formula that is the whole text ends with it
+    -- a formula that is the whole text ends with it, and so do its rows
     text_ends : {ending : Ending} {c : Context} {row : Row} {l : Units} {at : ℕ}
         → past_space l ≡ End at
         → unended ending ≡ None
@@ -277,6 +293,10 @@ mutual
     table_ends : {end : TableEnd} {place : ℕ} {columns : Columns} {c : Context} {rows cells cell : List Element} {l m : Units} {u : Unit}
         → past_space l ≡ Next u m
         → cell_end u.piece ≡ EndsTable
+        → ReadsBehindCell end place columns c rows cells cell l (Read (with_last rows cells cell) l)
+    -- .. and so is that of the text, with which other cells cannot end
+    text_ends_table : {end : TableEnd} {place at : ℕ} {columns : Columns} {c : Context} {rows cells cell : List Element} {l : Units}
+        → past_space l ≡ End at
         → ReadsBehindCell end place columns c rows cells cell l (Read (with_last rows cells cell) l)
 
   -- what words come to with one part after them, in an alphabet, where this place takes it. White space counts.

@@ -25,6 +25,10 @@ pub data Kind : Type 0 where
   -- a second script of one atom
   SecondSubscript : Kind
   SecondSuperscript : Kind
+  -- no length stands where one is to stand
+  MissingLength : Kind
+  -- a length of more than 16384 points
+  LengthTooLarge : Kind
   -- what changes the rest of its group stands where an argument is to stand
   ChangeAsArgument : Kind
   -- a second `\over` or its like in one group

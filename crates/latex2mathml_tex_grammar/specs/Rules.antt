@@ -1,14 +1,15 @@
 -- The rules of formulas: what a unit begins, as one table. A rule says what is read from left to right, and at its end
 -- an atom or a refusal.
-use Rattle.std.specs.Prelude.{ℕ, pos, ◌==◌, ◌||◌, Bool, nat_le, length, true, false, List, [], ◌∷◌, ◌++◌, Option, Some, None, if◌then◌else◌}
+use Rattle.std.specs.Prelude.{ℕ, ℤ, pos, ◌==◌, ◌||◌, Bool, nat_le, length, true, false, List, [], ◌∷◌, ◌++◌, Option, Some, None, if◌then◌else◌}
 use Rattle.std.specs.{Char.is_ascii_alphabetic, Char.is_ascii_digit, Str.byte, Str.bytes_eq}
 use Rattle.latex2mathml_elements.specs.{Attributes.Above, Columns.Columns, Columns.Dense, Columns.Alike, Columns.Listed, Element.Element}
-use Rattle.latex2mathml_tex_grammar.specs.{Atoms.Plain, Atoms.atom, Commands.meaning_of, Commands.symbol_of, Delimiters.negated_of, Rows.Row, Rows.Operand, Rows.as_base, Rows.operand_of, Rows.row_element}
-use Rattle.latex2mathml_tex_grammar.specs.Environments.{Environment, columns_of, environment_of}
-use Rattle.latex2mathml_tex_grammar.specs.Makes.{Core, core, letter, upright_letter, number, relation, symbol, function_name, spacing, group, classed, no_letters, operator_name, accent, brace, stack, fraction, square_root, root, between_delimiters, sized, struck}
-use Rattle.latex2mathml_tex_grammar.specs.Meaning.{Meaning, Shows, FunctionName, Spacing, Styled, Words as TakesWordsIn, Fraction, Root, Accent, Brace, Stack, StackedRelation, OperatorName, Negation, Slash, Sized, Left, Middle, Right, Limits, NoLimits, Classed, Changes, Beside, ByStyle, FractionRule, BeginTable, EndTable, LineBreak, Substack}
-use Rattle.latex2mathml_tex_grammar.specs.Refusal.{UnknownCommand, MissingArgument, ChangeAsArgument, UnopenedBrace, RightWithoutLeft, MiddleWithoutLeft, LimitsWithoutOperator, NothingToNegate, OutsideTable, MisplacedCharacter, Refusal, refusal_at, UnknownEnvironment, EndWithoutBegin, OtherName, TooManyColumns}
-use Rattle.latex2mathml_tex_grammar.specs.Scanning.{Spot, Argument, Name, ColumnList, Number, BeforeArgument, BeforeBrace, BeforePosition}
+use Rattle.latex2mathml_tex_grammar.specs.{Atoms.Plain, Atoms.atom, Commands.meaning_of, Commands.symbol_of, Delimiters.negated_of, Dots.centered_dots, Dots.centers_dots, Dots.low_dots, Rows.Row, Rows.Operand, Rows.as_base, Rows.operand_of, Rows.row_element}
+use Rattle.latex2mathml_tex_grammar.specs.Environments.{Environment, columns_of, environment_of, pairs}
+use Rattle.latex2mathml_tex_grammar.specs.Makes.{Core, core, letter, upright_letter, number, relation, symbol, function_name, spacing, group, classed, no_letters, operator_name, accent, brace, stack, fraction, square_root, root, between_delimiters, sized, struck, blank, boxed_atom}
+use Rattle.latex2mathml_tex_grammar.specs.Meaning.{Meaning, Shows, FunctionName, Dots, Spacing, Styled, Words as TakesWordsIn, Fraction, Root, Accent, Brace, Stack, StackedRelation, OperatorName, Negation, Slash, Sized, Left, Middle, Right, Limits, NoLimits, Classed, Changes, Beside, ByStyle, FractionRule, BeginTable, EndTable, LineBreak, Substack, Skip, SkipInBraces, Box, Smashed, WithoutHeight, WithoutDepth, Boxed, Smash}
+use Rattle.latex2mathml_tex_grammar.specs.Refusal.{UnknownCommand, MissingArgument, ChangeAsArgument, UnopenedBrace, RightWithoutLeft, MiddleWithoutLeft, LimitsWithoutOperator, NothingToNegate, OutsideTable, MisplacedCharacter, Refusal, refusal_at, UnknownEnvironment, EndWithoutBegin, OtherName, TooManyColumns, LengthTooLarge}
+use Rattle.latex2mathml_tex_grammar.specs.Scanning.{Spot, Argument, Name, ColumnList, Number, BeforeArgument, BeforeBrace, BeforePosition, AtUnit, BeforeLengthInBraces, BeforeStar, InLength}
+use Rattle.latex2mathml_tex_grammar.specs.Lengths.{width_of}
 use Rattle.latex2mathml_tex_grammar.specs.Symbols.{Style, InScript, smaller, Alphabet, Upright, Ordinary, Relation, Symbol}
 use Rattle.latex2mathml_tex_grammar.specs.Tables.{Lines, a_table}
 use Rattle.latex2mathml_tex_grammar.specs.Units.{Piece, Space, Open, Close, Command, Character}
@@ -25,10 +26,12 @@ in_context style alphabet = record { style = style; alphabet = alphabet }
 abbrev pub styled : Context → Style → Context
 styled c style = in_context style c.alphabet
 
--- how a table ends: an environment by `\end`, rows in braces, each of one cell, by their brace
+-- how a table ends: an environment by `\end`, rows in braces, each of one cell, by their brace, and rows that are a whole
+-- text with the text
 pub data TableEnd : Type 0 where
   ByName : TableEnd
   ByBrace : TableEnd
+  ByText : TableEnd
 
 -- up to what atoms stand side by side, with the place where it begins
 pub data Ending : Type 0 where
@@ -56,6 +59,8 @@ pub data Rule : Type 0 where
   reads_words : ℕ → Option Alphabet → (Words → Rule) → Rule
   -- where units that pass these tests stand next, they are taken and the first rule follows, otherwise the second
   takes_if : List (Piece → Option (List ℕ)) → (List ℕ → Rule) → Rule → Rule
+  -- where a unit that passes this test stands next, the first rule follows, otherwise the second; the unit is left
+  if_follows : (Piece → Bool) → Rule → Rule → Rule
   -- the longest run of digits is taken
   takes_digits : (List ℕ → Rule) → Rule
   -- a delimiter, which must stand next, is taken
@@ -120,6 +125,10 @@ character_rule c character place =
     else if character == byte "&" then refuses (refusal_at OutsideTable place)
     else if begins_none character then refuses (refusal_at (MisplacedCharacter character) place)
     else a_symbol c character (symbol_of character)
+
+-- dots, where what stands next asks for them
+abbrev pub some_dots : Context → Rule
+some_dots c = if_follows centers_dots (gives (symbol c.alphabet centered_dots)) (gives (symbol c.alphabet low_dots))
 
 -- a fraction, whose parts are smaller
 abbrev pub own_style : Option Style → Style → Style
@@ -195,11 +204,42 @@ abbrev pub a_substack : ℕ → Context → Rule
 a_substack place c =
     takes_found BeforeBrace place (λ brace. reads_rows ByBrace place (Alike Dense) (styled c InScript) (λ lines end. gives (a_table None (Alike Dense) InScript c.style lines)))
 
+-- the rows of a whole text, as those of `aligned`
+abbrev pub rows_of_text : Context → Rule
+rows_of_text c = reads_rows ByText 0 pairs.columns (styled c pairs.style) (λ lines end. gives (a_table pairs.delimiters pairs.columns pairs.style c.style lines))
+
+-- a space as wide as a length says
+abbrev pub wide_rule : ℕ → Option ℤ → Rule
+wide_rule place None = refuses (refusal_at LengthTooLarge place)
+wide_rule place (Some width) = gives (core (blank width))
+
+abbrev pub a_skip : ℕ → Spot → Rule
+a_skip place spot = takes_found spot place (λ text. wide_rule place (width_of text))
+
+-- an operand in a box, where a sign has no space
+abbrev pub a_box : ℕ → Context → Box → Rule
+a_box place c box = of_one place c (λ x. core (boxed_atom box (as_base c.style Ordinary x)))
+
+-- this character in brackets
+abbrev pub in_brackets : ℕ → List (Piece → Option (List ℕ))
+in_brackets c = a_character (byte "[") ∷ a_character c ∷ a_character (byte "]") ∷ []
+
+-- what has no height and no depth: `[t]` says that it is the height alone, and `[b]` the depth
+abbrev pub a_smash : ℕ → Context → Rule
+a_smash place c =
+    takes_if (in_brackets (byte "t")) (λ top. a_box place c WithoutHeight)
+    (takes_if (in_brackets (byte "b")) (λ bottom. a_box place c WithoutDepth) (a_box place c Smashed))
+
 -- the rule of a command with this meaning, at this place
 abbrev pub meaning_rule : ℕ → Context → Meaning → Rule
 meaning_rule place c (Shows s) = gives (symbol c.alphabet s)
 meaning_rule place c (FunctionName limits name) = gives (function_name limits name)
+meaning_rule place c Dots = some_dots c
 meaning_rule place c (Spacing width) = gives (core (spacing width))
+meaning_rule place c Skip = a_skip place (InLength AtUnit)
+meaning_rule place c SkipInBraces = passes_over BeforeStar (a_skip place BeforeLengthInBraces)
+meaning_rule place c (Boxed box) = a_box place c box
+meaning_rule place c Smash = a_smash place c
 meaning_rule place c (Styled alphabet) = of_one place (in_context c.style (Some alphabet)) (λ x. core (group x))
 meaning_rule place c (TakesWordsIn alphabet) = reads_words place alphabet (λ ws. gives (core (words_atom ws)))
 meaning_rule place c (Fraction rule own) = a_fraction place c rule own

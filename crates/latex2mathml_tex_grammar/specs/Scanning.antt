@@ -1,9 +1,9 @@
 -- What is taken unit by unit: the name of an environment, its columns, a length. Each unit has a spot, which says what the
 -- unit does there. White space is nothing.
-use Rattle.std.specs.Prelude.{ℕ, ◌==◌, ◌&&◌, ◌||◌, Bool, true, false, List, [], ◌++◌, Option, Some, if◌then◌else◌, codes}
+use Rattle.std.specs.Prelude.{ℕ, ◌+◌, ◌==◌, ◌&&◌, ◌||◌, Bool, true, false, nat_lt, List, [], ◌++◌, Option, Some, if◌then◌else◌, codes}
 use Rattle.std.specs.{Char.encode_utf8, Char.is_ascii_digit, Str.byte, Str.bytes_eq}
 use Rattle.latex2mathml_tex_grammar.specs.{Commands.meaning_of, Meaning.Meaning, Meaning.Spacing}
-use Rattle.latex2mathml_tex_grammar.specs.Refusal.{Kind, MissingArgument, MissingName, UnknownColumn, Refusal, refusal_at}
+use Rattle.latex2mathml_tex_grammar.specs.Refusal.{Kind, MissingArgument, MissingLength, MissingName, UnknownColumn, Refusal, refusal_at}
 use Rattle.latex2mathml_tex_grammar.specs.Units.{Piece, Space, Open, Close, Command, Character, Unit, Units, Next, End, Stop}
 
 -- what stands in braces behind `\begin` and its like
@@ -14,6 +14,12 @@ pub data Argument : Type 0 where
   ColumnList : Argument
   -- a number, which means nothing here
   Number : Argument
+
+-- what ends a length: a bracket, a brace, or its unit
+pub data LengthEnd : Type 0 where
+  AtBracket : LengthEnd
+  AtBrace : LengthEnd
+  AtUnit : LengthEnd
 
 -- where a unit stands
 pub data Spot : Type 0 where
@@ -35,14 +41,17 @@ pub data Spot : Type 0 where
   -- behind the sign that ends a row: before its star, and behind it
   BeforeStar : Spot
   BehindStar : Spot
-  -- before a length in brackets, behind the bracket, behind a sign, in the number, behind the first letter of a unit of
-  -- length, and behind the second
+  -- before a length in brackets or in braces
   BeforeLength : Spot
-  InLength : Spot
-  BehindSign : Spot
-  InNumber : Spot
-  BehindLetter : ℕ → Spot
-  BehindLength : Spot
+  BeforeLengthInBraces : Spot
+  -- before a length, behind its sign, in its number, behind so many decimals, behind the first letter of its unit, and behind
+  -- the second
+  InLength : LengthEnd → Spot
+  BehindSign : LengthEnd → Spot
+  InNumber : LengthEnd → Spot
+  InDecimals : LengthEnd → ℕ → Spot
+  BehindLetter : LengthEnd → ℕ → Spot
+  BehindLength : LengthEnd → Spot
   -- before a row, where lines may be drawn
   BeforeRow : Spot
 
@@ -123,12 +132,6 @@ brace_deed opened otherwise piece = otherwise
 
 -- Lengths
 
-abbrev pub is_sign : ℕ → Bool
-is_sign c = c == byte "-" || c == byte "+"
-
-abbrev pub is_in_number : ℕ → Bool
-is_in_number c = is_ascii_digit c || c == byte "."
-
 -- the units of length of TeX, and pixels
 abbrev pub is_unit_of_length : ℕ → ℕ → Bool
 is_unit_of_length c d =
@@ -145,6 +148,55 @@ abbrev pub begins_unit_of_length : ℕ → Bool
 begins_unit_of_length c =
     c == byte "b" || c == byte "c" || c == byte "d" || c == byte "e" || c == byte "i" || c == byte "m" || c == byte "p" || c == byte "s"
 
+abbrev pub adds_if : Bool → ℕ → Spot → Deed
+adds_if true c spot = Adds c spot
+adds_if false c spot = Misses
+
+-- a number begins
+abbrev pub number_deed : LengthEnd → ℕ → Deed
+number_deed end c = if is_ascii_digit c then Adds c (InNumber end) else adds_if (c == byte ".") c (InDecimals end 0)
+
+abbrev pub sign_deed : LengthEnd → ℕ → Deed
+sign_deed end c =
+    if c == byte "-" then Adds c (BehindSign end)
+    else if c == byte "+" then Passes (BehindSign end)
+    else number_deed end c
+
+abbrev pub unit_deed : LengthEnd → ℕ → Deed
+unit_deed end c = adds_if (begins_unit_of_length c) c (BehindLetter end c)
+
+-- more decimals make no difference
+abbrev pub most_decimals : ℕ
+most_decimals = 5
+
+abbrev pub decimal_deed : LengthEnd → ℕ → ℕ → Deed
+decimal_deed end n c =
+    if is_ascii_digit c then (if nat_lt n most_decimals then Adds c (InDecimals end (n + 1)) else Passes (InDecimals end n))
+    else unit_deed end c
+
+-- what a character does in a length
+abbrev pub length_deed : Spot → ℕ → Deed
+length_deed (InLength end) c = sign_deed end c
+length_deed (BehindSign end) c = number_deed end c
+length_deed (InNumber end) c =
+    if is_ascii_digit c then Adds c (InNumber end)
+    else if c == byte "." then Adds c (InDecimals end 0)
+    else unit_deed end c
+length_deed (InDecimals end n) c = decimal_deed end n c
+length_deed (BehindLetter end first) c = adds_if (is_unit_of_length first c) c (BehindLength end)
+length_deed spot c = Misses
+
+abbrev pub in_length : Spot → Piece → Deed
+in_length spot (Character c) = length_deed spot c
+in_length spot piece = Misses
+
+-- what a unit does behind a length
+abbrev pub ending_deed : LengthEnd → Piece → Deed
+ending_deed AtBracket (Character c) = ends_if (c == byte "]")
+ending_deed AtBrace Close = Ends
+ending_deed AtUnit piece = Leaves
+ending_deed end piece = Misses
+
 abbrev pub is_position : ℕ → Bool
 is_position c = c == byte "t" || c == byte "b" || c == byte "c"
 
@@ -153,12 +205,7 @@ abbrev pub bracket_deed : Spot → ℕ → Deed
 bracket_deed BeforePosition c = passes_if (c == byte "[") InPosition
 bracket_deed InPosition c = passes_if (is_position c) BehindPosition
 bracket_deed BehindPosition c = ends_if (c == byte "]")
-bracket_deed BeforeLength c = passes_if (c == byte "[") InLength
-bracket_deed InLength c = if is_sign c then Passes BehindSign else passes_if (is_in_number c) InNumber
-bracket_deed BehindSign c = passes_if (is_in_number c) InNumber
-bracket_deed InNumber c = if is_in_number c then Passes InNumber else passes_if (begins_unit_of_length c) (BehindLetter c)
-bracket_deed (BehindLetter first) c = passes_if (is_unit_of_length first c) BehindLength
-bracket_deed BehindLength c = ends_if (c == byte "]")
+bracket_deed BeforeLength c = passes_if (c == byte "[") (InLength AtBracket)
 bracket_deed spot c = Misses
 
 abbrev pub in_brackets : Spot → Piece → Deed
@@ -192,6 +239,13 @@ deed_there BeforeBrace piece = brace_deed Ends Misses piece
 deed_there BeforeStar piece = star_deed piece
 deed_there BehindStar piece = Leaves
 deed_there BeforeRow piece = row_deed piece
+deed_there BeforeLengthInBraces piece = brace_deed (Passes (InLength AtBrace)) Misses piece
+deed_there (InLength end) piece = in_length (InLength end) piece
+deed_there (BehindSign end) piece = in_length (BehindSign end) piece
+deed_there (InNumber end) piece = in_length (InNumber end) piece
+deed_there (InDecimals end n) piece = in_length (InDecimals end n) piece
+deed_there (BehindLetter end first) piece = in_length (BehindLetter end first) piece
+deed_there (BehindLength end) piece = ending_deed end piece
 deed_there spot piece = in_brackets spot piece
 
 abbrev pub deed : Spot → Piece → Deed
@@ -203,12 +257,20 @@ abbrev pub may_end : Spot → Bool
 may_end BeforeStar = true
 may_end BehindStar = true
 may_end BeforeRow = true
+may_end (BehindLength AtUnit) = true
 may_end spot = false
 
 -- why it is refused that what was to be taken does not stand there
 abbrev pub missing : Spot → Kind
 missing (BeforeArgument Name) = MissingName
 missing (InArgument Name) = MissingName
+missing BeforeLengthInBraces = MissingLength
+missing (InLength end) = MissingLength
+missing (BehindSign end) = MissingLength
+missing (InNumber end) = MissingLength
+missing (InDecimals end n) = MissingLength
+missing (BehindLetter end first) = MissingLength
+missing (BehindLength end) = MissingLength
 missing spot = MissingArgument
 
 -- What was taken: a text, as its bytes, and the units behind it; or why it is refused

@@ -5,7 +5,7 @@ use Rattle.latex2mathml_elements.specs.Element.{Element}
 use Rattle.latex2mathml_tex_grammar.specs.{Atoms.Atom, Atoms.Plain, Atoms.atom, Commands.meaning_of, Makes.Scripts, Makes.behind_primes, Rows.row_element, Rules.a_digit}
 use Rattle.latex2mathml_tex_grammar.specs.Meaning.{Change, Changes, Meaning, LimitPlace, Beside, Stacked}
 use Rattle.latex2mathml_tex_grammar.specs.Refusal.{Kind, UnclosedBrace, UnclosedBracket, UnclosedDollar, LeftWithoutRight, LimitsWithoutOperator, SecondSubscript, SecondSuperscript, Refusal, refusal_at, BeginWithoutEnd}
-use Rattle.latex2mathml_tex_grammar.specs.Rules.{Ending, WholeText, InBraces, InBrackets, InDollars, InDelimiters, InCell, ByName, ByBrace}
+use Rattle.latex2mathml_tex_grammar.specs.Rules.{Ending, WholeText, InBraces, InBrackets, InDollars, InDelimiters, InCell, ByName, ByBrace, ByText}
 use Rattle.latex2mathml_tex_grammar.specs.Symbols.{Ordinary}
 use Rattle.latex2mathml_tex_grammar.specs.Units.{Piece, Open, Close, Command, Character, Unit, Units, Next, End, Stop}
 
@@ -45,6 +45,7 @@ ends (InDollars place) piece = is_character (byte "$") piece
 ends (InDelimiters place) piece = is_command (codes "right") piece
 ends (InCell ByName place) piece = is_command (codes "end") piece || is_character (byte "&") piece || is_break piece
 ends (InCell ByBrace place) piece = is_close piece || is_break piece
+ends (InCell ByText place) piece = is_character (byte "&") piece || is_break piece
 
 -- what is left of units behind atoms that they begin with, where m stands behind the ending: what ends a cell says how the
 -- table goes on, and is not taken with the cell
@@ -61,6 +62,7 @@ unended (InDollars place) = Some (refusal_at UnclosedDollar place)
 unended (InDelimiters place) = Some (refusal_at LeftWithoutRight place)
 unended (InCell ByName place) = Some (refusal_at BeginWithoutEnd place)
 unended (InCell ByBrace place) = Some (refusal_at UnclosedBrace place)
+unended (InCell ByText place) = None
 
 -- Atoms and operands begin with a unit
 

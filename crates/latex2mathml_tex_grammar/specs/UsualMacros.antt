@@ -8,30 +8,55 @@ use Rattle.latex2mathml_tex_grammar.specs.Units.{Unit, Units, Next}
 -- the name, how many arguments the macro takes, and the text of its body
 unfoldable pub usual_entries : List (List ℕ × ℕ × List ℕ)
 usual_entries =
+    (codes "-", 0, codes "") ∷
+    (codes "/", 0, codes "") ∷
     (codes "Bbbk", 0, codes "\\mathbb{k}") ∷
+    (codes "Huge", 0, codes "") ∷
+    (codes "LARGE", 0, codes "") ∷
     (codes "LaTeX", 0, codes "\\text{LaTeX}") ∷
+    (codes "Large", 0, codes "") ∷
     (codes "TeX", 0, codes "\\text{TeX}") ∷
+    (codes "allowbreak", 0, codes "") ∷
     (codes "bmod", 0, codes "\\mathbin{\\operatorname{mod}}") ∷
     (codes "bra", 1, codes "\\langle #1|") ∷
     (codes "braket", 1, codes "\\langle #1\\rangle") ∷
+    (codes "centering", 0, codes "") ∷
+    (codes "clap", 1, codes "\\mathclap{\\text{#1}}") ∷
     (codes "coloneq", 0, codes "\\mathrel{:=}") ∷
     (codes "coloneqq", 0, codes "\\mathrel{:=}") ∷
-    (codes "dots", 0, codes "\\ldots") ∷
     (codes "dotsb", 0, codes "\\cdots") ∷
     (codes "dotsc", 0, codes "\\ldots") ∷
     (codes "dotsi", 0, codes "\\cdots") ∷
     (codes "dotsm", 0, codes "\\cdots") ∷
     (codes "dotso", 0, codes "\\ldots") ∷
+    (codes "ensuremath", 1, codes "#1") ∷
+    (codes "fbox", 1, codes "\\boxed{\\text{#1}}") ∷
+    (codes "footnotesize", 0, codes "") ∷
     (codes "hdots", 0, codes "\\ldots") ∷
+    (codes "huge", 0, codes "") ∷
     (codes "iff", 0, codes "\\;\\Longleftrightarrow\\;") ∷
     (codes "impliedby", 0, codes "\\;\\Longleftarrow\\;") ∷
     (codes "implies", 0, codes "\\;\\Longrightarrow\\;") ∷
     (codes "ket", 1, codes "|#1\\rangle") ∷
+    (codes "label", 1, codes "") ∷
+    (codes "large", 0, codes "") ∷
+    (codes "llap", 1, codes "\\mathllap{\\text{#1}}") ∷
+    (codes "mathstrut", 0, codes "\\vphantom{(}") ∷
     (codes "mod", 1, codes "\\quad\\operatorname{mod}\\;#1") ∷
+    (codes "nobreak", 0, codes "") ∷
+    (codes "nonumber", 0, codes "") ∷
+    (codes "normalsize", 0, codes "") ∷
+    (codes "notag", 0, codes "") ∷
     (codes "pmod", 1, codes "\\quad(\\operatorname{mod}\\;#1)") ∷
     (codes "pod", 1, codes "\\quad(#1)") ∷
     (codes "qed", 0, codes "\\square") ∷
+    (codes "relax", 0, codes "") ∷
+    (codes "rlap", 1, codes "\\mathrlap{\\text{#1}}") ∷
+    (codes "scriptsize", 0, codes "") ∷
     (codes "sfrac", 2, codes "#1/#2") ∷
+    (codes "small", 0, codes "") ∷
+    (codes "strut", 0, codes "\\vphantom{(}") ∷
+    (codes "tiny", 0, codes "") ∷
     (codes "varDelta", 0, codes "\\mathit{\\Delta}") ∷
     (codes "varGamma", 0, codes "\\mathit{\\Gamma}") ∷
     (codes "varOmega", 0, codes "\\mathit{\\Omega}") ∷

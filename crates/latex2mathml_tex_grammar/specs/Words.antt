@@ -2,8 +2,8 @@
 use Rattle.std.specs.Prelude.{ℕ, ◌==◌, ◌||◌, Bool, true, false, List, [], ◌∷◌, ◌++◌, Option, Some, None, codes, if◌then◌else◌}
 use Rattle.std.specs.{Str.byte, Str.bytes_eq}
 use Rattle.latex2mathml_elements.specs.{Attributes.plain, Element.Element, Element.Mtext, Element.token}
-use Rattle.latex2mathml_tex_grammar.specs.{Alphabets.in_alphabet, Atoms.Atom, Atoms.Plain, Atoms.atom, Commands.meaning_of, Makes.symbol, Makes.text, Rows.row_element, Rows.single}
-use Rattle.latex2mathml_tex_grammar.specs.Meaning.{Meaning, Shows, Spacing, Words as TakesWordsIn}
+use Rattle.latex2mathml_tex_grammar.specs.{Alphabets.in_alphabet, Atoms.Atom, Atoms.Plain, Atoms.atom, Commands.meaning_of, Dots.low_dots, Makes.symbol, Makes.text, Rows.row_element, Rows.single}
+use Rattle.latex2mathml_tex_grammar.specs.Meaning.{Meaning, Shows, Dots, Spacing, Words as TakesWordsIn}
 use Rattle.latex2mathml_tex_grammar.specs.Refusal.{Kind, CommandInWords, CharacterInWords, UnknownCommand}
 use Rattle.latex2mathml_tex_grammar.specs.Symbols.{Alphabet, Ordinary, InText}
 use Rattle.latex2mathml_tex_grammar.specs.Units.{Piece, Space, Open, Close, Command, Character}
@@ -50,6 +50,7 @@ is_escape name = bytes_eq name (codes "%") || bytes_eq name (codes "_") || bytes
 abbrev pub meaning_rule : List ℕ → Option Meaning → WordRule
 meaning_rule name (Some (Spacing width)) = IsWord word_space
 meaning_rule name (Some (Shows sign)) = IsWord (Formula (single InText (symbol None sign).atom).element)
+meaning_rule name (Some Dots) = IsWord (Formula (single InText (symbol None low_dots).atom).element)
 meaning_rule name (Some (TakesWordsIn alphabet)) = TakesWords alphabet
 meaning_rule name (Some meaning) = NoWord (CommandInWords name)
 meaning_rule name None = NoWord (UnknownCommand name)

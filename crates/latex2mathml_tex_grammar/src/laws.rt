@@ -1,6 +1,6 @@
 //! Laws of the definitions.
 ghost use Rattle.std.specs.Str.{chars};
-ghost use Rattle.latex2mathml_tex_grammar.specs.ExpansionExamples.{AreExpansionExamples};
+ghost use Rattle.latex2mathml_tex_grammar.specs.{DefinitionLaws.HaveOneTableOrRefusal, ExpansionExamples.AreExpansionExamples};
 ghost use Rattle.latex2mathml_tex_grammar.specs.ExpansionLaws.{AddsNothing, AreBetweenBraces, AreExpanded, HaveOneExpansion, HaveOneTable, IsSpacePassed};
 ghost use Rattle.latex2mathml_tex_grammar.specs.{Examples.AreUnitsOfExamples, Laws.AreTablesSorted, Laws.HasOneListOfUnits, Laws.HaveOneOutcome, Laws.HaveOneReading, Laws.AreMacrosTheirNames, Laws.IsSpaceNothing, Laws.ReadingsAreAllowed, SpacingExamples.AreSpacingExamples};
 
@@ -67,9 +67,14 @@ pub fn expansions()
     ensures { AreExpanded }
 {}
 
-/// A text of definitions comes to exactly one table of macros, or to exactly one refusal.
+/// The units of definitions come to exactly one table of macros, or to exactly one refusal.
 pub fn one_table()
     ensures { HaveOneTable }
+{}
+
+/// A text of definitions defines exactly one table of macros, or has exactly one refusal. A text is its characters here.
+pub fn one_table_of_text()
+    ensures { HaveOneTableOrRefusal }
 {}
 
 /// White space behind the word of a definition and before an argument changes nothing.

@@ -1,4 +1,6 @@
+pub mod Files
 pub mod Formulas
 pub mod Lines
 pub mod Reading
 pub mod Refusals
+pub mod Runs

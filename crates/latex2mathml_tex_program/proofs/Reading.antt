@@ -1,6 +1,6 @@
 -- The program as `clap` reads its words, and what its matches ask for.
 use Rattle.std.proofs.Common.{◌≡◌, ◌∙◌, List, [], ◌∷◌, Some, Result, Ok, Err, inl, ap, codes, subst, sym, true}
-use Rattle.std.specs.Prelude.{IfOk, IsErrAnd}
+use Rattle.std.specs.Prelude.{IfOk, IsErrAnd, option_map}
 use Rattle.std.specs.Borrow.{Bor}
 use Rattle.clap.proofs.WalkLemmas.{first_value-rows, one_text-rows}
 use Rattle.clap.specs.Kinds.{Kinds}
@@ -16,7 +16,7 @@ use Rattle.clap.specs.declared.builder.value_parser.ValueParser.{ValueParser}
 use Rattle.clap.specs.declared.error.Error.{Error}
 use Rattle.clap.specs.declared.error.kind.ErrorKind.TheVariants.{OutOfMemory}
 use Rattle.clap.specs.declared.parser.matches.ArgMatches.{ArgMatches}
-use Rattle.latex2mathml_tex_program.specs.Requests.{IsAsked, IsDisplay, IsMany, display_rule, null_rule, program}
+use Rattle.latex2mathml_tex_program.specs.Requests.{IsAsked, IsDisplay, IsMany, definitions_rule, display_rule, null_rule, program}
 use Rattle.latex2mathml_tex_program.specs.declared.request.Request.{Request}
 
 -- memory was wanting
@@ -87,13 +87,30 @@ null_given new long set helped word help is_new is_long is_word is_set is_helped
     (ap rule_of is_long ∙ ap (λ (r : Rule). record r { long = Some word.now }) is_new)
     ∙ ap (λ (t : Text). record (new_rule (codes "null")) { long = Some t; action = Some SetTrue }) is_word
 
+-- `--definitions`
+pub definitions_given : (new long named helped : Arg) (word name help : Bor Text)
+    → rule_of new ≡ new_rule (codes "definitions")
+    → long ≡ record new { long = Some word }
+    → word.now ≡ codes "definitions"
+    → named ≡ record long { val_names = One name }
+    → helped ≡ record named { help = Some help }
+    → rule_of helped ≡ definitions_rule
+definitions_given new long named helped word name help is_new is_long is_word is_named is_helped =
+    ap rule_of is_helped
+    ∙ ap rule_of is_named
+    ∙ ap (λ (r : Rule). record r { value_names = 1 })
+    (ap rule_of is_long ∙ ap (λ (r : Rule). record r { long = Some word.now }) is_new)
+    ∙ ap (λ (t : Text). record (new_rule (codes "definitions")) { long = Some t; value_names = 1 }) is_word
+
 -- the request that the matches hold
 pub asked : (words : List Text) (choice : ValueParser) (matches : ArgMatches) (request : Request)
     → rows_of (found_of matches) ≡ matches_of (program choice) words
     → IsDisplay (first_value (found_of matches) (codes "display")) request.display
     → IsMany (one_text (found_of matches) (codes "null")) request.is_many
+    → option_map (λ name. name.now) request.definitions ≡ first_value (found_of matches) (codes "definitions")
     → IsAsked (matches_of (program choice) words) request
-asked words choice matches request rows is_display is_many = (
+asked words choice matches request rows is_display is_many is_name = (
   subst (λ v. IsDisplay v request.display) (first_value-rows (found_of matches) (codes "display") ∙ ap (first_of (codes "display")) rows) is_display,
   subst (λ v. IsMany v request.is_many) (one_text-rows (found_of matches) (codes "null") ∙ ap (one_of (codes "null")) rows) is_many,
+  is_name ∙ first_value-rows (found_of matches) (codes "definitions") ∙ ap (first_of (codes "definitions")) rows,
 )

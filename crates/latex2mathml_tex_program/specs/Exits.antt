@@ -1,6 +1,6 @@
 -- How the program ends, and what it prints of a run that stopped. The first state of a stream says what is known of it before,
 -- and the second what is known then.
-use Rattle.std.specs.Prelude.{◌≡◌, ℕ, List, Result, Ok, Err}
+use Rattle.std.specs.Prelude.{◌≡◌, ℕ, List, Option, Result, Ok, Err}
 use Rattle.std.specs.Io.KnownBytes.{Keeps}
 use Rattle.latex2mathml.specs.Streams.{CanGoOn, IsStopped, StreamState, Takes}
 use Rattle.latex2mathml.specs.declared.error.{FileFault.TheVariants.Write, WriteCause.WriteCause}
@@ -37,10 +37,10 @@ ExitsWith (Ok _) old new status = (status ≡ done) × IsSilent old new
 ExitsWith (Err fault) old new status =
     (status ≡ stopped) × LinePrinted (fault_line fault) old new
 
--- what serving a request may come to, by what is known of the input, the output and the stream of errors before, and of each of
--- them then
-abbrev pub IsServed : Request → StreamState → StreamState → StreamState → StreamState → StreamState → StreamState → ℕ → Type 0
-IsServed request input_old input_new output_old output_new errors_old errors_new status =
+-- what serving a request may come to, by what is known of the bytes of files, and of the input, the output and the stream of errors
+-- before and then
+abbrev pub IsServed : (List ℕ → Option (List ℕ)) → Request → StreamState → StreamState → StreamState → StreamState → StreamState → StreamState → ℕ → Type 0
+IsServed bytes_of request input_old input_new output_old output_new errors_old errors_new status =
     (result : Result Unit Fault)
-    × IsRun request input_old input_new output_old output_new result
+    × IsRun bytes_of request input_old input_new output_old output_new result
     × ExitsWith result errors_old errors_new status

@@ -1,3 +1,4 @@
+pub mod Definitions
 pub mod Exits
 pub mod Faults
 pub mod Replies

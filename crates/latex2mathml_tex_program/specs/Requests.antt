@@ -1,5 +1,5 @@
 -- What the words of the command line ask for. The first of them is the program's name.
-use Rattle.std.specs.Prelude.{◌≡◌, ◌≢◌, ℕ, Bool, true, false, List, [], ◌∷◌, Option, Some, None, Result, IfOk, codes, map}
+use Rattle.std.specs.Prelude.{◌≡◌, ◌≢◌, ℕ, Bool, true, false, List, [], ◌∷◌, Option, Some, None, Result, IfOk, codes, map, option_map}
 use Rattle.clap.specs.Words.{App, FailsBy, Row, Rule, Text, fault_of, first_of, matches_of, new_app, new_rule, one_of, with_rule}
 use Rattle.clap.specs.Simple.{on_top}
 use Rattle.clap.specs.declared.error.{Error.Error, kind.ErrorKind.ErrorKind}
@@ -32,10 +32,18 @@ null_rule = record (new_rule (codes "null")) {
   action = Some SetTrue;
 }
 
+-- `--definitions FILE`
+abbrev pub definitions_rule : Rule
+definitions_rule = record (new_rule (codes "definitions")) {
+  long = Some (codes "definitions");
+  value_names = 1;
+}
+
 -- the program, as far as its words are read
 abbrev pub program : ValueParser → App
 program choice =
-    with_rule (with_rule (on_top (λ s. record s { has_version = true }) (new_app (codes "tex2mathml"))) (display_rule choice)) null_rule
+    with_rule (with_rule (with_rule (on_top (λ s. record s { has_version = true }) (new_app (codes "tex2mathml")))
+    (display_rule choice)) null_rule) definitions_rule
 
 -- the value of `--display` asks for this style. It is one of two, as the parse has checked.
 abbrev pub IsDisplay : Option Text → DisplayStyle → Type 0
@@ -49,7 +57,10 @@ IsMany (Some text) is_many = (text ≡ codes "true" → is_many ≡ true) × (te
 
 -- what was found of the arguments asks for this
 abbrev pub IsAsked : List Row → Request → Type 0
-IsAsked rows request = IsDisplay (first_of (codes "display") rows) request.display × IsMany (one_of (codes "null") rows) request.is_many
+IsAsked rows request =
+    IsDisplay (first_of (codes "display") rows) request.display
+    × IsMany (one_of (codes "null") rows) request.is_many
+    × (option_map (λ name. name.now) request.definitions ≡ first_of (codes "definitions") rows)
 
 -- The answer to the words: the request, or an error whose kind says what is wrong with them or what else they ask for. Memory
 -- may be wanting in place of anything.

@@ -1,12 +1,13 @@
 -- What a run of the program may come to. The first state of a stream says what is known of it before, and the second what is
 -- known then.
-use Rattle.std.specs.Prelude.{◌≡◌, ℕ, Bool, true, false, List, IfSome, Result, Ok, Err}
+use Rattle.std.specs.Prelude.{◌≡◌, ℕ, Bool, true, false, List, Option, IfSome, Result, Ok, Err}
 use Rattle.std.specs.Io.KnownBytes.{Keeps}
 use Rattle.latex2mathml.specs.{Inputs.IsReadFault, Inputs.IsWholeText}
 use Rattle.latex2mathml.specs.Streams.{CanGoOn, Gives, IsStopped, StreamState, Takes}
-use Rattle.latex2mathml.specs.declared.error.FileFault.TheVariants.{Write}
+use Rattle.latex2mathml.specs.declared.error.FileFault.{FileFault}
 use Rattle.latex2mathml_tex.specs.{Answers.IsRefusal, Answers.style_in, Errors.refusal_of}
-use Rattle.latex2mathml_tex_grammar.specs.{Macros.Table, Refusal.Refusal, Symbols.Style, UsualMacros.usual_macros}
+use Rattle.latex2mathml_tex_grammar.specs.{Macros.Table, Refusal.Refusal, Symbols.Style}
+use Rattle.latex2mathml_tex_program.specs.Definitions.{Hold, IsRefusedFault, IsTextAsked, IsUnreadFault}
 use Rattle.latex2mathml_tex_program.specs.Replies.{AreFormulas, AreReplies, IsLine}
 use Rattle.latex2mathml_tex_program.specs.declared.{fault.Fault.Fault, request.Request.Request}
 use Rattle.latex2mathml_tex_program.specs.declared.fault.Fault.TheVariants.{File, Refused}
@@ -24,28 +25,47 @@ IsMade macros request text product = IsMadeOf macros request.is_many text (style
 abbrev pub IsNotMade : Table → Request → List ℕ → Refusal → Type 0
 IsNotMade macros request text refusal = (request.is_many ≡ false) × IsRefusal macros text (style_in request.display) refusal
 
--- what a run on the bytes read may come to, where the usual macros hold, by what is known of the input then, and of the output before and then
-abbrev pub IsRunOn : List ℕ → Request → StreamState → StreamState → StreamState → Result Unit Fault → Type 0
-IsRunOn bytes request input old new (Ok _) =
-    IsWholeText bytes input
-    × CanGoOn new
-    × ((product : List ℕ) × IsMade usual_macros request bytes product × Takes old new product)
-IsRunOn bytes request input old new (Err (File (Write written cause))) =
-    IsWholeText bytes input
-    × ((product : List ℕ) × IsMade usual_macros request bytes product × IsStopped (Write written cause) product old new)
-IsRunOn bytes request input old new (Err (File fault)) =
-    IsReadFault bytes input fault
-    × CanGoOn new
-    × Keeps old.bytes new.bytes
-IsRunOn bytes request input old new (Err (Refused error)) =
-    IsWholeText bytes input
-    × IfSome (refusal_of error) (IsNotMade usual_macros request bytes)
-    × CanGoOn new
-    × Keeps old.bytes new.bytes
+-- what putting out what is made of a text may come to where these macros hold, by what is known of the output before and then
+abbrev pub IsPut : Table → List ℕ → Request → StreamState → StreamState → Result Unit Fault → Type 0
+IsPut macros text request old new (Ok _) =
+    CanGoOn new × ((product : List ℕ) × IsMade macros request text product × Takes old new product)
+IsPut macros text request old new (Err (File fault)) =
+    (product : List ℕ) × IsMade macros request text product × IsStopped fault product old new
+IsPut macros text request old new (Err (Refused error)) =
+    IfSome (refusal_of error) (IsNotMade macros request text) × CanGoOn new × Keeps old.bytes new.bytes
+IsPut macros text request old new (Err fault) = ⊥
 
--- what a run may come to, by what is known of the input before and after it, and of the output
-abbrev pub IsRun : Request → StreamState → StreamState → StreamState → StreamState → Result Unit Fault → Type 0
-IsRun request input_old input_new output_old output_new result =
-    (bytes : List ℕ)
-    × Gives input_old input_new bytes
-    × IsRunOn bytes request input_new output_old output_new result
+-- what a run may come to, by what is known of the bytes of files, and of the input and the output before and after it
+pub data IsRun (bytes_of : List ℕ → Option (List ℕ)) (request : Request) (input_old input_new output_old output_new : StreamState) (result : Result Unit Fault) : Type 0 where
+  -- the macros hold that the file of definitions defines, or the usual ones where none is asked for
+  converted : (definitions bytes : List ℕ) (macros : Table)
+      → IsTextAsked bytes_of request.definitions definitions
+      → Hold request.definitions definitions macros
+      → Gives input_old input_new bytes
+      → IsWholeText bytes input_new
+      → IsPut macros bytes request output_old output_new result
+      → IsRun bytes_of request input_old input_new output_old output_new result
+  -- so they do, but no text is read of the input: nothing is put out
+  unread : (definitions bytes : List ℕ) (macros : Table) (fault : FileFault)
+      → IsTextAsked bytes_of request.definitions definitions
+      → Hold request.definitions definitions macros
+      → Gives input_old input_new bytes
+      → IsReadFault bytes input_new fault
+      → result ≡ Err (File fault)
+      → output_new ≡ output_old
+      → IsRun bytes_of request input_old input_new output_old output_new result
+  -- no text is read of the file of definitions: nothing is read of the input either, and nothing put out
+  unread_definitions : (fault : Fault)
+      → IsUnreadFault bytes_of request.definitions fault
+      → result ≡ Err fault
+      → input_new ≡ input_old
+      → output_new ≡ output_old
+      → IsRun bytes_of request input_old input_new output_old output_new result
+  -- its text defines no macros: nothing is read or put out either
+  undefined : (definitions : List ℕ) (fault : Fault)
+      → IsTextAsked bytes_of request.definitions definitions
+      → IsRefusedFault request.definitions definitions fault
+      → result ≡ Err fault
+      → input_new ≡ input_old
+      → output_new ≡ output_old
+      → IsRun bytes_of request input_old input_new output_old output_new result

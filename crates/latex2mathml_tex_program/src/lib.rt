@@ -1,11 +1,13 @@
 //! What the program `tex2mathml` does, over any streams.
 #![tactic(auto)]
 
+mod definitions;
 mod fault;
 mod reply;
 mod request;
 mod serving;
 
+pub use definitions::TextFiles;
 pub use fault::Fault;
 pub use reply::{line, replies};
 pub use request::{Request, requested, status_of_error};

@@ -1,7 +1,7 @@
 //! What the arguments ask for.
-ghost use Rattle.std.specs.Prelude.{◌≡◌, codes, map, string_bytes};
-ghost use Rattle.clap.specs.Words.{first_value, found_of, kind_of, one_text};
-ghost use Rattle.latex2mathml_tex_program.specs.Requests.{IsDisplay, IsMany, IsRequested, status_of_kind};
+ghost use Rattle.std.specs.Prelude.{◌≡◌, codes, false, map, string_bytes};
+ghost use Rattle.clap.specs.Words.{first_value, found_of, kind_of, one_text, rule_of};
+ghost use Rattle.latex2mathml_tex_program.specs.Requests.{IsDisplay, IsMany, IsRequested, definitions_rule, null_rule, status_of_kind};
 
 use clap::error::ErrorKind;
 use clap::{Arg, ArgAction, ArgMatches, Command, Error};
@@ -10,11 +10,13 @@ use std::alloc::Global;
 
 /// What the program is asked for.
 #[derive(Debug, Clone, Copy, PartialEq, Eq)]
-pub struct Request {
+pub struct Request<'a> {
     /// Whether the formulas stand in a line of text or on a line of their own.
     pub display: DisplayStyle,
     /// Whether the input holds many formulas, with a NUL after each.
     pub is_many: bool,
+    /// The name of the file of definitions, where the formulas may use the macros that it defines.
+    pub definitions: Option<&'a str>,
 }
 
 /// Returns what the arguments ask for. The first of them is the program's name.
@@ -22,7 +24,7 @@ pub struct Request {
 /// # Errors
 ///
 /// If they are wrong, or ask for the help or the version: the error's text is then what is to be printed.
-pub fn requested(alloc: Global, words: &[String]) -> Result<Request, Error>
+pub fn requested<'a>(alloc: Global, words: &'a [String]) -> Result<Request<'a>, Error>
     ensures { IsRequested (map string_bytes words.now) result }
 {
     let display = Arg::new(alloc, "display")
@@ -31,21 +33,43 @@ pub fn requested(alloc: Global, words: &[String]) -> Result<Request, Error>
         .value_parser(["inline", "block"].as_slice())
         .default_value("inline")
         .help("Whether the formula stands in a line of text or on a line of its own");
-    let null = Arg::new(alloc, "null")
-        .long("null")
-        .action(ArgAction::SetTrue)
-        .help("Read many formulas, with a NUL between them, and end each reply with a NUL");
     let command = Command::new(alloc, "tex2mathml")
         .version("0.3.0")
         .about("Turns a LaTeX formula on standard input into MathML on standard output")
         .override_usage("tex2mathml [OPTIONS]")
         .arg(display)?
-        .arg(null)?;
+        .arg(null_argument(alloc))?
+        .arg(definitions_argument(alloc))?;
     let matches = command.try_get_matches_from(words)?;
     Ok(Request {
         display: display_in(&matches),
         is_many: is_many_in(&matches),
+        definitions: matches.get_str("definitions"),
     })
+}
+
+/// Returns `--null`.
+fn null_argument<'a>(alloc: Global) -> Arg<'a>
+    ensures rule { rule_of result ≡ null_rule }
+    ensures local { result.global ≡ false }
+{
+    Arg::new(alloc, "null")
+        .long("null")
+        .action(ArgAction::SetTrue)
+        .help("Read many formulas, with a NUL between them, and end each reply with a NUL")
+}
+
+/// Returns `--definitions FILE`.
+fn definitions_argument<'a>(alloc: Global) -> Arg<'a>
+    ensures rule { rule_of result ≡ definitions_rule }
+    ensures local { result.global ≡ false }
+{
+    Arg::new(alloc, "definitions")
+        .long("definitions")
+        .value_name("FILE")
+        .help(
+            "A file of LaTeX definitions, such as \\newcommand, whose macros the formulas may use",
+        )
 }
 
 /// Returns the value of `--display`.

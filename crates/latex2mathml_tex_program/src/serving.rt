@@ -3,10 +3,10 @@ ghost use Rattle.std.specs.Prelude.{◌≡◌, ◌++◌, ℕ, [], IfErr, IfOk, I
 ghost use Rattle.std.specs.Io.KnownBytes.{IsAtEnd};
 ghost use Rattle.latex2mathml.specs.Streams.{CanGoOn};
 ghost use Rattle.latex2mathml_tex.specs.{Errors.refusal_of, MacroTables.Holding};
-ghost use Rattle.latex2mathml_tex_grammar.specs.UsualMacros.{usual_macros};
 ghost use Rattle.latex2mathml_tex_program.specs.{Exits.IsServed, Exits.LinePrinted, Faults.fault_line};
-ghost use Rattle.latex2mathml_tex_program.specs.Runs.{IsMade, IsNotMade, IsRun};
+ghost use Rattle.latex2mathml_tex_program.specs.Runs.{IsMade, IsNotMade, IsPut, IsRun};
 
+use crate::definitions::{TextFiles, macros_of, read_definitions};
 use crate::fault::Fault;
 use crate::reply::{line, replies};
 use crate::request::Request;
@@ -20,8 +20,9 @@ const STOPPED: u8 = 1;
 
 /// Does what was asked for, and returns the exit status: 0, or 1 if the run stopped. `errors` then gets a line that says why.
 /// If memory for the line runs out, it is left out. If `errors` does not take the line completely, the status stays 1.
-pub fn serve<R: Source, W: Sink, E: Sink>(
+pub fn serve<F: TextFiles, R: Source, W: Sink, E: Sink>(
     alloc: Global,
+    files: &F,
     request: Request,
     input: &mut R,
     output: &mut W,
@@ -30,12 +31,13 @@ pub fn serve<R: Source, W: Sink, E: Sink>(
     requires input { CanGoOn (R.state input.old) }
     requires output { CanGoOn (W.state output.old) }
     requires errors { CanGoOn (E.state errors.old) }
-    ensures served { IsServed request (R.state input.old) (R.state input.new)
+    ensures served { IsServed (F.bytes_of files.now) request.entry
+        (R.state input.old) (R.state input.new)
         (W.state output.old) (W.state output.new)
         (E.state errors.old) (E.state errors.new) result }
     ensures all_read { IsTrue (R.state input.new).ended → IsAtEnd (R.state input.new).bytes }
 {
-    match run(alloc, request, input, output) {
+    match run(alloc, files, request, input, output) {
         Ok(()) => DONE,
         Err(fault) => {
             put_fault(alloc, errors, &fault);
@@ -45,29 +47,51 @@ pub fn serve<R: Source, W: Sink, E: Sink>(
 }
 
 /// Converts all of the input, and writes the result to the output: the markup of the formula with a line feed, or a reply to
-/// each formula. Neither stream may have failed or ended before the call.
+/// each formula. If definitions are asked for, the macros that they define hold in each formula. Neither stream may have failed
+/// or ended before the call.
 ///
 /// # Errors
 ///
+/// - [`Fault::UnreadDefinitions`] and [`Fault::RefusedDefinition`] if the file of definitions cannot be read, is not UTF-8, or
+///   holds what is no definition. Nothing was read of the input then, and nothing was written.
 /// - [`Fault::File`] if the input failed or is not UTF-8, or if the output stopped. It then took the first bytes of the result.
 /// - [`Fault::Refused`] if the formula is refused, or memory runs out. Nothing was written then.
-pub fn run<R: Source, W: Sink>(
+pub fn run<'a, F: TextFiles, R: Source, W: Sink>(
     alloc: Global,
-    request: Request,
+    files: &F,
+    request: Request<'a>,
     input: &mut R,
     output: &mut W,
-) -> Result<(), Fault>
+) -> Result<(), Fault<'a>>
     requires input { CanGoOn (R.state input.old) }
     requires output { CanGoOn (W.state output.old) }
-    ensures outcome { IsRun request (R.state input.old) (R.state input.new)
+    ensures outcome { IsRun (F.bytes_of files.now) request.entry
+        (R.state input.old) (R.state input.new)
         (W.state output.old) (W.state output.new) result }
     ensures all_read { IsTrue (R.state input.new).ended → IsAtEnd (R.state input.new).bytes }
 {
+    let definitions = read_definitions(alloc, files, request)?;
+    let macros = macros_of(alloc, request, definitions.as_str())?;
     let text = match read_text(alloc, input) {
         Ok(text) => text,
         Err(fault) => return Err(Fault::File(fault)),
     };
-    let product = match product(alloc, request, text.as_str()) {
+    put_product(alloc, macros, request, text.as_str(), output)
+}
+
+/// Writes what is to be put out for a text whose formulas may use these macros.
+fn put_product<'a, 't, W: Sink>(
+    alloc: Global,
+    macros: Macros<'t>,
+    request: Request<'a>,
+    text: &'t str,
+    output: &mut W,
+) -> Result<(), Fault<'a>>
+    requires { CanGoOn (W.state output.old) }
+    ensures put { Holding macros.entry (λ table.
+        IsPut table text.now request.entry (W.state output.old) (W.state output.new) result) }
+{
+    let product = match product(alloc, &macros, request, text) {
         Ok(product) => product,
         Err(error) => return Err(Fault::Refused(error)),
     };
@@ -77,28 +101,17 @@ pub fn run<R: Source, W: Sink>(
     }
 }
 
-/// Returns what is to be put out for a text.
-fn product(alloc: Global, request: Request, text: &str) -> Result<String, TexError>
-    ensures made { IfOk result (λ product.
-        IsMade usual_macros request text.now (string_bytes product)) }
-    ensures refusal { IfErr result (λ error.
-        IfSome (refusal_of error) (IsNotMade usual_macros request text.now)) }
-{
-    let macros = Macros::new(alloc);
-    product_with(alloc, &macros, request, text)
-}
-
 /// Returns what is to be put out for a text whose formulas may use these macros.
-fn product_with<'a>(
+fn product<'a>(
     alloc: Global,
     macros: &Macros<'a>,
     request: Request,
     text: &'a str,
 ) -> Result<String, TexError>
     ensures made { Holding macros.now (λ table. IfOk result (λ product.
-        IsMade table request text.now (string_bytes product))) }
+        IsMade table request.entry text.now (string_bytes product))) }
     ensures refusal { Holding macros.now (λ table. IfErr result (λ error.
-        IfSome (refusal_of error) (IsNotMade table request text.now))) }
+        IfSome (refusal_of error) (IsNotMade table request.entry text.now))) }
 {
     if request.is_many {
         return Ok(replies(alloc, macros, text, request.display)?);

@@ -1,7 +1,9 @@
-//! Tests of `tex_to_mathml`, of a converter and of macros, beside those that the program shows.
+//! Tests of `tex_to_mathml`, of a converter, of macros and of the example callers, beside those that the program shows.
 #![tactic(auto)]
 
 #[cfg(test)]
 mod formulas;
 #[cfg(test)]
 mod macros;
+#[cfg(test)]
+mod pages;

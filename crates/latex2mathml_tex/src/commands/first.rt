@@ -4,7 +4,7 @@ ghost use Rattle.latex2mathml_tex_grammar.specs.CommandsUpToL.{commands_up_to_l}
 ghost use Rattle.latex2mathml_tex.specs.Meanings.{entry_of};
 
 use crate::meaning::{
-    Alphabet, Change, Class, Entry, FractionRule, LimitPlace, Meaning, Style, Symbol,
+    Alphabet, Change, Class, Entry, FractionRule, LimitPlace, Meaning, OperandBox, Style, Symbol,
 };
 use latex2mathml_builder::attributes::{Side, Size, Stretch};
 
@@ -18,7 +18,7 @@ pub(crate) fn entries() -> &'static [Entry]
 
 /// An entry for each command, in the order of their names' bytes.
 #[rattlefmt::skip]
-static ENTRIES: [Entry; 400] = [
+static ENTRIES: [Entry; 408] = [
     Entry { name: " ", meaning: Meaning::Spacing(6) },
     Entry { name: "!", meaning: Meaning::Spacing(-3) },
     Entry { name: "#", meaning: Meaning::Shows(Symbol::Sign(Class::Ordinary, '#')) },
@@ -137,6 +137,7 @@ static ENTRIES: [Entry; 400] = [
     Entry { name: "backslash", meaning: Meaning::Shows(Symbol::Sign(Class::Ordinary, '\\')) },
     Entry { name: "bar", meaning: Meaning::Accent(Side::Above, '¯', Stretch::Rigid) },
     Entry { name: "barwedge", meaning: Meaning::Shows(Symbol::Sign(Class::Binary, '⊼')) },
+    Entry { name: "bcancel", meaning: Meaning::Boxed(OperandBox::StrikeDown) },
     Entry { name: "because", meaning: Meaning::Shows(Symbol::Sign(Class::Relation, '∵')) },
     Entry { name: "begin", meaning: Meaning::BeginTable },
     Entry { name: "beta", meaning: Meaning::Shows(Symbol::Letter('β')) },
@@ -180,6 +181,7 @@ static ENTRIES: [Entry; 400] = [
     Entry { name: "boxbox", meaning: Meaning::Shows(Symbol::Sign(Class::Relation, '⧈')) },
     Entry { name: "boxbslash", meaning: Meaning::Shows(Symbol::Sign(Class::Relation, '⧅')) },
     Entry { name: "boxdot", meaning: Meaning::Shows(Symbol::Sign(Class::Binary, '⊡')) },
+    Entry { name: "boxed", meaning: Meaning::Boxed(OperandBox::Frame) },
     Entry { name: "boxminus", meaning: Meaning::Shows(Symbol::Sign(Class::Binary, '⊟')) },
     Entry { name: "boxplus", meaning: Meaning::Shows(Symbol::Sign(Class::Binary, '⊞')) },
     Entry { name: "boxslash", meaning: Meaning::Shows(Symbol::Sign(Class::Relation, '⧄')) },
@@ -190,6 +192,7 @@ static ENTRIES: [Entry; 400] = [
     Entry { name: "bullet", meaning: Meaning::Shows(Symbol::Sign(Class::Binary, '∙')) },
     Entry { name: "bumpeq", meaning: Meaning::Shows(Symbol::Sign(Class::Relation, '≏')) },
     Entry { name: "cal", meaning: Meaning::Changes(Change::ToAlphabet(Alphabet::Calligraphic)) },
+    Entry { name: "cancel", meaning: Meaning::Boxed(OperandBox::StrikeUp) },
     Entry { name: "cap", meaning: Meaning::Shows(Symbol::Sign(Class::Binary, '∩')) },
     Entry { name: "cdot", meaning: Meaning::Shows(Symbol::Sign(Class::Binary, '⋅')) },
     Entry { name: "cdotp", meaning: Meaning::Shows(Symbol::Sign(Class::Punctuation, '⋅')) },
@@ -266,6 +269,7 @@ static ENTRIES: [Entry; 400] = [
     Entry { name: "doteq", meaning: Meaning::Shows(Symbol::Sign(Class::Relation, '≐')) },
     Entry { name: "doteqdot", meaning: Meaning::Shows(Symbol::Sign(Class::Relation, '≑')) },
     Entry { name: "dotplus", meaning: Meaning::Shows(Symbol::Sign(Class::Binary, '∔')) },
+    Entry { name: "dots", meaning: Meaning::Dots },
     Entry { name: "doublebarwedge", meaning: Meaning::Shows(Symbol::Sign(Class::Binary, '⩞')) },
     Entry { name: "doublecap", meaning: Meaning::Shows(Symbol::Sign(Class::Binary, '⋒')) },
     Entry { name: "doublecup", meaning: Meaning::Shows(Symbol::Sign(Class::Binary, '⋓')) },
@@ -330,7 +334,10 @@ static ENTRIES: [Entry; 400] = [
     Entry { name: "hom", meaning: Meaning::FunctionName(LimitPlace::Beside, "hom") },
     Entry { name: "hookleftarrow", meaning: Meaning::Shows(Symbol::Sign(Class::Relation, '↩')) },
     Entry { name: "hookrightarrow", meaning: Meaning::Shows(Symbol::Sign(Class::Relation, '↪')) },
+    Entry { name: "hphantom", meaning: Meaning::Boxed(OperandBox::PhantomWidth) },
+    Entry { name: "hskip", meaning: Meaning::Skip },
     Entry { name: "hslash", meaning: Meaning::Shows(Symbol::Letter('ℏ')) },
+    Entry { name: "hspace", meaning: Meaning::SkipInBraces },
     Entry { name: "iff", meaning: Meaning::Shows(Symbol::Sign(Class::Relation, '⟺')) },
     Entry { name: "iiiint", meaning: Meaning::Shows(Symbol::Integral('⨌')) },
     Entry { name: "iiint", meaning: Meaning::Shows(Symbol::Integral('∭')) },
@@ -352,6 +359,7 @@ static ENTRIES: [Entry; 400] = [
     Entry { name: "jupiter", meaning: Meaning::Shows(Symbol::Sign(Class::Ordinary, '♃')) },
     Entry { name: "kappa", meaning: Meaning::Shows(Symbol::Letter('κ')) },
     Entry { name: "ker", meaning: Meaning::FunctionName(LimitPlace::Beside, "ker") },
+    Entry { name: "kern", meaning: Meaning::Skip },
     Entry { name: "l", meaning: Meaning::Shows(Symbol::UprightLetter('ł')) },
     Entry { name: "lVert", meaning: Meaning::Shows(Symbol::Sign(Class::Opening, '∥')) },
     Entry { name: "lambda", meaning: Meaning::Shows(Symbol::Letter('λ')) },

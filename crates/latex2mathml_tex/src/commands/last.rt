@@ -4,7 +4,7 @@ ghost use Rattle.latex2mathml_tex_grammar.specs.CommandsFromM.{commands_from_m};
 ghost use Rattle.latex2mathml_tex.specs.Meanings.{entry_of};
 
 use crate::meaning::{
-    Alphabet, Change, Class, Entry, FractionRule, LimitPlace, Meaning, Style, Symbol,
+    Alphabet, Change, Class, Entry, FractionRule, LimitPlace, Meaning, OperandBox, Style, Symbol,
 };
 use latex2mathml_builder::attributes::{Side, Stretch};
 
@@ -18,7 +18,7 @@ pub(crate) fn entries() -> &'static [Entry]
 
 /// An entry for each command, in the order of their names' bytes.
 #[rattlefmt::skip]
-static ENTRIES: [Entry; 319] = [
+static ENTRIES: [Entry; 329] = [
     Entry { name: "maltese", meaning: Meaning::Shows(Symbol::Sign(Class::Ordinary, '✠')) },
     Entry { name: "mapsto", meaning: Meaning::Shows(Symbol::Sign(Class::Relation, '↦')) },
     Entry { name: "mars", meaning: Meaning::Shows(Symbol::Sign(Class::Ordinary, '♂')) },
@@ -27,12 +27,14 @@ static ENTRIES: [Entry; 319] = [
     Entry { name: "mathbf", meaning: Meaning::Styled(Alphabet::Bold) },
     Entry { name: "mathbin", meaning: Meaning::Classed(Class::Binary) },
     Entry { name: "mathcal", meaning: Meaning::Styled(Alphabet::Calligraphic) },
+    Entry { name: "mathclap", meaning: Meaning::Boxed(OperandBox::OverBoth) },
     Entry { name: "mathclose", meaning: Meaning::Classed(Class::Closing) },
     Entry { name: "mathds", meaning: Meaning::Styled(Alphabet::DoubleStruck) },
     Entry { name: "mathellipsis", meaning: Meaning::Shows(Symbol::Sign(Class::Inner, '…')) },
     Entry { name: "mathfrak", meaning: Meaning::Styled(Alphabet::Fraktur) },
     Entry { name: "mathinner", meaning: Meaning::Classed(Class::Inner) },
     Entry { name: "mathit", meaning: Meaning::Styled(Alphabet::Italic) },
+    Entry { name: "mathllap", meaning: Meaning::Boxed(OperandBox::OverLeft) },
     Entry { name: "mathnormal", meaning: Meaning::Styled(Alphabet::Italic) },
     Entry { name: "mathop", meaning: Meaning::Classed(Class::Operator) },
     Entry { name: "mathopen", meaning: Meaning::Classed(Class::Opening) },
@@ -40,6 +42,7 @@ static ENTRIES: [Entry; 319] = [
     Entry { name: "mathpunct", meaning: Meaning::Classed(Class::Punctuation) },
     Entry { name: "mathrel", meaning: Meaning::Classed(Class::Relation) },
     Entry { name: "mathring", meaning: Meaning::Accent(Side::Above, '˚', Stretch::Rigid) },
+    Entry { name: "mathrlap", meaning: Meaning::Boxed(OperandBox::OverRight) },
     Entry { name: "mathrm", meaning: Meaning::Styled(Alphabet::Upright) },
     Entry { name: "mathscr", meaning: Meaning::Styled(Alphabet::Calligraphic) },
     Entry { name: "mathsf", meaning: Meaning::Styled(Alphabet::SansSerif) },
@@ -56,8 +59,11 @@ static ENTRIES: [Entry; 319] = [
     Entry { name: "middle", meaning: Meaning::Middle },
     Entry { name: "min", meaning: Meaning::FunctionName(LimitPlace::ByStyle, "min") },
     Entry { name: "mit", meaning: Meaning::Changes(Change::ToAlphabet(Alphabet::Italic)) },
+    Entry { name: "mkern", meaning: Meaning::Skip },
     Entry { name: "models", meaning: Meaning::Shows(Symbol::Sign(Class::Relation, '⊨')) },
     Entry { name: "mp", meaning: Meaning::Shows(Symbol::Sign(Class::Binary, '∓')) },
+    Entry { name: "mskip", meaning: Meaning::Skip },
+    Entry { name: "mspace", meaning: Meaning::SkipInBraces },
     Entry { name: "mu", meaning: Meaning::Shows(Symbol::Letter('μ')) },
     Entry { name: "multimap", meaning: Meaning::Shows(Symbol::Sign(Class::Relation, '⊸')) },
     Entry { name: "nLeftarrow", meaning: Meaning::Shows(Symbol::Sign(Class::Relation, '⇍')) },
@@ -136,6 +142,7 @@ static ENTRIES: [Entry; 319] = [
     Entry { name: "parallel", meaning: Meaning::Shows(Symbol::Sign(Class::Relation, '∥')) },
     Entry { name: "partial", meaning: Meaning::Shows(Symbol::Sign(Class::Ordinary, '∂')) },
     Entry { name: "perp", meaning: Meaning::Shows(Symbol::Sign(Class::Relation, '⊥')) },
+    Entry { name: "phantom", meaning: Meaning::Boxed(OperandBox::Phantom) },
     Entry { name: "phi", meaning: Meaning::Shows(Symbol::Letter('ϕ')) },
     Entry { name: "pi", meaning: Meaning::Shows(Symbol::Letter('π')) },
     Entry { name: "pitchfork", meaning: Meaning::Shows(Symbol::Sign(Class::Relation, '⋔')) },
@@ -207,6 +214,7 @@ static ENTRIES: [Entry; 319] = [
     Entry { name: "smallint", meaning: Meaning::Shows(Symbol::Integral('∫')) },
     Entry { name: "smallsetminus", meaning: Meaning::Shows(Symbol::Sign(Class::Binary, '∖')) },
     Entry { name: "smallsmile", meaning: Meaning::Shows(Symbol::Sign(Class::Relation, '⌣')) },
+    Entry { name: "smash", meaning: Meaning::Smash },
     Entry { name: "smile", meaning: Meaning::Shows(Symbol::Sign(Class::Relation, '⌣')) },
     Entry { name: "space", meaning: Meaning::Spacing(6) },
     Entry { name: "spadesuit", meaning: Meaning::Shows(Symbol::Sign(Class::Ordinary, '♠')) },
@@ -327,11 +335,13 @@ static ENTRIES: [Entry; 319] = [
     Entry { name: "veebar", meaning: Meaning::Shows(Symbol::Sign(Class::Binary, '⊻')) },
     Entry { name: "venus", meaning: Meaning::Shows(Symbol::Sign(Class::Ordinary, '♀')) },
     Entry { name: "vert", meaning: Meaning::Shows(Symbol::Sign(Class::Ordinary, '∣')) },
+    Entry { name: "vphantom", meaning: Meaning::Boxed(OperandBox::PhantomHeight) },
     Entry { name: "wedge", meaning: Meaning::Shows(Symbol::Sign(Class::Binary, '∧')) },
     Entry { name: "widecheck", meaning: Meaning::Accent(Side::Above, 'ˇ', Stretch::Stretching) },
     Entry { name: "widehat", meaning: Meaning::Accent(Side::Above, '\u{302}', Stretch::Stretching) },
     Entry { name: "widetilde", meaning: Meaning::Accent(Side::Above, '~', Stretch::Stretching) },
     Entry { name: "wr", meaning: Meaning::Shows(Symbol::Sign(Class::Binary, '≀')) },
+    Entry { name: "xcancel", meaning: Meaning::Boxed(OperandBox::StrikeTwice) },
     Entry { name: "xi", meaning: Meaning::Shows(Symbol::Letter('ξ')) },
     Entry { name: "yen", meaning: Meaning::Shows(Symbol::Sign(Class::Ordinary, '¥')) },
     Entry { name: "zeta", meaning: Meaning::Shows(Symbol::Letter('ζ')) },

@@ -11,7 +11,7 @@ use crate::macros::scope::Scope;
 use std::alloc::Global;
 use std::collections::BTreeMap;
 
-/// The macros that a formula may use: the usual ones of LaTeX, such as `\dots` and `\pmod`, and those of a text of definitions.
+/// The macros that a formula may use: the usual ones of LaTeX, such as `\pmod` and `\bra`, and those of a text of definitions.
 ///
 /// A formula may define more, which hold from there to its end.
 #[derive(Drop)]

@@ -4,19 +4,21 @@ ghost use Rattle.latex2mathml_builder.specs.Names.{size_of};
 ghost use Rattle.latex2mathml_tex_grammar.specs.Makes;
 ghost use Rattle.latex2mathml_tex_grammar.specs.{Meaning.Left, Starts.is_no_operand, Units.Command};
 ghost use Rattle.latex2mathml_tex_grammar.specs.Commands;
-ghost use Rattle.latex2mathml_tex_grammar.specs.Rules.{a_negation, a_root, an_operator_name, character_rule, command_rule, gives, meaning_rule, reads_words, takes_delimiter};
+ghost use Rattle.latex2mathml_tex_grammar.specs.Rules.{a_negation, a_root, an_operator_name, character_rule, command_rule, gives, meaning_rule, reads_words, some_dots, takes_delimiter};
 ghost use Rattle.latex2mathml_tex_grammar.specs.{Makes.core, Words.words_atom};
 ghost use Rattle.latex2mathml_tex.specs.{Meanings.alphabet_of, Meanings.class_of, Meanings.meaning_of, Models.context_of, Taking.piece_of};
 ghost use Rattle.latex2mathml_tex.specs.Steps.{AwaitsCore, AwaitsOperand, Begins, BeginsIn, BeginsUnit, CanBegin, HoldsIn, IsStep, LeadsOn, Ready, Took};
 
 use crate::atoms::{Context, Core, Kind, Row, Words};
 use crate::commands;
+use crate::dots::{CENTERED_DOTS, LOW_DOTS};
 use crate::error::TexErrorKind;
 use crate::meaning::{Alphabet, Class, LimitPlace, Meaning, Style};
 use crate::parse::frames::{Ending, First, Frame, Last};
 use crate::parse::leaves::{begin_number, number};
 use crate::parse::symbols::put_letter;
 use crate::parse::{Parser, State};
+use crate::scanning::{LengthEnd, Spot};
 use crate::shapes::put_sized;
 use crate::unit::{Next, Piece, Unit};
 use latex2mathml_builder::attributes::{Attributes, Size};
@@ -188,7 +190,12 @@ impl<'a> Parser<'a> {
         match meaning {
             Meaning::Shows(symbol) => self.symbol(context.alphabet, symbol),
             Meaning::FunctionName(limits, name) => self.function_name(limits, name),
+            Meaning::Dots => self.dots(context),
             Meaning::Spacing(width) => self.space(width),
+            Meaning::Skip => self.skip(Spot::InLength(LengthEnd::AtUnit), place, context),
+            Meaning::SkipInBraces => self.skip_in_braces(place, context),
+            Meaning::Boxed(operand_box) => self.open_box(operand_box, place, context),
+            Meaning::Smash => self.smash(place, context),
             Meaning::Styled(alphabet) => self.open(Frame::Last(
                 Last::Group,
                 place,
@@ -238,6 +245,22 @@ impl<'a> Parser<'a> {
             Meaning::LineBreak => Ok(self.refuse(TexErrorKind::OutsideTable, place)),
             Meaning::Substack => self.begin_substack(place, context),
         }
+    }
+
+    /// Dots, in the middle of the line where what stands next asks for them.
+    fn dots(&mut self, context: Context) -> Result<State, AllocError>
+        requires begin { CanBegin 0 self.old }
+        ensures holds { LeadsOn
+            (BeginsIn context (some_dots (context_of context)) 0)
+            self.old self.new result }
+        ensures step { IsStep 13 self.old self.new result }
+    {
+        let dots = if self.input.centers_dots() {
+            CENTERED_DOTS
+        } else {
+            LOW_DOTS
+        };
+        self.symbol(context.alphabet, dots)
     }
 
     /// A root, and its degree, if one stands next in square brackets.

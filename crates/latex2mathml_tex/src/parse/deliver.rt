@@ -15,7 +15,7 @@ use crate::fractions::put_fraction;
 use crate::meaning::{Class, LimitPlace};
 use crate::parse::frames::{First, Frame, Last};
 use crate::parse::{Parser, State};
-use crate::shapes::{make_base, put_accent, put_brace, put_stack, with_atom};
+use crate::shapes::{make_base, put_accent, put_brace, put_in_box, put_stack, with_atom};
 use latex2mathml_builder::attributes::{Attributes, Side};
 use latex2mathml_builder::tag::{Container, Pair};
 use std::alloc::AllocError;
@@ -141,6 +141,11 @@ impl<'a> Parser<'a> {
             Last::Classed(class, style) => {
                 make_base(&mut self.builder, style, class, operand.class);
                 classed(class, operand)
+            }
+            Last::Boxed(operand_box, style) => {
+                make_base(&mut self.builder, style, Class::Ordinary, operand.class);
+                put_in_box(&mut self.builder, operand_box)?;
+                ordinary(operand.high)
             }
             Last::Fraction(rule, own) => {
                 put_fraction(&mut self.builder, rule, own)?;

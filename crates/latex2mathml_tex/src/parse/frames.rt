@@ -1,5 +1,5 @@
 //! What was begun, and how much of it was read.
-ghost use Rattle.std.specs.Prelude.{◌≡◌, ℕ, ◌∷◌, ◌++◌, [], List, OnOk, if◌then◌else◌, option_map};
+ghost use Rattle.std.specs.Prelude.{◌≡◌, ℕ, ◌∷◌, ◌++◌, [], List, MatchOption, None, OnOk, if◌then◌else◌, option_map};
 ghost use Rattle.latex2mathml_tex_grammar.specs.Starts.{DividerStart, atom_start, change_by, ends, mark_of, start_of_mark};
 ghost use Rattle.latex2mathml_tex_grammar.specs.{Refusal.refusal_at, Starts.unended, Environments.before_cell, Rules.InCell};
 ghost use Rattle.latex2mathml_elements.specs.Columns.{column_at};
@@ -12,7 +12,7 @@ ghost use Rattle.latex2mathml_tex.specs.Taking.{piece_of};
 use crate::atoms::{Before, Context, Core, Row, Scripts, Words};
 use crate::environments::Environment;
 use crate::error::TexErrorKind;
-use crate::meaning::{Alphabet, Class, FractionRule, LimitPlace, Style};
+use crate::meaning::{Alphabet, Class, FractionRule, LimitPlace, OperandBox, Style};
 use crate::unit::Piece;
 use latex2mathml_builder::attributes::{Side, Stretch};
 use latex2mathml_builder::columns::{Column, Columns};
@@ -37,12 +37,22 @@ pub(crate) enum Ending {
     Cell(Table),
 }
 
+/// What a table is, and so how it ends.
+#[derive(Clone, Copy)]
+pub(crate) enum TableKind {
+    /// An environment, up to its `\end`.
+    Environment(&'static Environment),
+    /// Rows in braces, each of one cell, up to their brace.
+    Braces,
+    /// The rows of a whole text.
+    Text,
+}
+
 /// A table of which a cell is read. The elements of the cells before it in its row, and below them those of the rows before
 /// it, are below those of the cell.
 #[derive(Clone, Copy)]
 pub(crate) struct Table {
-    /// The environment that it is. Where it is none, it is rows in braces, each of one cell.
-    pub(crate) environment: Option<&'static Environment>,
+    pub(crate) kind: TableKind,
     pub(crate) columns: Columns,
     /// How many rows stand before the one that is read.
     pub(crate) rows: usize,
@@ -64,6 +74,8 @@ pub(crate) enum Last {
     Slash,
     /// An atom of this class, in this style.
     Classed(Class, Style),
+    /// An ordinary atom in a box, in this style.
+    Boxed(OperandBox, Style),
     /// A denominator; the numerator stands below.
     Fraction(FractionRule, Option<Style>),
     /// A base, in this style; its mark stands below.
@@ -137,29 +149,34 @@ impl Table {
     {
         match piece {
             Piece::Command("\\" | "cr" | "newline") => true,
-            Piece::Command("end") | Piece::Character('&') => self.environment.is_some(),
-            Piece::Close => self.environment.is_none(),
+            Piece::Command("end") => matches!(self.kind, TableKind::Environment(_)),
+            Piece::Character('&') => !matches!(self.kind, TableKind::Braces),
+            Piece::Close => matches!(self.kind, TableKind::Braces),
             _ => false,
         }
     }
 
-    /// Why it is refused where its end does not come.
-    pub(crate) fn unended(self) -> TexErrorKind
-        ensures { (place : ℕ) → option_map (λ k. refusal_at k place) (kind_of_error result) ≡ unended (InCell (table_end self) place) }
+    /// Why it is refused where its end does not come, unless the text is its end.
+    pub(crate) fn unended(self) -> Option<TexErrorKind>
+        ensures { (place : ℕ) → MatchOption result (unended (InCell (table_end self) place) ≡ None)
+            (λ kind. option_map (λ k. refusal_at k place) (kind_of_error kind)
+            ≡ unended (InCell (table_end self) place)) }
     {
-        match self.environment {
-            Some(_) => TexErrorKind::BeginWithoutEnd,
-            None => TexErrorKind::UnclosedBrace,
+        match self.kind {
+            TableKind::Environment(_) => Some(TexErrorKind::BeginWithoutEnd),
+            TableKind::Braces => Some(TexErrorKind::UnclosedBrace),
+            TableKind::Text => None,
         }
     }
 
     /// The style of its cells.
     pub(crate) fn style(self) -> Style
-        ensures { style_of result ≡ style_in self.environment }
+        ensures { style_of result ≡ style_in self.kind }
     {
-        match self.environment {
-            Some(environment) => environment.style,
-            None => Style::InScript,
+        match self.kind {
+            TableKind::Environment(environment) => environment.style,
+            TableKind::Braces => Style::InScript,
+            TableKind::Text => Style::InDisplay,
         }
     }
 

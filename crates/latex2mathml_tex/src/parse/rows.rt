@@ -2,14 +2,14 @@
 ghost use Rattle.std.specs.Prelude.{◌≡◌, ◌≢◌, ◌+◌, ◌≤◌, ℕ, false};
 ghost use Rattle.latex2mathml_tex_grammar.specs.{Makes.no_scripts, Meaning.Beside, Starts.empty_base, Starts.ends};
 ghost use Rattle.latex2mathml_tex.specs.{Frames.ending_count, Frames.ending_of, Meanings.change_of, Models.row_count, Taking.piece_of, Frames.Start};
-ghost use Rattle.latex2mathml_tex.specs.Steps.{Awaits, AwaitsAtom, BeginsDivider, BeginsRest, CanBegin, CanMake, ClosesRow, EndsFormula, EndsRow, EndsText, HasElements, HoldsIn, InnermostIs, IsStep, LeadsOn, MadeAtom, Ready, Took, TookMark, TookUnmarked, atom_made, core_made, level, row_makes, Closes, Follows, Holds, to_do};
+ghost use Rattle.latex2mathml_tex.specs.Steps.{Awaits, AwaitsAtom, BeginsDivider, BeginsRest, CanBegin, CanMake, ClosesRow, EndsFormula, EndsRow, EndsText, EndsWithText, HasElements, HoldsIn, InnermostIs, IsStep, LeadsOn, MadeAtom, Ready, Took, TookMark, TookUnmarked, atom_made, core_made, ending_weight, level, row_makes, Closes, Follows, Holds, to_do};
 ghost use Rattle.latex2mathml_tex.specs.declared.atoms.{Context.Context, Row.Row};
 
 use crate::atoms::{Context, Core, Kind, Operand, Row, Scripts, Words};
 use crate::commands;
 use crate::error::TexErrorKind;
 use crate::meaning::{Change, Class, LimitPlace, Meaning, Style};
-use crate::parse::frames::{Ending, Frame, Last};
+use crate::parse::frames::{Ending, Frame, Last, Table};
 use crate::parse::scripts::{Mark, mark_of};
 use crate::parse::{Parser, State};
 use crate::rests::{divide, finish, restyle};
@@ -36,7 +36,10 @@ impl<'a> Parser<'a> {
         self.input.skip_space();
         match self.input.next {
             Next::Fault(fault, at) => Ok(self.refuse_fault(fault, at)),
-            Next::End(_) => self.end_of_text(ending, place, context.style, row),
+            Next::End(at) => {
+                let _ = self.frames.take(self.style);
+                self.end_of_text(ending, place, context.style, row, at)
+            }
             Next::Unit(unit) => {
                 self.input.advance();
                 if ending.is(unit.piece) {
@@ -170,18 +173,18 @@ impl<'a> Parser<'a> {
         Ok(State::Next)
     }
 
-    /// Ends a row where the text ends.
+    /// Ends a row that was read in this style, where the text ends, at this place. Its frame was taken off.
     fn end_of_text(
         &mut self,
         ending: Ending,
         place: usize,
         style: Style,
         row: Row,
+        at: usize,
     ) -> Result<State, AllocError>
-        requires elements { HasElements 0 self.old }
-        requires due { (c : Context) × InnermostIs (Frame.Row ending place c row) self.old }
-        ensures holds { LeadsOn (EndsText ending place style row) self.old self.new result }
-        ensures step { IsStep 1 self.old self.new result }
+        requires can { CanMake (row_makes ending) (row_count row + ending_count ending) self.old }
+        ensures holds { LeadsOn (EndsText ending place style row at) self.old self.new result }
+        ensures step { IsStep (ending_weight ending + 1) self.old self.new result }
     {
         let kind = match ending {
             Ending::Text => return self.end_formula(style, row),
@@ -189,22 +192,42 @@ impl<'a> Parser<'a> {
             Ending::Degree => TexErrorKind::UnclosedBracket,
             Ending::Delimiters(_) => TexErrorKind::LeftWithoutRight,
             Ending::Formula(_) => TexErrorKind::UnclosedDollar,
-            Ending::Cell(table) => table.unended(),
+            Ending::Cell(table) => match table.unended() {
+                Some(kind) => kind,
+                None => return self.end_last_cell(table, place, style, row, at),
+            },
         };
         Ok(self.refuse(kind, place))
     }
 
-    /// Ends the row of the whole formula.
+    /// Ends the row of the whole formula. Its frame was taken off.
     fn end_formula(&mut self, style: Style, row: Row) -> Result<State, AllocError>
-        requires elements { HasElements 0 self.old }
-        requires due { (place : ℕ) × ((c : Context)
-            × InnermostIs (Frame.Row Ending.Text place c row) self.old) }
+        requires elements { HasElements (row_count row) self.old }
         ensures holds { LeadsOn (EndsFormula style row) self.old self.new result }
         ensures step { IsStep 1 self.old self.new result }
     {
-        let _ = self.frames.take(self.style);
         let row = finish(&mut self.builder, style, row)?;
         Ok(State::End(row.count))
+    }
+
+    /// Ends the rows of the whole text in a cell that was read in this style, where the text ends. The frame of the cell was
+    /// taken off.
+    fn end_last_cell(
+        &mut self,
+        table: Table,
+        place: usize,
+        style: Style,
+        row: Row,
+        at: usize,
+    ) -> Result<State, AllocError>
+        requires can { CanMake core_made (row_count row + (table.cells + table.rows)) self.old }
+        ensures holds { LeadsOn
+            (EndsWithText (Ending.Cell table) place style row at)
+            self.old self.new result }
+        ensures step { IsStep 5 self.old self.new result }
+    {
+        let row = finish(&mut self.builder, style, row)?;
+        self.end_cells(table, row.count, at)
     }
 
     /// Ends a row that was read in this style, with this unit, which was taken. Its frame was taken off.

@@ -7,18 +7,18 @@ ghost use Rattle.latex2mathml_tex_grammar.specs.Environments;
 ghost use Rattle.latex2mathml_tex_grammar.specs.Scanning.{BeforeArgument, ColumnList, Number};
 ghost use Rattle.latex2mathml_tex_grammar.specs.Tables;
 ghost use Rattle.latex2mathml_tex_grammar.specs.{Meaning.BeginTable, Meaning.Substack, Starts.cell_end, Tables.a_row, Rows.row_element};
-ghost use Rattle.latex2mathml_tex_grammar.specs.Rules.{argument_rule, environment_rule, listed_rule, meaning_rule, most_columns, rows_rule, takes_found};
-ghost use Rattle.latex2mathml_tex.specs.{Meanings.style_of, Models.context_of, Taking.piece_of};
+ghost use Rattle.latex2mathml_tex_grammar.specs.Rules.{argument_rule, environment_rule, listed_rule, meaning_rule, most_columns, rows_of_text, rows_rule, takes_found};
+ghost use Rattle.latex2mathml_tex.specs.{Frames.context_at, Meanings.style_of, Models.context_of, Taking.piece_of};
 ghost use Rattle.latex2mathml_tex.specs.Scans.{argument_of, spot_of};
 ghost use Rattle.latex2mathml_tex.specs.Tables.{cell_end_of, delimiter_texts, environment_of};
-ghost use Rattle.latex2mathml_tex.specs.Steps.{BeginsIn, CanBegin, CanMake, ClosesCell, EndsRows, GoesOnTable, IsStep, LeadsOn, MakesTable, TookText, core_made};
+ghost use Rattle.latex2mathml_tex.specs.Steps.{BeginsIn, CanBegin, CanMake, Begins, ClosesCell, EndsCells, EndsRows, GoesOnTable, IsStep, LeadsOn, MakesTable, TookText, core_made, level};
 
 use crate::atoms::{Context, Core, Kind, Row};
 use crate::environments;
 use crate::environments::Environment;
 use crate::error::TexErrorKind;
 use crate::meaning::{Class, Style};
-use crate::parse::frames::{Ending, Frame, Table};
+use crate::parse::frames::{Ending, Frame, Table, TableKind};
 use crate::parse::{Parser, State};
 use crate::scanning::{Argument, Spot};
 use crate::shapes::{enclose, put_row};
@@ -62,7 +62,11 @@ impl<'a> Parser<'a> {
 
     /// Takes the text that is found from this spot on. Where it does not stand here, the formula is refused, and nothing is
     /// returned.
-    fn take_text(&mut self, place: usize, spot: Spot) -> Result<Option<String>, AllocError>
+    pub(crate) fn take_text(
+        &mut self,
+        place: usize,
+        spot: Spot,
+    ) -> Result<Option<String>, AllocError>
         ensures { IfOk result (λ text. TookText place (spot_of spot) self.old self.new
             (option_map string_bytes text)) }
     {
@@ -205,7 +209,7 @@ impl<'a> Parser<'a> {
     {
         self.input.pass(self.alloc, Spot::BeforeRow)?;
         let table = Table {
-            environment: Some(environment),
+            kind: TableKind::Environment(environment),
             columns,
             rows: 0,
             cells: 0,
@@ -230,12 +234,30 @@ impl<'a> Parser<'a> {
         };
         self.input.pass(self.alloc, Spot::BeforeRow)?;
         let table = Table {
-            environment: None,
+            kind: TableKind::Braces,
             columns: Columns::alike(Column::Dense),
             rows: 0,
             cells: 0,
         };
         self.begin_cell(table, place)
+    }
+
+    /// Begins the rows of the whole text.
+    pub(crate) fn begin_text(&mut self) -> Result<State, AllocError>
+        requires begin { CanBegin 0 self.old }
+        ensures holds { LeadsOn
+            (λ s. Begins (rows_of_text (context_at (level 0 s self.old))) 0 s)
+            self.old self.new result }
+        ensures step { IsStep 13 self.old self.new result }
+    {
+        self.input.pass(self.alloc, Spot::BeforeRow)?;
+        let table = Table {
+            kind: TableKind::Text,
+            columns: Columns::in_pairs(),
+            rows: 0,
+            cells: 0,
+        };
+        self.begin_cell(table, 0)
     }
 
     /// Begins the next cell of a table.
@@ -283,35 +305,50 @@ impl<'a> Parser<'a> {
                     place,
                 )
             }
-            CellEnd::EndsTable => {
-                // an empty last row is none
-                if is_no_row(row.count, table) {
-                    return self.end_table(table.environment, table.columns, table.rows, unit.place);
-                }
-                put_last(&mut self.builder, row.count, table.cells)?;
-                let _ = self.builder.len();
-                let rows = table.rows + 1;
-                self.end_table(table.environment, table.columns, rows, unit.place)
-            }
+            CellEnd::EndsTable => self.end_cells(table, row.count, unit.place),
         }
     }
 
-    /// Ends a table of so many rows, whose end was taken at this place.
+    /// Ends a table at this place, behind its last cell, which has so many elements.
+    pub(crate) fn end_cells(
+        &mut self,
+        table: Table,
+        count: usize,
+        at: usize,
+    ) -> Result<State, AllocError>
+        requires can { CanMake core_made (count + (table.cells + table.rows)) self.old }
+        ensures holds { LeadsOn (EndsCells table count at) self.old self.new result }
+        ensures step { IsStep 5 self.old self.new result }
+    {
+        // an empty last row is none
+        if is_no_row(count, table) {
+            return self.end_table(table.kind, table.columns, table.rows, at);
+        }
+        put_last(&mut self.builder, count, table.cells)?;
+        let _ = self.builder.len();
+        let rows = table.rows + 1;
+        self.end_table(table.kind, table.columns, rows, at)
+    }
+
+    /// Ends a table of so many rows, whose end stands at this place and was taken.
     fn end_table(
         &mut self,
-        environment: Option<&'static Environment>,
+        kind: TableKind,
         columns: Columns,
         rows: usize,
         at: usize,
     ) -> Result<State, AllocError>
         requires can { CanMake core_made rows self.old }
         requires some { 0 < rows }
-        ensures holds { LeadsOn (EndsRows environment.entry columns rows at) self.old self.new result }
-        ensures step { IsStep 13 self.old self.new result }
+        ensures holds { LeadsOn (EndsRows kind columns rows at) self.old self.new result }
+        ensures step { IsStep 5 self.old self.new result }
     {
-        match environment {
-            Some(environment) => self.end_environment(environment, columns, rows, at),
-            None => self.make_table(None, columns, Style::InScript, rows),
+        match kind {
+            TableKind::Environment(environment) => {
+                self.end_environment(environment, columns, rows, at)
+            }
+            TableKind::Braces => self.make_table(None, columns, Style::InScript, rows),
+            TableKind::Text => self.make_table(None, columns, Style::InDisplay, rows),
         }
     }
 
@@ -325,8 +362,10 @@ impl<'a> Parser<'a> {
     ) -> Result<State, AllocError>
         requires can { CanMake core_made rows self.old }
         requires some { 0 < rows }
-        ensures holds { LeadsOn (EndsRows (Some environment.entry) columns rows at) self.old self.new result }
-        ensures step { IsStep 13 self.old self.new result }
+        ensures holds { LeadsOn
+            (EndsRows (TableKind.Environment environment.entry) columns rows at)
+            self.old self.new result }
+        ensures step { IsStep 5 self.old self.new result }
     {
         let spot = Spot::BeforeArgument(Argument::Name);
         let Some(name) = self.take_text(at, spot)? else {
@@ -349,7 +388,7 @@ impl<'a> Parser<'a> {
         requires can { CanMake core_made rows self.old }
         requires some { 0 < rows }
         ensures holds { LeadsOn (MakesTable delimiters columns style rows) self.old self.new result }
-        ensures step { IsStep 13 self.old self.new result }
+        ensures step { IsStep 5 self.old self.new result }
     {
         let around = self.frames.innermost(self.style).context();
         let said = said_style(style, around.style);

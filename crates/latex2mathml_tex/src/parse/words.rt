@@ -13,6 +13,7 @@ ghost use Rattle.latex2mathml_tex.specs.Steps.{Begins, BeginsWordOf, CanMake, Ho
 use crate::alphabets::in_alphabet;
 use crate::atoms::{Context, Core, Kind, Row, Words};
 use crate::commands;
+use crate::dots::LOW_DOTS;
 use crate::error::TexErrorKind;
 use crate::meaning::{Alphabet, Class, Meaning, Style, Symbol};
 use crate::parse::frames::{Ending, Frame};
@@ -129,6 +130,7 @@ impl<'a> Parser<'a> {
             Some(meaning) => match meaning {
                 Meaning::Spacing(_) => self.show(words, '\u{a0}'),
                 Meaning::Shows(symbol) => self.show_symbol(words, symbol),
+                Meaning::Dots => self.show_symbol(words, LOW_DOTS),
                 Meaning::Words(alphabet) => {
                     self.input.skip_space();
                     Ok(State::Word(words, place, alphabet))

@@ -1,4 +1,4 @@
-use Rattle.std.proofs.Common.{◌≡◌, ◌∙◌, ℕ, List, ◌++◌, ap, append_assoc, string_bytes}
+use Rattle.std.proofs.Common.{◌≡◌, ◌∙◌, ℕ, List, ◌++◌, ap, append-nil, append_assoc, string_bytes, sym}
 use Rattle.latex2mathml_builder.proofs.attributes.Attributes.append.Goals as goal
 
 -- a text is appended, and the rest after it
@@ -21,4 +21,5 @@ returns c =
     (then (string_bytes c.append_some-7.new.out) _ _ _ _ _ c.text_if-4.ensures c.in_ok-append_some-8.ensures
     (then (string_bytes c.append_some-8.new.out) _ _ _ _ _ c.accent_text.ensures c.in_ok-append_some-9.ensures
     (then (string_bytes c.append_some-9.new.out) _ _ _ _ _ c.text_if-5.ensures c.in_ok-append_some-10.ensures
-    (last (string_bytes c.append_some-10.new.out) _ _ _ c.style_text.ensures c.in_ok-append_some-11.ensures))))))))))
+    (then (string_bytes c.append_some-10.new.out) _ _ _ _ _ c.style_text.ensures c.in_ok-append_some-11.ensures
+    (sym (append-nil _))))))))))))

@@ -4,14 +4,15 @@ use Rattle.std.proofs.lemmas.Int.{ints}
 use Rattle.std.proofs.lemmas.Result.{on_ok_weaker}
 use Rattle.latex2mathml_elements.specs.Attributes.{styled}
 use Rattle.latex2mathml_elements.specs.Element.{children, space}
-use Rattle.latex2mathml_elements.specs.Print.{attributes_text, pair_name, print, prints, triple_name}
+use Rattle.latex2mathml_elements.specs.Print.{attributes_text, container_name, pair_name, print, prints, triple_name}
+use Rattle.latex2mathml_builder.specs.Arounds.{around_attributes, around_name}
 use Rattle.latex2mathml_builder.specs.Built.{Fits, element_of, settled_in}
 use Rattle.latex2mathml_builder.specs.Columns.{columns_of}
 use Rattle.latex2mathml_builder.specs.Due.{arranged, due, row_prints, settled_from, weight}
 use Rattle.latex2mathml_builder.specs.Names.{attributes_of, math_style_of, pair_of, triple_of}
 use Rattle.latex2mathml_builder.proofs.Parts.{settled_count}
 use Rattle.latex2mathml_builder.proofs.Tables.{table_loaded, table_written}
-use Rattle.latex2mathml_builder.proofs.Written.{opened, taken_length, print_pair, print_triple, weight_pair, weight_triple}
+use Rattle.latex2mathml_builder.proofs.Written.{opened, taken_length, print_around, print_pair, print_triple, weight_around, weight_pair, weight_triple}
 use Rattle.latex2mathml_builder.proofs.builder.Builder.write_part.Goals as goal
 
 pub returns-in-Space-clause-print : goal.returns-in-Space-clause-print
@@ -29,6 +30,28 @@ returns-in-Space-clause-print c =
     ∙ ap (λ n. out ++ (print (space n) ++ rest)) same
     ∙ ap (λ p. out ++ (print (element_of b.texts (settled_in b) p) ++ rest)) (sym found.is))
     c.append_space.ensures
+
+pub returns-in_ok-push_work-in-Around-clause-print : goal.returns-in_ok-push_work-in-Around-clause-print
+returns-in_ok-push_work-in-Around-clause-print c =
+    let b = c.args.self.now in
+    let found = c.in-Around in
+    let fits = subst (λ p. Fits b.texts (length b.settled) p) found.is c.requires.fits in
+    let enough : found.first + 1 ≤ length (settled_in b) = omega (arith, settled_count b.texts b.settled, fits) in
+    let whole = ap (λ p. print (element_of b.texts (settled_in b) p)) found.is ∙ print_around found.around (settled_in b) found.first enough in
+    on_ok_weaker c.push_work-in-Around.result
+    (λ h. opened (container_name (around_name found.around)) (around_attributes found.around) (string_bytes c.args.out.now) (prints (children (settled_from b found.first 1))) (due b c.args.works.now.items) _ _ _ _ _ _ refl c.in_ok-append_start-in-Around.ensures c.end-in-Around.ensures c.in_ok-push_work-in-Around.ensures.print h whole)
+    c.push_work-in-Around.ensures.print
+
+pub returns-in_ok-push_work-in-Around-clause-weight : goal.returns-in_ok-push_work-in-Around-clause-weight
+returns-in_ok-push_work-in-Around-clause-weight c =
+    let b = c.args.self.now in
+    let found = c.in-Around in
+    let fits = subst (λ p. Fits b.texts (length b.settled) p) found.is c.requires.fits in
+    let enough : found.first + 1 ≤ length (settled_in b) = omega (arith, settled_count b.texts b.settled, fits) in
+    let whole = ap (λ p. weight (element_of b.texts (settled_in b) p)) found.is ∙ weight_around found.around (settled_in b) found.first enough in
+    on_ok_weaker c.push_work-in-Around.result
+    (λ h. omega (arith, h, whole, c.in_ok-push_work-in-Around.ensures.weight))
+    c.push_work-in-Around.ensures.weight
 
 pub returns-in_ok-push_work-in-Pair-clause-print : goal.returns-in_ok-push_work-in-Pair-clause-print
 returns-in_ok-push_work-in-Pair-clause-print c =

@@ -1,13 +1,7 @@
 use Rattle.std.proofs.Common.{ap, arith, refl, sym, ◌∙◌}
 use Rattle.latex2mathml_tex.specs.Tables.{cell_end_of}
-use Rattle.latex2mathml_tex.proofs.{TableRules.broken_step, Tabled.cell_parted, Tabled.row_broken, Tabled.row_is_last, Tabled.row_is_none}
+use Rattle.latex2mathml_tex.proofs.{Rows.step_within, TableRules.broken_step, Tabled.cell_ends, Tabled.cell_parted, Tabled.row_broken}
 use Rattle.latex2mathml_tex.proofs.parse.Parser.close_cell.Goals as goal
-
-pub returns-then-is_no_row-clause-holds : goal.returns-then-is_no_row-clause-holds
-returns-then-is_no_row-clause-holds c = λ s g.
-    let none = c.if-is_no_row.ensures in
-    let ends = sym (ap cell_end_of c.in-EndsTable.is) ∙ c.cell_end.ensures in
-    c.end_table.ensures.holds s (row_is_none s c.args.self.now c.args.table c.args.place c.args.row c.args.unit g ends none.0 none.1 none.2 (omega (arith, c.requires.can.elements)))
 
 pub returns-in_ok-put_row-in-PartsCells-clause-holds : goal.returns-in_ok-put_row-in-PartsCells-clause-holds
 returns-in_ok-put_row-in-PartsCells-clause-holds c = λ s g.
@@ -23,7 +17,11 @@ pub returns-in_ok-pass_break-in-EndsRow-clause-step : goal.returns-in_ok-pass_br
 returns-in_ok-pass_break-in-EndsRow-clause-step c =
     broken_step c.args.self.now c.put_last.new.builder c.pass_break.new.self c.begin_cell-in-EndsRow.new.self c.begin_cell-in-EndsRow.result c.in_ok-pass_break-in-EndsRow.ensures c.begin_cell-in-EndsRow.ensures.step
 
-pub returns-in_ok-put_last-in-EndsTable-clause-holds : goal.returns-in_ok-put_last-in-EndsTable-clause-holds
-returns-in_ok-put_last-in-EndsTable-clause-holds c = λ s g.
+pub returns-in-EndsTable-clause-holds : goal.returns-in-EndsTable-clause-holds
+returns-in-EndsTable-clause-holds c = λ s g.
     let ends = sym (ap cell_end_of c.in-EndsTable.is) ∙ c.cell_end.ensures in
-    c.end_table-in-EndsTable.ensures.holds s (row_is_last s c.args.self.now c.args.table c.args.place c.args.row c.args.unit g c.put_last-in-EndsTable.new.builder _ refl ends c.if-is_no_row.ensures (omega (arith, c.requires.can.elements)) c.in_ok-put_last-in-EndsTable.ensures)
+    c.end_cells.ensures.holds s (cell_ends s c.args.self.now c.args.table c.args.place c.args.row c.args.unit g ends)
+
+pub returns-in-EndsTable-clause-step : goal.returns-in-EndsTable-clause-step
+returns-in-EndsTable-clause-step c =
+    step_within c.args.self.now c.args.self.now c.end_cells.new.self c.end_cells.result 5 13 (omega arith) c.end_cells.ensures.step

@@ -6,7 +6,7 @@ use Rattle.latex2mathml_tex_grammar.specs.Scanning.{BeforeArgument, Name}
 use Rattle.latex2mathml_builder.specs.Columns.{columns_of}
 use Rattle.latex2mathml_tex.specs.{Frames.context_at, Levels.CoreMade, Levels.RuleLeads, Steps.left_of, Steps.level, Tables.environment_of}
 use Rattle.latex2mathml_tex.proofs.{Leading.found, Leading.refused, Marks.core_refuses}
-use Rattle.latex2mathml_tex.proofs.TableRules.{ended_well, refused_behind, refused_behind_step, text_refused, text_step, took_none, took_some}
+use Rattle.latex2mathml_tex.proofs.TableRules.{ended_well, refused_behind, refused_behind_within, text_refused, text_within, took_none, took_some}
 use Rattle.latex2mathml_tex.proofs.parse.Parser.end_environment.Goals as goal
 
 pub returns-in_default-clause-holds : goal.returns-in_default-clause-holds
@@ -32,7 +32,7 @@ returns-then-eq-clause-step c =
     let p = c.args.self.now in
     let q = c.take_text.new.self in
     let took = took_some string_bytes c.args.at (BeforeArgument Name) p q _ c.in-Some.name c.in-Some.is c.in_ok-name.ensures in
-    text_step p q c.args.at (BeforeArgument Name) (string_bytes c.in-Some.name) took 13 c.make_table.new.self c.make_table.result (omega arith) c.make_table.ensures.step
+    text_within p q c.args.at (BeforeArgument Name) (string_bytes c.in-Some.name) took 5 5 c.make_table.new.self c.make_table.result (omega arith) c.make_table.ensures.step
 
 pub returns-clause-holds : goal.returns-clause-holds
 returns-clause-holds c = λ s g.
@@ -53,4 +53,4 @@ returns-clause-step c =
     let p = c.args.self.now in
     let q = c.take_text.new.self in
     let took = took_some string_bytes c.args.at (BeforeArgument Name) p q _ c.in-Some.name c.in-Some.is c.in_ok-name.ensures in
-    refused_behind_step p q c.args.at (BeforeArgument Name) (string_bytes c.in-Some.name) took c.refuse.new.self c.refuse.result _ c.refuse.ensures.parser c.refuse.ensures.state (omega (arith, c.requires.can.elements))
+    refused_behind_within p q c.args.at (BeforeArgument Name) (string_bytes c.in-Some.name) took c.refuse.new.self c.refuse.result _ c.refuse.ensures.parser c.refuse.ensures.state 5 (omega arith) (omega (arith, c.requires.can.elements))

@@ -3,6 +3,5 @@ use Rattle.latex2mathml_tex.proofs.parse.Parser.end_formula.Goals as goal
 
 pub returns-clause-step : goal.returns-clause-step
 returns-clause-step c =
-    let due = c.requires.due in
     let whole = c.in_ok-row.ensures in
-    formula_step c.args.self.now c.finish.new.builder c.args.row c.in_ok-row.row whole.below whole.count c.take.new.self c.take.result due.0 due.1.0 due.1.1 c.take.ensures c.requires.elements
+    formula_step c.args.self.now c.finish.new.builder c.args.row c.in_ok-row.row whole.below whole.count c.requires.elements

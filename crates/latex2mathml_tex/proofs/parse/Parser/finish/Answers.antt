@@ -1,7 +1,46 @@
+use Rattle.std.proofs.Common.{◌≡◌, [], IsTrue, ap, arith, refl, reverse, subst, sum_by, sym}
+use Rattle.latex2mathml_tex.specs.{Frames.element_count, declared.parse.Parser.Parser}
+use Rattle.latex2mathml_tex.specs.Steps.{Holds, Ready, are_nested, core_made, first_accepts, start_of}
+use Rattle.latex2mathml_tex.specs.declared.parse.Form.TheVariants as form
+use Rattle.latex2mathml_tex.specs.declared.parse.State.TheVariants as state
+use Rattle.latex2mathml_tex.proofs.Answering.{begins, begins_rows}
 use Rattle.latex2mathml_tex.proofs.parse.Parser.finish.Goals as goal
+use Rattle.latex2mathml_tex.proofs.parse.Parser.finish.Goals.{in-Atoms, in-Rows+in_ok-state-in-Rows}
+
+-- before the first step
+first_ready : (p : Parser) → p.frames.stack.items ≡ [] → Ready p state.Next
+first_ready p e =
+    let none = ap (sum_by element_count) e in
+    record {
+      elements = omega (arith, none);
+      may_come = record {
+        accepted = subst (λ fs. IsTrue (first_accepts core_made (reverse fs))) (sym e) refl;
+        nested = subst (λ fs. IsTrue (are_nested (reverse fs))) (sym e) refl;
+      };
+    }
+
+pub steps-init : goal.steps-init
+steps-init c =
+    let p = c.args.self.now in
+    elim c.match-form.branch [
+      | in-Atoms w ↦ (
+          let first : Holds (start_of c.args.form p) p state.Next = rw w.in-Atoms.is (begins p c.requires) in
+          record {
+            ready = subst (λ q. Ready q c.match-form.state) (sym w.self-is) (subst (Ready p) (sym w.state-is) (first_ready p c.requires));
+            holds = subst (λ q. Holds (start_of c.args.form p) q c.match-form.state) (sym w.self-is) (subst (Holds (start_of c.args.form p) p) (sym w.state-is) first);
+          })
+      | in-Rows+in_ok-state-in-Rows w ↦ (
+          let q = w.begin_text.new.self in
+          let given = w.in_ok-state-in-Rows in
+          let first : Holds (start_of c.args.form p) q given.state = rw w.in-Rows.is (given.ensures.holds (start_of form.Rows p) (begins_rows p c.requires)) in
+          record {
+            ready = subst (λ q. Ready q c.match-form.state) (sym w.self-is) (subst (Ready q) (sym w.state-is) given.ensures.step.ready);
+            holds = subst (λ q. Holds (start_of c.args.form p) q c.match-form.state) (sym w.self-is) (subst (Holds (start_of c.args.form p) q) (sym w.state-is) first);
+          })
+    ]
 
 pub steps-preserved : goal.steps-preserved
 steps-preserved c = record {
   ready = c.in_ok-state-in_default.ensures.step.ready;
-  holds = λ s g. c.in_ok-state-in_default.ensures.holds s (c.steps.invariant.holds s g);
+  holds = c.in_ok-state-in_default.ensures.holds _ c.steps.invariant.holds;
 }

@@ -34,6 +34,15 @@ returns-in_ok-pair-in-Root-clause-holds c = λ s g.
     let put : elements_in c.pair.new.self ≡ x ∷ drop 2 xs = c.in_ok-pair-in-Root.ensures.elements ∙ rw (c.plain-in-Root.ensures, two_exchanged xs two) refl in
     rw c.ordinary-in-Root.ensures (made_put s p c.args.last c.args.operand c.pair.new.self _ x (rw c.in-Root.is put) (rw c.in-Root.is refl) g)
 
+pub returns-in_ok-put_in_box-in-Boxed-clause-holds : goal.returns-in_ok-put_in_box-in-Boxed-clause-holds
+returns-in_ok-put_in_box-in-Boxed-clause-holds c = λ s g.
+    let p = c.args.self.now in
+    let xs = elements_of p in
+    let some : 1 ≤ length xs = enough 1 p (rw c.in-Boxed.is at c.requires.elements) in
+    let f = base s p c.args.last c.args.operand c.in-Boxed.style class.Ordinary in
+    let is = c.make_base-in-Boxed.ensures.elements in
+    rw c.ordinary-in-Boxed.ensures (made_held s p c.args.last c.args.operand c.put_in_box.new.builder _ (record { element = rw c.in-Boxed.is (rw (is, top_changed f xs some, behind_changed f xs) at c.in_ok-put_in_box-in-Boxed.ensures); is = rw c.in-Boxed.is refl }) g)
+
 pub returns-in_ok-put_accent-in-Accent-clause-holds : goal.returns-in_ok-put_accent-in-Accent-clause-holds
 returns-in_ok-put_accent-in-Accent-clause-holds c = λ s g.
     let p = c.args.self.now in

@@ -14,6 +14,18 @@ use Rattle.latex2mathml_tex.specs.declared.parse.frames.First.TheVariants as fir
 use Rattle.latex2mathml_tex.proofs.{RuleSteps.begun, RuleSteps.own_style_is, RuleSteps.rule_refuses, Leading.operand_due}
 use Rattle.latex2mathml_tex.proofs.parse.Parser.meaning.Goals as goal
 
+pub returns-in-Skip-clause-holds : goal.returns-in-Skip-clause-holds
+returns-in-Skip-clause-holds c = λ s g. c.skip.ensures.holds s (rw c.in-Skip.is at g)
+
+pub returns-in-SkipInBraces-clause-holds : goal.returns-in-SkipInBraces-clause-holds
+returns-in-SkipInBraces-clause-holds c = λ s g. c.skip_in_braces.ensures.holds s (rw c.in-SkipInBraces.is at g)
+
+pub returns-in-Boxed-clause-holds : goal.returns-in-Boxed-clause-holds
+returns-in-Boxed-clause-holds c = λ s g. c.open_box.ensures.holds s (begun (rw c.in-Boxed.is at g))
+
+pub returns-in-Smash-clause-holds : goal.returns-in-Smash-clause-holds
+returns-in-Smash-clause-holds c = λ s g. c.smash.ensures.holds s (begun (rw c.in-Smash.is at g))
+
 pub returns-in-Styled-clause-holds : goal.returns-in-Styled-clause-holds
 returns-in-Styled-clause-holds c = λ s g. c.open.ensures.holds s g.style (operand_due (λ x. gives (core (group x))) (rw c.in-Styled.is at g.leads))
 

@@ -1,7 +1,7 @@
 use Rattle.std.proofs.Common.{◌≡◌, ◌≤◌, ◌∙◌, None, Option, Some, ap, option_map, arith, refl}
 use Rattle.latex2mathml_tex_grammar.specs.Makes
 use Rattle.latex2mathml_tex_grammar.specs.Refusal.{UnknownCommand, refusal_at}
-use Rattle.latex2mathml_tex_grammar.specs.{Rows.single, Symbols.Alphabet, Symbols.InText, Units.Command}
+use Rattle.latex2mathml_tex_grammar.specs.{Dots.low_dots, Rows.single, Symbols.Alphabet, Symbols.InText, Units.Command}
 use Rattle.latex2mathml_tex_grammar.specs.Words.{Formula, Shown, word_space}
 use Rattle.latex2mathml_tex.specs.{Errors.refusal_of, Left.unit_count, Left.units_at, Steps.left_of}
 use Rattle.latex2mathml_tex.specs.Meanings
@@ -33,6 +33,14 @@ returns-in-Shows-clause-holds c = λ s g.
     let x = (single InText (Makes.symbol None (symbol_of c.in-Shows.symbol)).atom).element in
     c.show_symbol.ensures.holds s (stands s c.args.self.now c.args.words (Command name) c.args.place a (Formula x) (command_meant a name c.in_default.ensures _ meant) g)
 
+pub returns-in-Dots-clause-holds : goal.returns-in-Dots-clause-holds
+returns-in-Dots-clause-holds c = λ s g.
+    let a : Option Alphabet = option_map alphabet_of c.args.alphabet in
+    let name = c.args.name.now in
+    let meant = c.in-Some-look_up.ensures ∙ ap (λ m. Some (Meanings.meaning_of m)) c.in-Dots.is in
+    let x = (single InText (Makes.symbol None low_dots).atom).element in
+    c.show_symbol-in-Dots.ensures.holds s (stands s c.args.self.now c.args.words (Command name) c.args.place a (Formula x) (command_meant a name c.in_default.ensures _ meant) g)
+
 pub returns-in-Words-clause-holds : goal.returns-in-Words-clause-holds
 returns-in-Words-clause-holds c = λ s g.
     let a : Option Alphabet = option_map alphabet_of c.args.alphabet in
@@ -57,7 +65,7 @@ returns-in_default-meaning c =
     let name = c.args.name.now in
     let says = c.refuse_command.ensures in
     let other = c.in_default-meaning in
-    let none : IsNoWord c.in-Some-look_up.meaning = record { no_sign = other.not-Shows; no_space = other.not-Spacing; no_words = other.not-Words } in
+    let none : IsNoWord c.in-Some-look_up.meaning = record { no_sign = other.not-Shows; no_dots = other.not-Dots; no_space = other.not-Spacing; no_words = other.not-Words } in
     let rule = not_in_words a name c.in_default.ensures c.in-Some-look_up.meaning c.in-Some-look_up.ensures none in
     record {
       holds = λ s g. command_refused p q says.parser s c.args.words name c.args.place a c.refuse_command.result says.state says.refusal rule g;

@@ -1,0 +1,67 @@
+-- The text that a formula in LaTeX as authors write it comes to, behind definitions of macros. The input is lists of bytes.
+use Rattle.std.specs.Prelude.{◌≡◌, ◌≢◌, ◌⊎◌, ℕ, List, IsUtf8, codes}
+use Rattle.std.specs.Str.{chars}
+use Rattle.latex2mathml.specs.{Elements.IsMathElement, Formulas.DisplayStyle}
+use Rattle.latex2mathml_elements.specs.{Characters.IsAllowed, Dollars.IsDollarFree}
+use Rattle.latex2mathml_tex.specs.{Answers.IsAnswer, Answers.IsRefusal, Answers.style_in, ErrorTexts.refusal_text}
+use Rattle.latex2mathml_tex_grammar.specs.{DefinitionTexts.AreRefused, DefinitionTexts.Defines, Macros.Table, Refusal.Refusal}
+use Rattle.latex2mathml_c.specs.declared.{Request.Request, Status.Status}
+use Rattle.latex2mathml_c.specs.declared.Status.TheVariants.{Done, Refused, NotUtf8, DefinitionRefused, UnknownFlags}
+
+-- the text is the markup of the formula where these macros hold: one `math` element, without a character that XML forbids and
+-- without a dollar sign
+abbrev pub IsMarkup : Table → List ℕ → DisplayStyle → List ℕ → Type 0
+IsMarkup macros tex display text = IsAnswer macros tex (style_in display) text × IsMathElement text × IsAllowed text × IsDollarFree text
+
+-- a refusal is told: its place, and its text
+abbrev pub IsTold : Refusal → ℕ → List ℕ → Type 0
+IsTold refusal place text = (place ≡ refusal.place) × (text ≡ refusal_text refusal)
+
+-- the text that a formula comes to behind definitions, what it is, and the place of what is refused, or else 0
+abbrev pub IsRead : List ℕ → List ℕ → DisplayStyle → ℕ → Status → List ℕ → Type 0
+IsRead definitions tex display place Done text =
+    (place ≡ 0) × ((macros : Table) × Defines (chars definitions) macros × IsMarkup macros tex display text)
+IsRead definitions tex display place Refused text =
+    (macros : Table) × Defines (chars definitions) macros
+    × ((refusal : Refusal) × IsRefusal macros tex (style_in display) refusal × IsTold refusal place text)
+IsRead definitions tex display place DefinitionRefused text =
+    (refusal : Refusal) × AreRefused (chars definitions) refusal × IsTold refusal place text
+IsRead definitions tex display place status text = ⊥
+
+-- what a call is given
+pub record Given : Type 0 where
+  pub definitions : List ℕ
+  pub tex : List ℕ
+  pub display : DisplayStyle
+  pub flags : ℕ
+
+abbrev pub given_by : Request → Given
+given_by request = record {
+  definitions = request.definitions.now;
+  tex = request.tex.now;
+  display = request.display;
+  flags = request.flags;
+}
+
+-- no flag is set, and both texts are UTF-8
+pub record IsReadable (given : Given) : Type 0 where
+  pub no_flags : given.flags ≡ 0
+  pub definitions : IsUtf8 given.definitions
+  pub tex : IsUtf8 given.tex
+
+-- a sentence says which of the two texts is no UTF-8: the first one
+abbrev pub IsNoText : Given → List ℕ → Type 0
+IsNoText given text =
+    ((¬ IsUtf8 given.definitions) × (text ≡ codes "The definitions are not UTF-8 text."))
+    ⊎ (IsUtf8 given.definitions × (¬ IsUtf8 given.tex) × (text ≡ codes "The input is not UTF-8 text."))
+
+-- the text that a call comes to, what it is, and the place of what is refused, or else 0
+abbrev pub IsTexText : Given → ℕ → Status → List ℕ → Type 0
+IsTexText given place UnknownFlags text = (place ≡ 0) × (given.flags ≢ 0) × (text ≡ codes "The flags must be 0.")
+IsTexText given place NotUtf8 text = (place ≡ 0) × (given.flags ≡ 0) × IsNoText given text
+IsTexText given place status text =
+    IsReadable given × IsRead given.definitions given.tex given.display place status text
+
+-- .. whatever the place is
+abbrev pub HasTexText : Given → Status → List ℕ → Type 0
+HasTexText given status text = (place : ℕ) × IsTexText given place status text

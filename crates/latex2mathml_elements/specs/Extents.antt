@@ -1,0 +1,42 @@
+-- How wide and how high a rectangle is.
+use Rattle.std.specs.Prelude.{ℕ, zero, suc, ℤ, pos, negsuc, Bool, true, false, List, [], ◌∷◌, ◌++◌, codes}
+use Rattle.std.specs.Str.{byte}
+use Rattle.latex2mathml_trees.specs.Width.{thousandths_text}
+
+-- the lengths are in thousandths of an em
+pub record Extent : Type 0 where
+  pub width : ℤ
+  -- above the line
+  pub height : ℤ
+  -- below it
+  pub depth : ℤ
+  pub is_black : Bool
+
+-- nothing but a width
+abbrev pub wide : ℤ → Extent
+wide width = record { width = width; height = pos 0; depth = pos 0; is_black = false }
+
+-- a length in ems, as a decimal fraction
+abbrev pub ems : ℤ → List ℕ
+ems (pos n) = thousandths_text n
+ems (negsuc n) = byte "-" ∷ thousandths_text (suc n)
+
+abbrev pub length_text : List ℕ → ℤ → List ℕ
+length_text name length = codes " " ++ (name ++ (codes "=\"" ++ (ems length ++ codes "em\"")))
+
+-- a length that is none is not said
+abbrev pub length_if_any : List ℕ → ℤ → List ℕ
+length_if_any name (pos zero) = []
+length_if_any name length = length_text name length
+
+abbrev pub black_text : Bool → List ℕ
+black_text true = codes " mathbackground=\"black\""
+black_text false = []
+
+-- its attributes
+abbrev pub extent_text : Extent → List ℕ
+extent_text e =
+    length_text (codes "width") e.width
+    ++ (length_if_any (codes "height") e.height
+    ++ (length_if_any (codes "depth") e.depth
+    ++ black_text e.is_black))

@@ -1,0 +1,12 @@
+use Rattle.std.proofs.Common.{arith, refl}
+use Rattle.latex2mathml_tex.proofs.{Tabled.row_is_last, Tabled.row_is_none}
+use Rattle.latex2mathml_tex.proofs.parse.Parser.end_cells.Goals as goal
+
+pub returns-then-is_no_row-clause-holds : goal.returns-then-is_no_row-clause-holds
+returns-then-is_no_row-clause-holds c = λ s g.
+    let none = c.if-is_no_row.ensures in
+    c.end_table.ensures.holds s (row_is_none s c.args.self.now c.args.table c.args.count c.args.at g none.0 none.1 none.2 (omega (arith, c.requires.can.elements)))
+
+pub returns-clause-holds : goal.returns-clause-holds
+returns-clause-holds c = λ s g.
+    c.end_table-2.ensures.holds s (row_is_last s c.args.self.now c.args.table c.args.count c.args.at g c.put_last.new.builder _ refl c.if-is_no_row.ensures (omega (arith, c.requires.can.elements)) c.in_ok-put_last.ensures)

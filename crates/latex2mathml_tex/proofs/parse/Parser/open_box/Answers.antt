@@ -1,0 +1,10 @@
+use Rattle.latex2mathml_tex_grammar.specs.{Makes.boxed_atom, Makes.core, Symbols.Ordinary}
+use Rattle.latex2mathml_tex_grammar.specs.Rows.{as_base}
+use Rattle.latex2mathml_tex_grammar.specs.Rules.{gives}
+use Rattle.latex2mathml_tex.specs.Meanings.{box_of, style_of}
+use Rattle.latex2mathml_tex.proofs.Leading.{operand_due}
+use Rattle.latex2mathml_tex.proofs.parse.Parser.open_box.Goals as goal
+
+pub returns-clause-holds : goal.returns-clause-holds
+returns-clause-holds c = λ s g.
+    c.open.ensures.holds s g.style (operand_due (λ x. gives (core (boxed_atom (box_of c.args.operand_box) (as_base (style_of c.args.context.style) Ordinary x)))) g.leads)

@@ -1,0 +1,164 @@
+-- What follows one outcome of units also follows another one, where the two are the same.
+use Rattle.std.proofs.Common.{◌≡◌, ℕ, Option, Some, None, refl, sym, ap, subst, List}
+use Rattle.latex2mathml_elements.specs.Element.{Element}
+use Rattle.latex2mathml_elements.specs.Columns.{Columns}
+use Rattle.latex2mathml_tex_grammar.specs.{Atoms.Atom, Makes.Core, Makes.Scripts, Makes.no_scripts, Rows.Row, Rows.Operand, Rows.empty_row, Rows.with_atom}
+use Rattle.latex2mathml_tex_grammar.specs.Reading.{Outcome, Read, ReadsRule, ReadsOperand, ReadsScripts, ReadsAtom, divider_read, divider_refused, on_empty_row, base_read, base_refused, ReadsAtoms, ReadsWord, ReadsWords, ReadsRows, ReadsBehindCell}
+use Rattle.latex2mathml_tex_grammar.specs.Rests.{Rest, GoesOnIn, NoRest, rest_of}
+use Rattle.latex2mathml_tex_grammar.specs.Rules.{Context, Ending, InBraces, Rule, rule, TableEnd}
+use Rattle.latex2mathml_tex_grammar.specs.{Meaning.Change, Starts.atom_start, Starts.ChangeStart, Starts.step_next, Starts.step_of_mark, Starts.mark_of, Starts.Step, Starts.GoesOn, Starts.TakesOperand, Starts.Forbidden, Refusal.Kind, Refusal.refusal_at, Symbols.Alphabet, Words.Words, Words.WordRule, Words.TakesWords, Scanning.Found, Scanning.Given, Starts.CellEnd, Next.past_space, Tables.Lines}
+use Rattle.latex2mathml_tex_grammar.specs.Units.{Unit, Units, Next, End}
+
+-- what holds of the unit that stands next, and of the units after it, holds whichever way it was found
+pub next_is : (P : Unit → Units → Type 0) {w m n : Units} {u v : Unit} → w ≡ Next u m → w ≡ Next v n → P v n → P u m
+next_is P {w} {m} {n} {u} {v} p q e =
+    let same : v ≡ u = cc in
+    let rest : n ≡ m = cc in
+    subst (λ x. P x m) same (subst (λ k. P v k) rest e)
+
+-- and so it is of what follows a change
+
+pub one_rest : (ending : Ending) (c : Context) (row : Row) {w m n : Units} {u v : Unit} {a b : Change} {x y : Rest} → w ≡ Next u m → w ≡ Next v n → atom_start ending u.piece ≡ ChangeStart a → atom_start ending v.piece ≡ ChangeStart b → rest_of a c row ≡ x → rest_of b c row ≡ y → x ≡ y
+one_rest ending c row {u = u} {v = v} {a = a} {b = b} p q s t d e =
+    let unit : u ≡ v = cc in
+    let same : a ≡ b = cc in
+    cc
+
+abbrev pub ReadsRest : Ending → Outcome Row → Rest → Units → Type 0
+ReadsRest ending o (GoesOnIn c row) l = ReadsAtoms ending c row l o
+ReadsRest ending o (NoRest kind) l = ⊥
+
+pub rest_is : {ending : Ending} {w m n : Units} {u v : Unit} {c d : Context} {xs ys : Row} {o : Outcome Row} → w ≡ Next u m → w ≡ Next v n → GoesOnIn c xs ≡ GoesOnIn d ys → ReadsAtoms ending d ys n o → ReadsAtoms ending c xs m o
+rest_is {ending} {m = m} {n = n} {d = d} {ys = ys} {o = o} p q e r =
+    let rest : n ≡ m = cc in
+    subst (λ x. ReadsRest ending o x m) (sym e) (subst (λ k. ReadsAtoms ending d ys k o) rest r)
+
+pub refused_alike : {w m n : Units} {u v : Unit} {a b : Kind} → w ≡ Next u m → w ≡ Next v n → NoRest a ≡ NoRest b → refusal_at a u.place ≡ refusal_at b v.place
+refused_alike {u = u} {v = v} {a = a} {b = b} p q e =
+    let same : u ≡ v = cc in
+    let kind : a ≡ b = cc in
+    rw (same, kind) refl
+
+-- with which no atom begins
+
+pub no_atom : {ending : Ending} {c : Context} {u : Unit} {l : Units} {change : Change} {o : Outcome Atom} → ReadsAtom ending c u l o → atom_start ending u.piece ≡ ChangeStart change → ⊥
+no_atom (divider_read s d) t = cc
+no_atom (divider_refused s d) t = cc
+no_atom (on_empty_row s d) t = cc
+no_atom (base_read s d ds) t = cc
+no_atom (base_refused s d) t = cc
+
+pub atom_or_change : {ending : Ending} {c : Context} {w m n : Units} {u v : Unit} {change : Change} {o : Outcome Atom} → w ≡ Next u m → w ≡ Next v n → ReadsAtom ending c u m o → atom_start ending v.piece ≡ ChangeStart change → ⊥
+atom_or_change {ending} {u = u} {v = v} {change = change} p q d t =
+    let same : v ≡ u = cc in
+    no_atom d (subst (λ x. atom_start ending x.piece ≡ ChangeStart change) same t)
+
+-- what follows one outcome also follows the other, which is the same
+pub moved : {A : Type 0} (P : A → Units → Type 0) {x y : A} {m n : Units} → Read x m ≡ Read y n → P y n → P x m
+moved P {x} {y} {m} {n} e d =
+    let same : y ≡ x = cc in
+    let rest : n ≡ m = cc in
+    subst (λ z. P z m) same (subst (λ k. P y k) rest d)
+
+pub moved_some : {A : Type 0} (P : A → Units → Type 0) {found : Option (A × Units)} {x y : A} {m n : Units} → found ≡ Some (x, m) → found ≡ Some (y, n) → P y n → P x m
+moved_some {A} P {found} {x} {y} {m} {n} p q d =
+    let both : A × Units = (x, m) in
+    let others : A × Units = (y, n) in
+    let same : others ≡ both = cc in
+    subst (λ t. P t.0 t.1) same d
+
+-- so it is of rules, of operands and of atoms that begin with the unit
+
+pub core_is : (c : Context) {w m n : Units} {u v : Unit} {o : Outcome Core} → w ≡ Next u m → w ≡ Next v n → ReadsRule (rule v.place c v.piece) n o → ReadsRule (rule u.place c u.piece) m o
+core_is c {o = o} p q e = next_is (λ v n. ReadsRule (rule v.place c v.piece) n o) p q e
+
+pub group_is : {c : Context} {w m n : Units} {u v : Unit} {o : Outcome Row} → w ≡ Next u m → w ≡ Next v n → ReadsAtoms (InBraces v.place) c empty_row n o → ReadsAtoms (InBraces u.place) c empty_row m o
+group_is {c} {o = o} p q e = next_is (λ v n. ReadsAtoms (InBraces v.place) c empty_row n o) p q e
+
+pub operand_is : {c : Context} {w m n : Units} {u v : Unit} {o : Outcome Operand} → w ≡ Next u m → w ≡ Next v n → ReadsOperand v.place c n o → ReadsOperand u.place c m o
+operand_is {c} {o = o} p q e = next_is (λ v n. ReadsOperand v.place c n o) p q e
+
+pub atom_is : {ending : Ending} {c : Context} {w m n : Units} {u v : Unit} {o : Outcome Atom} → w ≡ Next u m → w ≡ Next v n → ReadsAtom ending c v n o → ReadsAtom ending c u m o
+atom_is {ending} {c} {o = o} p q e = next_is (λ v n. ReadsAtom ending c v n o) p q e
+
+-- and so it is of what follows an outcome
+
+pub rule_moved : {A : Type 0} (then : A → Rule) {x y : A} {m n : Units} {o : Outcome Core} → Read x m ≡ Read y n → ReadsRule (then y) n o → ReadsRule (then x) m o
+rule_moved then {o = o} e d = moved (λ x m. ReadsRule (then x) m o) e d
+
+pub taken_moved : {A : Type 0} (then : A → Rule) {found : Option (A × Units)} {x y : A} {m n : Units} {o : Outcome Core} → found ≡ Some (x, m) → found ≡ Some (y, n) → ReadsRule (then y) n o → ReadsRule (then x) m o
+taken_moved then {o = o} p q d = moved_some (λ x m. ReadsRule (then x) m o) p q d
+
+pub found_moved : (then : List ℕ → Rule) {found : Found} {x y : List ℕ} {m n : Units} {o : Outcome Core} → found ≡ Given x m → found ≡ Given y n → ReadsRule (then y) n o → ReadsRule (then x) m o
+found_moved then {x = x} {y = y} {m = m} {n = n} {o = o} p q d =
+    let same : y ≡ x = cc in
+    let rest : n ≡ m = cc in
+    subst (λ z. ReadsRule (then z) m o) same (subst (λ k. ReadsRule (then y) k o) rest d)
+
+pub rows_moved : (then : Lines → ℕ → Rule) {x y : Lines} {u v : Unit} {j k m n : Units} {o : Outcome Core} → Read x j ≡ Read y k → past_space j ≡ Next u m → past_space k ≡ Next v n → ReadsRule (then y v.place) n o → ReadsRule (then x u.place) m o
+rows_moved then {x} {y} {u} {v} {j} {k} {m} {n} {o} e p q d =
+    let same : y ≡ x = cc in
+    let left : k ≡ j = cc in
+    subst (λ z. ReadsRule (then z u.place) m o) same (next_is (λ v n. ReadsRule (then y v.place) n o) p (subst (λ k. past_space k ≡ Next v n) left q) d)
+
+pub rows_moved_to_end : (then : Lines → ℕ → Rule) {x y : Lines} {a b : ℕ} {j k : Units} {o : Outcome Core} → Read x j ≡ Read y k → past_space j ≡ End a → past_space k ≡ End b → ReadsRule (then y b) (End b) o → ReadsRule (then x a) (End a) o
+rows_moved_to_end then {x} {y} {a} {b} {j} {k} {o} e p q d =
+    let same : y ≡ x = cc in
+    let at : b ≡ a = cc in
+    subst (λ n. ReadsRule (then x n) (End n) o) at (subst (λ z. ReadsRule (then z b) (End b) o) same d)
+
+pub rows_next : {end : TableEnd} {place : ℕ} {columns : Columns} {c : Context} {rows cells : List Element} (behind : Units → Units) {w m n : Units} {u v : Unit} {o : Outcome Lines} → w ≡ Next u m → w ≡ Next v n → ReadsRows end place columns c rows cells (behind n) o → ReadsRows end place columns c rows cells (behind m) o
+rows_next {end} {place} {columns} {c} {rows} {cells} behind {o = o} p q d = next_is (λ u m. ReadsRows end place columns c rows cells (behind m) o) p q d
+
+-- what ends a cell does one thing
+pub one_end : (end : Unit → CellEnd) {w m n : Units} {u v : Unit} {a b : CellEnd} → w ≡ Next u m → w ≡ Next v n → end u ≡ a → end v ≡ b → a ≡ b
+one_end end {u = u} {v = v} p q s t = (let same : u ≡ v = cc in cc)
+
+pub cell_moved : {end : TableEnd} {place : ℕ} {columns : Columns} {c : Context} {rows cells : List Element} {x y : Row} {m n : Units} {o : Outcome Lines} → Read x m ≡ Read y n → ReadsBehindCell end place columns c rows cells y.elements n o → ReadsBehindCell end place columns c rows cells x.elements m o
+cell_moved {end} {place} {columns} {c} {rows} {cells} {o = o} e d = moved (λ x m. ReadsBehindCell end place columns c rows cells x.elements m o) e d
+
+pub base_moved : {c : Context} {x y : Core} {m n : Units} {o : Outcome Atom} → Read x m ≡ Read y n → ReadsScripts c y.atom (no_scripts y.atom.kind y.limits) n o → ReadsScripts c x.atom (no_scripts x.atom.kind x.limits) m o
+base_moved {c} {o = o} e d = moved (λ x m. ReadsScripts c x.atom (no_scripts x.atom.kind x.limits) m o) e d
+
+pub atoms_moved : {ending : Ending} {c : Context} (row : Row) {x y : Atom} {m n : Units} {o : Outcome Row} → Read x m ≡ Read y n → ReadsAtoms ending c (with_atom c.style row y) n o → ReadsAtoms ending c (with_atom c.style row x) m o
+atoms_moved {ending} {c} row {o = o} e d = moved (λ x m. ReadsAtoms ending c (with_atom c.style row x) m o) e d
+
+pub words_moved : {place : ℕ} {a : Option Alphabet} {ws vs : Words} {m n : Units} {o : Outcome Words} → Read ws m ≡ Read vs n → ReadsWords place a vs n o → ReadsWords place a ws m o
+words_moved {place} {a} {o = o} e d = moved (λ ws m. ReadsWords place a ws m o) e d
+
+-- the step of the mark that stands next is one
+
+pub one_step : (step : Unit → Option Step) {w m n : Units} {u v : Unit} {a b : Step} → w ≡ Next u m → w ≡ Next v n → step u ≡ Some a → step v ≡ Some b → a ≡ b
+one_step step {u = u} {v = v} p q s t = (let same : u ≡ v = cc in cc)
+
+pub goes_on : (step : Unit → Option Step) (P : Scripts → Units → Type 0) {w m n : Units} {u v : Unit} {a b : Scripts} → w ≡ Next u m → w ≡ Next v n → step u ≡ Some (GoesOn a) → step v ≡ Some (GoesOn b) → P b n → P a m
+goes_on step P {m = m} {n = n} {a = a} {b = b} p q s t e =
+    let same : b ≡ a = cc (one_step step p q s t) in
+    let rest : n ≡ m = cc in
+    subst (λ x. P x m) same (subst (λ k. P b k) rest e)
+
+pub same_operand_step : (step : Unit → Option Step) (P : (Element → Scripts) → Type 0) {w m n : Units} {u v : Unit} {f g : Element → Scripts} → w ≡ Next u m → w ≡ Next v n → step u ≡ Some (TakesOperand f) → step v ≡ Some (TakesOperand g) → P g → P f
+same_operand_step step P {f = f} {g = g} p q s t e = (let same : g ≡ f = cc (one_step step p q s t) in subst P same e)
+
+pub same_second : (step : Unit → Option Step) {w m n : Units} {u v : Unit} {a b : Kind} → w ≡ Next u m → w ≡ Next v n → step u ≡ Some (Forbidden a) → step v ≡ Some (Forbidden b) → refusal_at a u.place ≡ refusal_at b v.place
+same_second step {u = u} {v = v} {a = a} {b = b} p q s t =
+    let same : u ≡ v = cc in
+    let kind : a ≡ b = cc (one_step step p q s t) in
+    rw (same, kind) refl
+
+-- and no step is made where the scripts end
+pub ended_there : (scripts : Scripts) {w m : Units} {u : Unit} {a : Step} → w ≡ Next u m → step_next scripts w ≡ None → step_of_mark scripts (mark_of u.piece) ≡ Some a → ⊥
+ended_there scripts p s t = cc (ap (step_next scripts) p)
+
+pub same_alphabet : (P : Option Alphabet → Type 0) {r : WordRule} {a b : Option Alphabet} → r ≡ TakesWords a → r ≡ TakesWords b → P b → P a
+same_alphabet P {r} {a} {b} s t e = (let same : b ≡ a = cc in subst P same e)
+
+pub word_is : {place : ℕ} {r : WordRule} {a b : Option Alphabet} {ws : Words} {l : Units} {o : Outcome Words} → r ≡ TakesWords a → r ≡ TakesWords b → ReadsWord place b ws l o → ReadsWord place a ws l o
+word_is {place} {ws = ws} {l = l} {o = o} s t e = same_alphabet (λ a. ReadsWord place a ws l o) s t e
+
+pub scripts_go_on : (step : Unit → Option Step) {c : Context} {base : Atom} {w m n : Units} {u v : Unit} {a b : Scripts} {o : Outcome Atom} → w ≡ Next u m → w ≡ Next v n → step u ≡ Some (GoesOn a) → step v ≡ Some (GoesOn b) → ReadsScripts c base b n o → ReadsScripts c base a m o
+scripts_go_on step {c} {base} {o = o} p q s t e = goes_on step (λ x n. ReadsScripts c base x n o) p q s t e
+
+pub script_moved : (step : Unit → Option Step) {c : Context} {base : Atom} {w m n k j : Units} {u v : Unit} {f g : Element → Scripts} {x y : Operand} {o : Outcome Atom} → w ≡ Next u m → w ≡ Next v n → step u ≡ Some (TakesOperand f) → step v ≡ Some (TakesOperand g) → Read x k ≡ Read y j → ReadsScripts c base (g y.element) j o → ReadsScripts c base (f x.element) k o
+script_moved step {c} {base} {j = j} {f = f} {y = y} {o = o} p q s t e d =
+    moved (λ x k. ReadsScripts c base (f x.element) k o) e (same_operand_step step (λ h. ReadsScripts c base (h y.element) j o) p q s t d)

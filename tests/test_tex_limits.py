@@ -1,0 +1,101 @@
+"""What `tex2mathml` takes for macros: many definitions, and both limits of expansion, in instructions and in memory.
+
+A run whose answer is not the one that is due does not count: a program that gives up would count as cheap.
+"""
+import math
+import unittest
+
+import pytest
+
+from tests import faulty, support
+from tests.instructions import instructions
+from tests.tex_limits import AT_LIMITS, X, definitions
+
+pytestmark = [pytest.mark.long, pytest.mark.timeout(1800)]
+
+# A search among four times the names takes a few steps more.
+FEW, MANY = 10_000, 40_000
+MOST_TIMES = 4.1 * math.log(MANY) / math.log(FEW)
+# what a run takes at most, whatever it expands
+MOST_INSTRUCTIONS = 150_000_000
+MOST_BYTES = 32 << 20
+
+
+class Limits(support.Case):
+    """Each comes to its answer or its refusal, in few instructions and little memory."""
+
+    def judge(self, formula, contents, reason):
+        done, counts = faulty.counts_of([support.tex_program()], stdin=formula.encode())
+        if reason:
+            self.expect(done, 1, b"", f"tex2mathml: {reason}\n".encode())
+        else:
+            self.expect(done, 0, faulty.math(contents) + b"\n")
+        self.assertLessEqual(counts["peak"], MOST_BYTES)
+
+    @support.requires("valgrind")
+    def test_instructions(self):
+        for name, (formula, _, reason) in AT_LIMITS.items():
+            with self.subTest(name):
+                count = instructions([support.tex_program()], stdin=formula.encode(), status=int(bool(reason)))
+                self.assertLessEqual(count, MOST_INSTRUCTIONS)
+
+
+class Definitions(support.Case):
+    """Four times the definitions take about four times the instructions and the memory, in a file and in a formula."""
+
+    def runs(self, defined, formula):
+        """The words and the inputs that read these definitions."""
+        file = self.enterContext(support.scratch()) / "macros.tex"
+        file.write_text(defined)
+        return {"in a file": (["--definitions", file], formula.encode()), "in a formula": ([], (defined + formula).encode())}
+
+    def judge(self, texts, of):
+        counts = []
+        for count in (FEW, MANY):
+            counts.append({})
+            for where, (words, given) in self.runs(*texts(count)).items():
+                command = [support.tex_program(), *words]
+                self.expect(support.run(command, stdin=given), stdout=faulty.math(X * 2) + b"\n")
+                counts[-1][where] = of(command, given)
+        few, many = counts
+        for where in few:
+            with self.subTest(where):
+                self.assertLessEqual(many[where], MOST_TIMES * few[where])
+
+    @support.requires("valgrind")
+    def test_instructions(self):
+        self.judge(definitions, instructions)
+
+    @support.requires("valgrind")
+    def test_instructions_of_one_name(self):
+        """Each takes the place of the one before it."""
+        self.judge(lambda count: ("\\def\\a{y}" * (count - 1) + "\\def\\a{x}", "\\a\\a"), instructions)
+
+    @support.requires("cc")
+    def test_memory(self):
+        self.judge(definitions, lambda command, given: faulty.counts_of(command, stdin=given)[1]["peak"])
+
+    @support.requires("valgrind")
+    def test_formulas(self):
+        """A formula takes hardly more where there are four times as many macros."""
+        counts = []
+        for count in (FEW, MANY):
+            defined, formula = definitions(count)
+            words, given = self.runs(defined, f"{formula}\0")["in a file"]
+            command = [support.tex_program(), "--null", *words]
+            one, many = (instructions(command, stdin=given * formulas) for formulas in (1, 1001))
+            counts.append((many - one) / 1000)
+        self.assertLessEqual(counts[1], MOST_TIMES / 4 * counts[0])
+
+
+def add_cases():
+    for name, given in AT_LIMITS.items():
+        def case(self, given=given):
+            self.judge(*given)
+        setattr(Limits, f"test_{name.replace(' ', '_').replace(',', '')}", support.requires("cc")(case))
+
+
+add_cases()
+
+if __name__ == "__main__":
+    unittest.main()
