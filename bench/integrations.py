@@ -27,11 +27,11 @@ MATHJAX_PARTS = ["MathJax.js", "config/TeX-MML-AM_CHTML.js", "jax/output/CommonH
 
 KATEX_SCRIPT = """
 const katex = require('katex');
-const { FORMULA, findFormulas } = require(process.argv[1] + '/dollars.js');
+const { FORMULA, findFormulas } = require(process.argv[1] + '/delimiters.js');
 const md = require('markdown-it')();
 findFormulas(md);
 md.renderer.rules[FORMULA] = (tokens, i) => katex.renderToString(tokens[i].content, {
-    displayMode: tokens[i].markup === '$$', throwOnError: false, strict: 'ignore',
+    displayMode: tokens[i].meta.isBlock, throwOnError: false, strict: 'ignore',
 });
 """
 PLUGIN_SCRIPT = """
@@ -58,11 +58,12 @@ class Tools:
 
     def __init__(self, folder):
         self.folder = folder
-        self.program = self.built_program()
+        self.program = self.built_program("latex2mathml_tex_app")
         self.node = folder / "integrations/node"
 
-    def built_program(self):
-        done = subprocess.run([HOUSE / "tools/built", "latex2mathml_app"], check=True, stdout=subprocess.PIPE, text=True)
+    @staticmethod
+    def built_program(crate):
+        done = subprocess.run([HOUSE / "tools/built", crate], check=True, stdout=subprocess.PIPE, text=True)
         return pathlib.Path(done.stdout.strip())
 
     def python(self):
@@ -79,7 +80,6 @@ class Tools:
     def node_package(self):
         if not self.node.exists():
             shutil.copytree(HOUSE / "integrations/node", self.node, ignore=shutil.ignore_patterns("build", "lib"))
-            shutil.copy(HOUSE / "integrations/names.json", self.node.parent)
             subprocess.run([HOUSE / "tools/make-c-library", self.node / "lib"], check=True)
             subprocess.run([self.node / "make-addon"], check=True)
         return self.node
@@ -126,16 +126,16 @@ def node(script):
 SPHINX, PYTHON_MARKDOWN = [SYSTEM_PACKAGES / "sphinx"], [SYSTEM_PACKAGES / "markdown"]
 MARKDOWN_IT = ["node", NODE_PACKAGES / "markdown-it"]
 ENTRIES = [
-    Entry("Sphinx and the extension", sphinx("latex2mathml", "latex2mathml_proved.sphinx"), SPHINX, [PAGE_SCRIPT]),
+    Entry("Sphinx and the extension", sphinx("latex2mathml", "latex2mathml_proved.sphinx"), SPHINX, []),
     Entry("Sphinx, mathjax", sphinx("mathjax", "sphinx.ext.mathjax"), [*SPHINX, MATHJAX], [MATHJAX / part for part in MATHJAX_PARTS]),
     Entry("Sphinx, imgmath", sphinx("imgmath", "sphinx.ext.imgmath"), [*SPHINX, "latex", "dvipng"], []),
-    Entry("Python-Markdown, the extension", python_markdown("latex2mathml"), PYTHON_MARKDOWN, [PAGE_SCRIPT]),
+    Entry("Python-Markdown, the extension", python_markdown("latex2mathml"), PYTHON_MARKDOWN, []),
     Entry("Python-Markdown, for MathJax", python_markdown("mdx_math", enable_dollar_delimiter=True),
           [*PYTHON_MARKDOWN, SYSTEM_PACKAGES / "mdx_math.py", MATHJAX], [MATHJAX / part for part in MATHJAX_PARTS]),
-    Entry("pandoc and the filter", pandoc_with_filter, ["pandoc"], [PAGE_SCRIPT]),
+    Entry("pandoc and the filter", pandoc_with_filter, ["pandoc"], []),
     Entry("pandoc --mathml", pandoc("--mathml"), ["pandoc"], []),
     Entry("pandoc --mathjax", pandoc("--mathjax"), ["pandoc", MATHJAX], [MATHJAX / part for part in MATHJAX_PARTS]),
-    Entry("markdown-it and the plugin", node(PLUGIN_SCRIPT), MARKDOWN_IT, [PAGE_SCRIPT]),
+    Entry("markdown-it and the plugin", node(PLUGIN_SCRIPT), MARKDOWN_IT, []),
     Entry("markdown-it and KaTeX", node(KATEX_SCRIPT), [*MARKDOWN_IT, NODE_PACKAGES / "katex"], []),
 ]
 

@@ -26,6 +26,7 @@ from tools.progress import Screen, Stopwatch, clock, end_of, follow
 OUT = ROOT / "out"
 C_LIBRARY = "latex2mathml_c"
 LAST_LINE = re.compile(r"(\d+) passed, (\d+) failed")
+NO_TOOLCHAIN = "test: the command rt of the Rattle toolchain is not on the path: README.md says under \"Try it\" what is needed"
 
 
 class Total:
@@ -179,6 +180,9 @@ def name_of(word):
 
 
 def main(words):
+    proves = words in ([], ["proofs"])
+    if proves and not shutil.which("rt"):
+        sys.exit(NO_TOOLCHAIN)
     screen = Screen()
     for number in (signal.SIGTERM, signal.SIGHUP):
         signal.signal(number, lambda number, frame: sys.exit(128 + number))
@@ -187,7 +191,7 @@ def main(words):
         os.environ[RUN] = str(folder)
         # where a build that a case needs shows its progress, though pytest keeps what cases print
         os.environ[SCREEN] = f"/proc/{os.getpid()}/fd/{os.dup(2)}"
-        if words in ([], ["proofs"]):
+        if proves:
             begun = time.time()
             is_well = total.do("layout", look_at_layout) and total.do("rt ci", lambda it: prove(it, begun)) \
                 and total.do("the library for C", lambda it: build_c_library(it, begun))

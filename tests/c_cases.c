@@ -16,7 +16,10 @@ enum { LEVELS = 1000000, MANY = 100000, RANDOM_INPUTS = 10000, THREADS = 4, CALL
 #define OPEN_BRACE "The token \"RBrace\" is expected, but the token \"EOF\" is found.\""
 #define NO_TEXT "The input is not UTF-8 text."
 #define NO_DEFINITIONS "The definitions are not UTF-8 text."
-#define FLAGGED "The flags must be 0."
+#define FLAGGED "The flags must be 0 or LATEX2MATHML_ANNOTATION."
+#define ANNOTATION(tex) "<annotation encoding=\"application/x-tex\">" tex "</annotation>"
+#define ANNOTATED(shown, tex) {LATEX2MATHML_DONE, TEXT("<math xmlns=\"http://www.w3.org/1998/Math/MathML\" display=\"inline\" " \
+    "alttext=\"" tex "\"><semantics>" shown ANNOTATION(tex) "</semantics></math>"), 0}
 #define TEXT(text) text, sizeof text - 1
 
 #define GIVEN(conversion, input) {conversion, TEXT(input), NULL, 0, 0}
@@ -73,7 +76,15 @@ static const struct {
     {"TeX that is no text, behind a refused definition", TEX(TEX_INLINE, "x", "\xC3"), CODED(LATEX2MATHML_NOT_UTF8, NO_TEXT)},
     {"definitions that are no text", TEX(TEX_BLOCK, "\xFF", "x"), CODED(LATEX2MATHML_NOT_UTF8, NO_DEFINITIONS)},
     {"neither is a text", TEX(TEX_INLINE, "\xC3", "\xFF"), CODED(LATEX2MATHML_NOT_UTF8, NO_DEFINITIONS)},
-    {"a flag", TEX_FLAGGED(1, "", "x"), CODED(LATEX2MATHML_UNKNOWN_FLAGS, FLAGGED)},
+    {"an annotation", TEX_FLAGGED(LATEX2MATHML_ANNOTATION, "", "x<y"),
+     ANNOTATED("<mrow>" LESS "</mrow>", "x&lt;y")},
+    {"an annotation beside one element", TEX_FLAGGED(LATEX2MATHML_ANNOTATION, "\\def\\a{x}", "\\a % $\1"),
+     ANNOTATED("<mi>x</mi>", "\\a % &#x24;\xEF\xBF\xBD")},
+    {"an annotation of no bytes", TEX_FLAGGED(LATEX2MATHML_ANNOTATION, "", ""), ANNOTATED("<mrow></mrow>", "")},
+    {"an annotation of a refused formula", TEX_FLAGGED(LATEX2MATHML_ANNOTATION, "", "x + \\foo"),
+     REFUSED_AT(4, "unknown command \\foo at 4")},
+    {"a flag without a meaning", TEX_FLAGGED(2, "", "x"), CODED(LATEX2MATHML_UNKNOWN_FLAGS, FLAGGED)},
+    {"two flags, one of which has none", TEX_FLAGGED(3, "", "x"), CODED(LATEX2MATHML_UNKNOWN_FLAGS, FLAGGED)},
     {"the last flag, before all else", TEX_FLAGGED(0x80000000u, "\xFF", "\xFF"), CODED(LATEX2MATHML_UNKNOWN_FLAGS, FLAGGED)},
 };
 

@@ -92,15 +92,6 @@ class Command:
         return f"\\{self.name}".encode()
 
 
-@dataclass(frozen=True)
-class Name:
-    """A name that the integrations replace, a formula with it, and the contents of the formula's element."""
-    line: Line
-    name: str
-    formula: str
-    contents: str
-
-
 def expand(text):
     """The bytes that a text of a case stands for.
 
@@ -185,11 +176,6 @@ def commands():
     return [Command(*row) for row in rows("commands.txt")]
 
 
-def names():
-    """The names that the integrations replace. A name may have several lines."""
-    return [Name(*row) for row in rows("names.txt")]
-
-
 def rows(name):
     """The lines of a table: each line, and what its three columns stand for."""
     for _, line in lines_of(CASES / name):
@@ -202,7 +188,7 @@ def rows(name):
 
 
 # The files that are tables: the class of tests that has a test for each line, and the reader.
-TABLES = {"commands.txt": ("test_commands.Entries", commands), "names.txt": ("test_python_package.UsualNames", names)}
+TABLES = {"commands.txt": ("test_commands.Entries", commands)}
 
 
 def every_rule():
@@ -226,8 +212,8 @@ def test_name(word):
     'tests.test_cases.refusals.test_13'
     >>> test_name("cases/commands.txt:12")
     'tests.test_commands.Entries.test_12'
-    >>> test_name("cases/names.txt")
-    'tests.test_python_package.UsualNames'
+    >>> test_name("cases/commands.txt")
+    'tests.test_commands.Entries'
     """
     name, _, line = word.removeprefix("cases/").partition(":")
     if name not in files("**/*.txt"):

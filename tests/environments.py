@@ -9,9 +9,6 @@ import unittest
 
 from tests.support import ROOT, c_library, once, run, run_folder
 
-NAMES = ROOT / "integrations/names.json"
-NAME_CASES = json.loads((ROOT / "integrations/names-cases.json").read_text(encoding="utf-8"))
-
 
 @functools.cache
 def interpreter(*modules):

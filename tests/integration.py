@@ -1,10 +1,15 @@
-"""Results and refusals of the program, for the tests of the integrations."""
-from tests.support import program, run
+"""Results and refusals of the programs, for the tests of the integrations."""
+from tests.support import program, run, tex_program
 
-# Why `{x` is refused.
+# Why `latex2mathml` refuses `{x`.
 UNCLOSED = 'The token "RBrace" is expected, but the token "EOF" is found."'
 
 
 def answer_of(latex, word="inline"):
-    """The program's answer to a formula, in a line or as a `block`."""
+    """The answer of `latex2mathml` to a formula, in a line or as a `block`."""
     return run([program(), word], stdin=latex.encode()).stdout.decode().removesuffix("\n")
+
+
+def tex_answer_of(latex, display="inline", *words):
+    """The answer of `tex2mathml` to a formula, in a line or as a `block`."""
+    return run([tex_program(), "--display", display, *words], stdin=latex.encode()).stdout.decode().removesuffix("\n")

@@ -228,6 +228,9 @@ class Building(House):
                 done = run(["tools/built", "high"], cwd=self.house, env=environment)
                 self.expect(done, stdout=f"{self.house}/crates/high/out/high\n".encode())
 
+    def test_no_crate(self):
+        self.expect(self.build(""), 1, b"", b"built: name the crates to build\n")
+
     def test_no_such_crate(self):
         self.expect(self.build("nothing"), 1, b"", b"built: crates.txt names no crate nothing\n")
 

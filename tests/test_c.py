@@ -21,6 +21,8 @@ def math(display):
 
 
 INLINE, BLOCK = math("inline"), math("block")
+ANNOTATED = INLINE.replace("><mi>x", ' alttext="x&lt;y"><semantics><mrow><mi>x').replace(
+    "</math>", '</mrow><annotation encoding="application/x-tex">x&lt;y</annotation></semantics></math>')
 REASON = b'The token "RBrace" is expected, but the token "EOF" is found."'
 CALLS = {"latex2mathml_formula", "latex2mathml_document", "latex2mathml_tex"}
 
@@ -214,7 +216,8 @@ class Examples(Case):
         for expression, answer in [("latex2mathml.document('a $x<y$')", f"a {INLINE}"), ("latex2mathml.formula('x<y')", INLINE),
                                    ("latex2mathml.formula('x<y', True)", BLOCK), ("latex2mathml.formula(b'x<y', block=False)", INLINE),
                                    ("latex2mathml.tex('x<y')", INLINE), ("latex2mathml.tex(b'x<y', True, b'% none')", BLOCK),
-                                   (r"latex2mathml.tex(r'x\less y', definitions=r'\def\less{<}')", INLINE)]:
+                                   (r"latex2mathml.tex(r'x\less y', definitions=r'\def\less{<}')", INLINE),
+                                   ("latex2mathml.tex('x<y', annotation=True)", ANNOTATED)]:
             with self.subTest(expression):
                 self.expect(self.python(expression), stdout=f"{answer}\n".encode())
 

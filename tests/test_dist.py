@@ -4,7 +4,7 @@ import re
 import shutil
 
 from tests.environments import interpreter, requires_python
-from tests.support import Case, ROOT, program, requires, run, scratch
+from tests.support import Case, ROOT, program, requires, run, scratch, tex_program
 
 CRATE = "crates/latex2mathml_c"
 
@@ -31,6 +31,14 @@ def math(display):
 
 
 INLINE, BLOCK = math("inline"), math("block")
+
+SQUARE = (b'<math xmlns="http://www.w3.org/1998/Math/MathML" display="inline"><msubsup><mi>x</mi><mi>i</mi><mn>2</mn></msubsup></math>')
+
+
+def commands(readme):
+    """The commands of a README: the lines of its blocks of code that are no file, with those that a backslash continues."""
+    blocks = re.findall(r"(?:^    .*\n)+", readme, re.MULTILINE)
+    return [" ".join(line.split()) for block in blocks for line in block.replace("\\\n", " ").splitlines()]
 
 
 @requires("cc", "objdump", "ldd")
@@ -98,7 +106,7 @@ class Dist(Case):
         done = run([house / "tools/make-wheel", library, wheel.parent], env=environment)
         self.expect(done, stdout=f"{wheel}\n".encode())
         package = "src/latex2mathml_proved"
-        needed = {"LICENSE", "setup.py", f"{package}/__init__.py", f"{package}/liblatex2mathml.so", f"{package}/names.json",
+        needed = {"LICENSE", "setup.py", f"{package}/__init__.py", f"{package}/liblatex2mathml.so",
                   f"{package}/page/latex2mathml.css", f"{package}/page/latex2mathml.js"}
         self.assertEqual(needed - set(wheel.read_text().splitlines()), set())
 
@@ -114,7 +122,7 @@ class Dist(Case):
 
     def test_files(self):
         for file, source in [
-            ("LICENSE", "LICENSE"), ("page/latex2mathml.css", "page/latex2mathml.css"), ("page/latex2mathml.js", "page/latex2mathml.js"),
+            ("LICENSE", "LICENSE"), ("integrations/node/LICENSE", "LICENSE"), ("integrations/rust/LICENSE", "LICENSE"), ("page/latex2mathml.css", "page/latex2mathml.css"), ("page/latex2mathml.js", "page/latex2mathml.js"),
             ("c/latex2mathml.h", f"{CRATE}/include/latex2mathml.h"),
             *((f"c/examples/{name}", f"{CRATE}/examples/{name}") for name in ("formula.c", "latex2mathml.py", "addon.c")),
         ]:
@@ -125,7 +133,7 @@ class Dist(Case):
         """The C library, and the newest version of it that the program needs, compared as numbers: 2.34 is newer than 2.4."""
         text = (self.dist / "README.md").read_text(encoding="utf-8")
         self.assertIn("libc.so", text)
-        symbols = run(["objdump", "-T", program()]).stdout.decode()
+        symbols = run(["objdump", "-T", program(), tex_program()]).stdout.decode()
         versions = {tuple(map(int, found.split("."))) for found in re.findall(r"GLIBC_(\d+(?:\.\d+)*)", symbols)}
         newest = ".".join(map(str, max(versions)))
         self.assertIn(f"the C library of GNU, version {newest} or later;", text)
@@ -134,6 +142,8 @@ class Dist(Case):
         for word, markup in [("inline", INLINE), ("block", BLOCK)]:
             with self.subTest(word):
                 self.expect(self.run_there("latex2mathml", word, stdin=b"x<y"), stdout=f"{markup}\n".encode())
+        with self.subTest("as authors write it"):
+            self.expect(self.run_there("tex2mathml", stdin=b"x_i^2"), stdout=SQUARE + b"\n")
         with self.subTest("refused"):
             refused = self.run_there("latex2mathml", "inline", stdin=b"{x")
             self.expect(refused, 1, b"", None)
@@ -160,21 +170,90 @@ class Dist(Case):
         self.expect(run(["sh", "-c", install], cwd=self.dist, env={"PATH": path}, timeout=300), stdout=None, stderr=None)
         self.expect(run(["sh", "-c", call], cwd=self.dist, env={"PATH": path}), stdout=f"{INLINE}\n".encode())
 
+    @requires_python("sphinx", "markdown", "mkdocs")
+    def test_the_readme_for_python(self):
+        """Its commands, from the folder of the wheel on, install it and build the examples, with the tools that the system has."""
+        folder = self.enterContext(scratch()) / "python"
+        shutil.copytree(self.dist / "integrations/python", folder)
+        text = (folder / "README.md").read_text(encoding="utf-8")
+        commands = re.findall(r"^    ((?:python3|venv/bin/\w+) .*)$", text.partition("cd dist/integrations/python\n")[2], re.MULTILINE)
+        python = interpreter("ensurepip", "sphinx", "markdown", "mkdocs")
+        commands[0] = commands[0].replace("python3 -m venv", f"{python} -m venv --system-site-packages")
+        for command in commands:
+            if not re.fullmatch(r"venv/bin/pip install \w+", command):
+                self.expect(run(["sh", "-c", command], cwd=folder, env={"PATH": os.environ["PATH"]}, timeout=300), stdout=None, stderr=None)
+        for page, count in ("out-sphinx/index.html", 6), ("out-markdown/page.html", 7), ("out-mkdocs/index.html", 5):
+            with self.subTest(page):
+                self.assertEqual((folder / page).read_text(encoding="utf-8").count("<math "), count)
+
     @requires("python3")
     def test_the_library_from_python(self):
         self.expect(run(["python3", "c/examples/latex2mathml.py", "x<y"], cwd=self.dist), stdout=f"{INLINE}\n".encode())
 
+    def project(self):
+        """An empty folder beside one that is called `dist`."""
+        folder = self.enterContext(scratch())
+        (folder / "dist").symlink_to(self.dist)
+        (folder / "project").mkdir()
+        return folder / "project"
+
+    def readme(self, name):
+        return (self.dist / f"integrations/{name}/README.md").read_text(encoding="utf-8")
+
     @requires("pandoc")
-    def test_the_filter_for_pandoc(self):
-        command = ["pandoc", "--lua-filter", self.dist / "integrations/pandoc/latex2mathml.lua", "-M",
-                   f"latex2mathml-program={self.dist / 'latex2mathml'}"]
-        self.expect(run(command, stdin=b"$x\\lt y$"), stdout=f"<p>{INLINE}</p>\n".encode())
+    def test_the_readme_of_the_filter_for_pandoc(self):
+        """Its commands, in the folder and in a project with the program on the path."""
+        first, second, third = [it for it in commands(self.readme("pandoc")) if it.startswith("pandoc ")]
+        copy = self.enterContext(scratch()) / "dist"
+        shutil.copytree(self.dist, copy)
+        self.expect(run(["sh", "-c", first], cwd=copy), stderr=None)
+        self.assertEqual((copy / "example.html").read_text().count("</math>"), 8)
+        (copy / "integrations/pandoc/a.md").write_text("$\\R$ and $x_i^2$")
+        (copy / "integrations/pandoc/macros.tex").write_text("\\newcommand{\\R}{x_i^2}")
+        environment = {**os.environ, "PATH": f"{copy}:{os.environ['PATH']}"}
+        for command, count in ((second, 1), (third, 2)):
+            with self.subTest(command):
+                self.expect(run(["sh", "-c", command], cwd=copy / "integrations/pandoc", env=environment), stderr=None)
+                self.assertEqual((copy / "integrations/pandoc/a.html").read_bytes().count(SQUARE), count)
 
     @requires("node")
     def test_the_package_for_node(self):
         package = self.dist / "integrations/node"
         self.expect(run([package / "make-addon"]))
         self.expect(run(["node", "-p", f"require('{package}').formula('x<y')"]), stdout=f"{INLINE}\n".encode())
+
+    @requires("npm")
+    def test_the_readme_of_the_package_for_node(self):
+        """Its commands install the package, as a folder and as a file, without a network."""
+        said = commands(self.readme("node"))
+        folder, file = [it for it in said if it.startswith("npm install ")]
+        pack = re.search(r"`(npm pack [^`]*)`", self.readme("node"))[1]
+        for words in ([folder], [pack, file]):
+            with self.subTest(words):
+                project = self.project()
+                environment = {**os.environ, "npm_config_offline": "true", "npm_config_cache": str(project / "cache")}
+                for command in words:
+                    self.expect(run(["sh", "-c", command], cwd=project, env=environment, timeout=300), stdout=None, stderr=None)
+                done = run(["node", "-p", "require('latex2mathml-proved').tex('x_i^2')"], cwd=project)
+                self.expect(done, stdout=SQUARE + b"\n")
+
+    @requires("node")
+    def test_the_example_of_the_package_for_node(self):
+        if not os.path.exists("/usr/share/nodejs/markdown-it"):
+            self.skipTest("markdown-it not found")
+        package = self.dist / "integrations/node"
+        self.expect(run([package / "make-addon"]))
+        [command] = [it for it in commands(self.readme("node")) if it.startswith("NODE_PATH=")]
+        self.expect(run(["sh", "-c", command.replace(">example.html", "")], cwd=package), stdout=None, stderr=None)
+
+    def test_links(self):
+        """Each link of a document leads to a file that the folder has."""
+        broken = []
+        for document in self.dist.rglob("*.md"):
+            for target in re.findall(r"\]\(([^)\s#]+)", document.read_text(encoding="utf-8")):
+                if not re.match(r"[a-z]+:", target) and not (document.parent / target).exists():
+                    broken.append(f"{document.relative_to(self.dist)}: {target}")
+        self.assertEqual(broken, [])
 
     @requires("cargo")
     def test_the_crate_for_rust(self):

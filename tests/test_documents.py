@@ -1,6 +1,5 @@
 """Checks the documents: links lead somewhere, commands print what is shown, what `tools/renew-documents` writes is as it would
 write it now, and sentences are short."""
-import json
 import re
 import shutil
 import unittest
@@ -287,20 +286,9 @@ class Numbers(Case):
 
     def test_commands(self):
         count = len(cases.commands())
-        for document, noun in (("README.md", "commands"), ("integrations/README.md", "commands"), ("docs/COMMANDS.md", "entries"),
-                               ("docs/DECISIONS.md", "texts"), ("docs/ARCHITECTURE.md", "entries")):
+        for document, noun in (("README.md", "commands"), ("docs/COMMANDS.md", "entries"), ("docs/DECISIONS.md", "texts"),
+                               ("docs/ARCHITECTURE.md", "entries")):
             self.says(document, f" {count} {noun}")
-
-    def test_names(self):
-        """The names that the READMEs show as replaced are so by names.json, and no command of the library."""
-        names = json.loads((ROOT / "integrations/names.json").read_text())
-        commands = {f"\\{entry.name}" for entry in cases.commands()}
-        missing = re.search(r"missing names, such as `(.*?)`", (ROOT / "README.md").read_text())[1]
-        section = (ROOT / "integrations/README.md").read_text().partition("## Names\n")[2].partition("\n- ")[0]
-        shown = re.findall(r"`(\\\w+)` is `(.+?)`", section)
-        self.assertEqual({name: names.get(name) for name, _ in shown}, dict(shown))
-        self.assertEqual([name for name in [missing, *dict(shown)] if name not in names or name in commands], [])
-        self.assertGreater(len(shown), 1)
 
     def test_environments(self):
         definition = (ROOT / "crates/latex2mathml_trees/specs/Productions.antt").read_text().partition("\nenvironment_tree name")[2]
@@ -357,20 +345,32 @@ class Page(Case):
     def test_defaults(self):
         """The column of defaults is what each integration takes for an option that is not given."""
         table = (ROOT / "integrations/README.md").read_text().partition("| Option | Default |")[2].partition("\n\n")[0]
-        said = {name: default for name, default in re.findall(r"^\| `(\w+)` \| `(\w+)` \|", table, re.M)}
-        self.assertEqual(sorted(said), ["names", "page", "strict"])
+        said = dict(re.findall(r"^\| `(\w+)` \| `?(\w+)`? \|", table, re.M))
+        self.assertEqual(said, {"macros": "none", "annotation": "false", "strict": "false"})
         python = "integrations/python/src/latex2mathml_proved"
-        for source, form, differing in (
-            (f"{python}/markdown.py", r'^ +"NAME": \[(.*?), "', {}),
-            (f"{python}/sphinx.py", r'^    app\.add_config_value\("latex2mathml_NAME", (.*?), "html"', {"page": "true"}),
-            ("integrations/pandoc/latex2mathml.lua", r"^  NAME = (.*?),$", {}),
-            ("integrations/node/markdown-it.js", r"^module\.exports = .*\bNAME = (.*?)(?:, warn|,)", {"names": None}),
-            ("integrations/node/names.js", r"^function NAMEOf\(option = (.*?)\)", {"strict": None, "page": None}),
+        for source, form in (
+            (f"{python}/markdown.py", r'^ +"strict": \[(.*?), "'),
+            ("integrations/pandoc/latex2mathml.lua", r"^    strict = (.*?),"),
+            ("integrations/node/markdown-it.js", r"^    const \{.*\bstrict = (.*?),"),
         ):
-            for name, default in {**said, **differing}.items():
-                with self.subTest(source, option=name):
-                    found = re.search(form.replace("NAME", name), (ROOT / source).read_text(), re.M)
-                    self.assertEqual(found and found[1].strip("'\"").lower(), default)
+            with self.subTest(source):
+                found = re.search(form, (ROOT / source).read_text(), re.M)
+                self.assertEqual(found and found[1].lower(), said["strict"])
+
+    def test_options(self):
+        """The READMEs list the options that the filter and the plugin of markdown-it take, and no others."""
+        lua = (ROOT / "integrations/pandoc/latex2mathml.lua").read_text().partition("local READERS = {")[2].partition("\n}")[0]
+        plugin = re.search(r"checkOptions\(options, \[(.*?)\]", (ROOT / "integrations/node/markdown-it.js").read_text())[1]
+        for folder, taken in (("pandoc", re.findall(r"^  (\w+) = ", lua, re.M)), ("node", re.findall(r"\w+", plugin))):
+            with self.subTest(folder):
+                table = (ROOT / f"integrations/{folder}/README.md").read_text().partition("| Option | Default |")[2].partition("\n\n")[0]
+                self.assertEqual(sorted(re.findall(r"^\| `(\w+)` \|", table, re.M)), sorted(taken))
+
+    def test_defaults_of_python(self):
+        """The tables of the README have the options of Python-Markdown and their defaults."""
+        table = (ROOT / "integrations/python/README.md").read_text().partition("## Python-Markdown\n")[2].partition("\n## ")[0]
+        source = (ROOT / "integrations/python/src/latex2mathml_proved/markdown.py").read_text()
+        self.assertEqual(re.findall(r"^\| `(\w+)` \| `(.*?)` \|", table, re.M), re.findall(r'^ +"(\w+)": \[(.*?), "', source, re.M))
 
 
 class Figures(Case):
@@ -409,6 +409,15 @@ class Figures(Case):
         counted = [line.split("  ", 1) for line in (ROOT / "bench/calls.txt").read_text().splitlines()]
         shown = re.findall(r"^\| (\d+) \| [\d,]+ \| [\d,]+ \| ([\d,]+) \| [\d,]+ \|$", (ROOT / "bench/README.md").read_text(), re.M)
         self.assertEqual(shown, [(str(len(latex)), count) for count, latex in counted])
+
+
+class Licences(Case):
+    """Each package that people take out of the repository has its licence."""
+
+    def test_all_are_one(self):
+        for folder in ("integrations/node", "integrations/rust"):
+            with self.subTest(folder):
+                self.assertEqual((ROOT / folder / "LICENSE").read_bytes(), (ROOT / "LICENSE").read_bytes())
 
 
 class Versions(Case):

@@ -12,7 +12,7 @@ import unittest
 import unittest.mock
 
 from tests import cases
-from tests.__main__ import name_of
+from tests.__main__ import NO_TOOLCHAIN, name_of
 from tests.support import ROOT, SKIP_NOTHING, Case, processors, run, scratch
 from tools.progress import clock
 
@@ -296,6 +296,15 @@ class Whole(Harness):
                 self.assertIn(f"FAILED: not in the layout of `rt fmt`: {told}\n", shown)
                 self.assertEqual((self.house / "crates/one/src/lib.rt").read_text(), "\n")
                 self.assertNotIn("one proved", shown)
+
+    def test_no_toolchain(self):
+        """One line says what is missing and where to read on, under a heading that is there."""
+        for words in ([], ["proofs"]):
+            with self.subTest(words):
+                command = [sys.executable, "-B", "-m", "tests", *words]
+                done = run(command, cwd=self.house, env={**self.environment(), "PATH": str(self.house)})
+                self.expect(done, 1, b"", (NO_TOOLCHAIN + "\n").encode())
+        self.assertIn("\n## Try it\n", (ROOT / "README.md").read_text(encoding="utf-8"))
 
     def test_a_module_without_a_case(self):
         self.add("test_order.py")

@@ -1,4 +1,4 @@
-"""The package for Node and its plugin for markdown-it, in Node."""
+"""The package for Node and its plugins, in Node."""
 import json
 import os
 import pathlib
@@ -8,8 +8,8 @@ import unittest
 
 import pytest
 
-from tests.integration import UNCLOSED, answer_of
-from tests.support import ROOT, Case, c_library, limit_processor, program, requires, run, scratch
+from tests.integration import answer_of, tex_answer_of
+from tests.support import ROOT, Case, c_library, limit_processor, program, requires, run, scratch, tex_program
 
 pytestmark = pytest.mark.long
 
@@ -38,7 +38,6 @@ class Package(Case):
         """A copy of the package as a clone has it, with the library, in a project that finds it by its name."""
         project = cls.folder / name
         shutil.copytree(ROOT / "integrations/node", project / "node", ignore=shutil.ignore_patterns("build", "lib"))
-        shutil.copy(ROOT / "integrations/names.json", project)
         shutil.copytree(c_library(), project / "node/lib")
         (project / "node_modules").mkdir()
         (project / "node_modules/latex2mathml-proved").symlink_to(project / "node")
@@ -47,7 +46,8 @@ class Package(Case):
     def node(self, *words, package=None, **more):
         """Runs Node, which finds the package, and those of Debian, by their names."""
         modules = (package or self.package).parent / "node_modules"
-        environment = {**os.environ, "NODE_PATH": f"{modules}:{PACKAGES}", "LATEX2MATHML": str(program())}
+        environment = {**os.environ, "NODE_PATH": f"{modules}:{PACKAGES}", "LATEX2MATHML": str(program()),
+                       "TEX2MATHML": str(tex_program())}
         return run(["node", *words], env=environment, **more)
 
     def run_tests(self, file):
@@ -76,7 +76,7 @@ class Calls(Package):
         run(["cc", "-c", "-I", package / "lib", TESTS / "long.c", "-o", package / "long.o"], check=True)
         run(["ar", "rcs", library, package / "long.o"], check=True)
         run([package / "make-addon"], check=True)
-        for call in ("formula", "document"):
+        for call in ("tex", "formula", "document"):
             with self.subTest(call):
                 done = self.node("-e", f"require('latex2mathml-proved').{call}('x')", package=package)
                 self.expect(done, status=1, stderr=None)
@@ -87,7 +87,8 @@ class Calls(Package):
         most = 100 * 300_000
         done = self.node("--expose-gc", TESTS / "memory.cjs", str(most), timeout=300)
         self.expect(done)
-        for kind, grown in zip(("a formula", "a refused formula", "a document", "a refused document"), json.loads(done.stdout), strict=True):
+        kinds = ("a formula", "a refused formula", "a document", "a refused document", "a formula of an author", "a refused formula of one")
+        for kind, grown in zip(kinds, json.loads(done.stdout), strict=True):
             with self.subTest(kind):
                 self.assertLess(grown, most)
 
@@ -126,18 +127,38 @@ class Calls(Package):
         files = [said["main"], said["types"], *(file for entry in said["exports"].values() for file in entry.values())]
         self.assertEqual([file for file in files if not (self.package / file).is_file()], [])
 
-    @requires("npm")
-    def test_npm(self):
-        project = self.folder / "project"
+    def install(self, project, package):
+        """Installs a folder or a file with npm into an empty project, without a network, and uses it there."""
         project.mkdir()
-        (project / "package.json").write_text('{"name": "project", "version": "1.0.0"}')
-        shutil.rmtree(self.copy("npm") / "build", ignore_errors=True)
-        done = run(["npm", "install", "--offline", "--no-audit", "--no-fund", self.folder / "npm/node"], cwd=project, timeout=300)
+        words = ["npm", "install", "--offline", "--no-audit", "--no-fund", package]
+        done = run(words, cwd=project, env={**os.environ, "npm_config_cache": str(self.folder / "npm-cache")}, timeout=300)
         self.assertEqual(done.returncode, 0, done.stderr.decode())
-        done = run(["node", "-p", "require('latex2mathml-proved').formula('x')"], cwd=project)
-        self.expect(done, stdout=answer_of("x").encode() + b"\n")
-        done = run(["node", "-p", "typeof require('latex2mathml-proved/markdown-it')"], cwd=project)
-        self.expect(done, stdout=b"function\n")
+        for call, answer in (("tex('x_i^2')", tex_answer_of("x_i^2")), ("formula('x')", answer_of("x"))):
+            done = run(["node", "-p", f"require('latex2mathml-proved').{call}"], cwd=project)
+            self.expect(done, stdout=answer.encode() + b"\n")
+        for plugin in ("markdown-it", "remark", "rehype"):
+            with self.subTest(plugin):
+                done = run(["node", "-p", f"typeof require('latex2mathml-proved/{plugin}')"], cwd=project)
+                self.expect(done, stdout=b"function\n")
+
+    @requires("npm")
+    def test_npm_from_a_folder(self):
+        self.install(self.folder / "project", self.copy("npm"))
+
+    @requires("npm")
+    def test_npm_from_a_file(self):
+        """What `npm pack` makes has all that the package needs, and its licence."""
+        package = self.copy("packed")
+        packed = run(["npm", "pack", "--silent"], cwd=package, env={**os.environ, "npm_config_cache": str(self.folder / "npm-cache")})
+        self.expect(packed, stdout=None)
+        file = package / packed.stdout.decode().strip()
+        self.install(self.folder / "other-project", file)
+        installed = self.folder / "other-project/node_modules/latex2mathml-proved"
+        self.assertEqual((installed / "LICENSE").read_bytes(), (ROOT / "LICENSE").read_bytes())
+        self.assertFalse(installed.is_symlink())
+
+    def test_the_plugins_of_unified(self):
+        self.run_tests("unified.test.cjs")
 
 
 @requires("node", "cc")
@@ -147,15 +168,17 @@ class MarkdownIt(Package):
         self.run_tests("markdown-it.test.cjs")
 
     def test_texts_that_are_slow_to_read(self):
-        def render(source, options):
-            words = (TESTS / "render.cjs", json.dumps(options))
-            self.expect(self.node(*words, stdin=source.encode(), preexec_fn=limit_processor(30), timeout=300))
+        def render(source):
+            self.expect(self.node(TESTS / "render.cjs", stdin=source.encode(), preexec_fn=limit_processor(30), timeout=300))
 
-        for source in ("$a$ $$ $ [ ", "$a$\n", "$$\n", "$$\na\n", "$ ", "\\$", "`$", "- $$\n", "> $$ "):
+        for source in ("$a$ $$ $ [ ", "$a$\n", "$$\n", "$$\na\n", "$ ", "\\$", "`$", "- $$\n", "> $$ ", "\\(", "\\[ ", "\\[\n", "\\[\na\n",
+                       "- \\[\n", "> \\( ", "[\\( ", "\\(\\[", "\\`\\( ", "```math\n"):
             with self.subTest(source):
-                render(source * 20_000, {"names": False})
-        render("$$\n" + "a\n" * 50_000, {})
-        render("$" + "a " * 50_000, {})
+                render(source * 20_000)
+        render("$$\n" + "a\n" * 50_000)
+        render("$" + "a " * 50_000)
+        render("\\[\n" * 20_000 + "`\n\\]")
+        render("\\( " * 20_000 + "` \\)")
 
     @requires("tsc")
     def test_declarations(self):
@@ -171,9 +194,8 @@ class MarkdownIt(Package):
 
     def test_the_example(self):
         done = self.node(self.package / "example.js")
-        self.expect(done, stdout=None, stderr=f"example.md:11: {{x: {UNCLOSED}\n".encode())
-        self.assertEqual(done.stdout.count(b"</math>"), 8)
-        self.assertNotIn(b"PARSE ERROR", done.stdout)
+        self.expect(done, stdout=None, stderr=b"example.md:11: {x: { is not closed at 0\n")
+        self.assertEqual(done.stdout.count(b"</math>"), 9)
 
 
 if __name__ == "__main__":

@@ -1,20 +1,25 @@
-"""The Python package: its wheel in a fresh virtual environment, its calls, and the names that integrations replace."""
+"""The Python package: its wheel in a fresh virtual environment, its calls, and the option `macros` of its extensions."""
 import re
 import tomllib
 import unittest
 import zipfile
 
 from tests import cases
-from tests.environments import NAME_CASES, NAMES, ask, environment, requires_python, run_python, wheel
+from tests.environments import ask, environment, requires_python, run_python, wheel
 from tests.support import ROOT, Case, c_library, requires, run, scratch
 
 PACKAGE = ROOT / "integrations/python"
 MATH = '<math xmlns="http://www.w3.org/1998/Math/MathML" display="{}">{}</math>'
+ANNOTATED = (
+    '<math xmlns="http://www.w3.org/1998/Math/MathML" display="{0}" alttext="{2}">'
+    '<semantics>{1}<annotation encoding="application/x-tex">{2}</annotation></semantics></math>'
+)
 LESS = "<mi>x</mi><mo>&lt;</mo><mi>y</mi>"
 LESS_INLINE, LESS_BLOCK = MATH.format("inline", LESS), MATH.format("block", LESS)
 OPEN = 'The token "RBrace" is expected, but the token "EOF" is found."'
 
-USUAL_NAMES = cases.names()
+# The type of what is wrong with a formula.
+FAULT = "latex2mathml_proved.rendering.Fault"
 
 # Calls each function with each list of arguments, and prints the result, or the error's name and text.
 CALLS = """
@@ -47,11 +52,35 @@ with concurrent.futures.ThreadPoolExecutor(8) as pool:
     print(json.dumps(list(pool.map(answer, texts)) == [answer(text) for text in texts]))
 """
 
-REPLACE = """
-import json, sys
-from latex2mathml_proved.names import Names
+# Answers what is known of each refusal of `tex`, of each list of arguments, also behind a copy of it.
+TEX_REFUSALS = """
+import json, pickle, sys
+import latex2mathml_proved
 
-print(json.dumps([Names(option).replace(formula) for option, formula in json.load(sys.stdin)]))
+def answer(*words):
+    try:
+        return latex2mathml_proved.tex(*words)
+    except latex2mathml_proved.TexRefused as refused:
+        copy = pickle.loads(pickle.dumps(refused))
+        return [str(copy), copy.reason, copy.place, copy.is_definition, isinstance(copy, latex2mathml_proved.Refused)]
+
+print(json.dumps([answer(*words) for words in json.load(sys.stdin)]))
+"""
+
+# Renders a formula with each of the options, and answers the reason where the option is refused.
+MACROS = """
+import json, sys
+from latex2mathml_proved.macros import MacroError, definitions_of
+from latex2mathml_proved.rendering import Renderer
+
+def answer(macros, formula):
+    try:
+        rendering = Renderer(definitions=definitions_of(macros)).render(formula)
+    except MacroError as error:
+        return str(error)
+    return [rendering.markup, rendering.fault and str(rendering.fault)]
+
+print(json.dumps([answer(*words) for words in json.load(sys.stdin)]))
 """
 
 # Converts a text whose markup has no room in the memory that is left, and then one whose markup has.
@@ -107,7 +136,11 @@ RENDER = """
 import json, sys
 from latex2mathml_proved.rendering import Renderer
 
-print(json.dumps([Renderer(option).render(formula) for option, formula in json.load(sys.stdin)]))
+def answer(*words):
+    markup, fault = Renderer().render(*words)
+    return [markup, fault and str(fault)]
+
+print(json.dumps([answer(*words) for words in json.load(sys.stdin)]))
 """
 
 
@@ -124,7 +157,7 @@ class Wheel(Case):
             names = {name.partition("/")[2] for name in packed.namelist() if name.startswith("latex2mathml_proved/")}
             [about] = [name for name in packed.namelist() if name.endswith("/METADATA")]
             metadata = packed.read(about).decode()
-        self.assertLessEqual({"py.typed", "liblatex2mathml.so", "names.json", "page/latex2mathml.css", "page/latex2mathml.js"}, names)
+        self.assertLessEqual({"py.typed", "liblatex2mathml.so", "page/latex2mathml.css", "page/latex2mathml.js"}, names)
         self.assertNotIn("Requires-Dist", metadata)
 
     @requires("mypy")
@@ -135,14 +168,14 @@ class Wheel(Case):
             "import latex2mathml_proved\n"
             "from latex2mathml_proved.rendering import Renderer\n"
             "reveal_type(latex2mathml_proved.formula('x', block=True))\n"
-            "reveal_type(Renderer({'\\\\R': 'x'}).render('x').fault)\n"
+            "reveal_type(Renderer(definitions='').render('x').fault)\n"
             "latex2mathml_proved.document(b'x')\n")
         done = run(["mypy", "--strict", "--no-error-summary", "--python-executable", environment(), "--cache-dir", program.parent / "cache",
                     program], timeout=300)
         # older checkers write the second type so
-        said = [line.partition(": ")[2].replace("Union[builtins.str, None]", "builtins.str | None") for line in done.stdout.decode().splitlines()]
+        said = [line.partition(": ")[2].replace(f"Union[{FAULT}, None]", f"{FAULT} | None") for line in done.stdout.decode().splitlines()]
         self.assertEqual(said, [
-            'note: Revealed type is "builtins.str"', 'note: Revealed type is "builtins.str | None"',
+            'note: Revealed type is "builtins.str"', f'note: Revealed type is "{FAULT} | None"',
             'error: Argument 1 to "document" has incompatible type "bytes"; expected "str"  [arg-type]'])
 
     @requires("mypy")
@@ -172,14 +205,21 @@ class Wheel(Case):
         self.expect(run_python(environment(), *options, "-c", script, folder), 0, answer, b"")
 
     def test_page_files(self):
-        """`python3 -m latex2mathml_proved FOLDER` copies them into a folder, even if it has them already. Alone it says this."""
+        """`python3 -m latex2mathml_proved FOLDER` copies them into a folder, even if it has them already."""
         folder = self.enterContext(scratch()) / "site"
         for _ in range(2):
             self.expect(run_python(environment(), "-m", "latex2mathml_proved", folder), stdout=b"")
         self.assertEqual(sorted(path.name for path in folder.iterdir()), ["latex2mathml.css", "latex2mathml.js"])
-        done = run_python(environment(), "-m", "latex2mathml_proved")
-        self.expect(done, 1, b"", None)
-        self.assertTrue(done.stderr.startswith(b"python3 -m latex2mathml_proved FOLDER: "), done.stderr)
+
+    def test_words_that_are_no_folder(self):
+        """Its usage is shown, and no folder is made."""
+        folder = self.enterContext(scratch())
+        for words, status in (["--help"], 0), (["-h"], 0), ([], 2), (["--other"], 2), (["a", "b"], 2):
+            with self.subTest(words):
+                done = run_python(environment(), "-m", "latex2mathml_proved", *words, cwd=folder)
+                usage = b"usage: python3 -m latex2mathml_proved [-h] FOLDER\n"
+                self.assertEqual((done.returncode, (done.stdout + done.stderr).startswith(usage)), (status, True))
+                self.assertEqual(list(folder.iterdir()), [])
 
     def test_page_files_that_may_only_be_read(self):
         """Their copies may be written, so that the next build can copy them again."""
@@ -216,6 +256,17 @@ class Calls(Case):
             self.answers(["formula", "{x", {}], ["document", "a $x", {}], ["document", "a ${x$", {}]),
             [["Refused", True, OPEN], ["Refused", True, dollars], ["Refused", True, OPEN]])
 
+    def test_marked_errors(self):
+        """Where none may be, all of them are named, and a formula without any is as it was."""
+        le, less = 'marked as an error: Undefined("Command(\\"le\\")")', 'marked as an error: Undefined("Command(\\"<\\")")'
+        self.assertEqual(
+            self.answers(["formula", "x \\le y", {"strict": True}], ["formula", "\\<", True, True, {}], ["formula", "x<y", {"strict": True}],
+                         ["document", "$\\le$ $x$ $\\foo$", True, {}], ["document", "$x<y$", {"strict": True}]),
+            [["Refused", True, le], ["Refused", True, less], LESS_INLINE, ["Refused", True, f'{le}, Undefined("Command(\\"foo\\")")'],
+             LESS_INLINE])
+        [marked] = self.answers(["formula", "x \\le y", {}])
+        self.assertIn("[PARSE ERROR: ", marked)
+
     def test_texts_of_any_kind(self):
         letters = MATH.format("inline", "<mi>x</mi>" * 100_000)
         undefined = MATH.format("inline", '<mtext>[PARSE ERROR: Undefined("Illegal(\'\0\')")]</mtext><mi>x</mi>')
@@ -238,63 +289,94 @@ class Calls(Case):
 
 
 @requires_python()
-class Names(unittest.TestCase):
-    def test_cases(self):
-        answers = ask(environment(), REPLACE, [[case.get("names", True), case["formula"]] for case in NAME_CASES])
-        for case, answer in zip(NAME_CASES, answers, strict=True):
-            with self.subTest(case["why"]):
-                self.assertEqual(answer, case["replaced"])
+class Tex(unittest.TestCase):
+    def refusals(self, *calls):
+        return ask(environment(), TEX_REFUSALS, calls)
 
-    def test_names_that_are_none(self):
-        for option in ({"R": "x"}, {"\\R2": "x"}, {"\\": "x"}, {"": "x"}, {"\\le ": "x"}, {"\\ab\\c": "x"},
-                       {"\\x": "\\"}, {"\\x": "a\\\\\\"}, {"\\x": None}):
-            with self.subTest(str(option)), self.assertRaisesRegex(AssertionError, "ValueError: names: "):
-                ask(environment(), REPLACE, [[option, "x"]])
+    def test_markup(self):
+        power = "<msubsup><mi>x</mi><mi>i</mi><mn>2</mn></msubsup>"
+        self.assertEqual(
+            self.refusals(["x_i^2"], ["x_i^2", True], ["\\p", False, "\\newcommand{\\p}{x_i^2}"]),
+            [MATH.format("inline", power), MATH.format("block", power), MATH.format("inline", power)])
 
-    def test_usual_names(self):
-        """The library lacks each name, and reads its replacement, with an argument if it takes one."""
-        names = usual_names()
-        places = ["{}", "{} x", "{}(", "{}{{x}}{{y}}", "x^{}"]
-        asked = [[option, place.format(name)] for name in names for option in (False, True) for place in places]
-        faults = iter([fault for _, fault in ask(environment(), RENDER, asked)])
-        for name in names:
-            without, replaced = ([next(faults) for _ in places] for _ in range(2))
-            with self.subTest(name):
-                self.assertTrue(all(f'Command("{name[1:]}")' in (fault or "").replace("\\", "") for fault in without), without)
-                self.assertIn(None, replaced)
+    def test_annotation(self):
+        """It is the formula as it was given, also where a macro takes the place of a part of it."""
+        self.assertEqual(
+            self.refusals(["x<y", False, "", True], ["\\p", True, "\\def\\p{x}", True], ["\\foo", False, "", True]),
+            [ANNOTATED.format("inline", "<mrow><mi>x</mi><mo>&lt;</mo><mi>y</mi></mrow>", "x&lt;y"),
+             ANNOTATED.format("block", "<mi>x</mi>", "\\p"),
+             ["unknown command \\foo at 0", "unknown command \\foo", 0, False, True]])
 
-    def test_each_is_in_the_cases(self):
-        """cases/names.txt has each name, and in a formula of its own."""
-        self.assertEqual({f"\\{entry.name}" for entry in USUAL_NAMES}, set(usual_names()))
-        for entry in USUAL_NAMES:
-            self.assertIn(f"\\{entry.name}", re.findall(r"\\(?:[A-Za-z]+|.)", entry.formula), entry.line.place)
+    def test_refusals(self):
+        """A place is that of a character, wherever characters of several bytes stand before it."""
+        self.assertEqual(
+            self.refusals(["x + \\foo"], ["é𝟙\\foo"], ["x", False, "% é\nx"]),
+            [["unknown command \\foo at 4", "unknown command \\foo", 4, False, True],
+             ["unknown command \\foo at 2", "unknown command \\foo", 2, False, True],
+             ["not a definition at 4", "not a definition", 4, True, True]])
 
-    def test_file_is_plain(self):
-        """One name per line, and no escape except that of the backslash, so that a few lines of any language can read it."""
-        lines = NAMES.read_text(encoding="utf-8").splitlines()
-        self.assertEqual([lines[0], lines[-1]], ["{", "}"])
-        for line in filter(None, lines[1:-1]):
-            self.assertRegex(line, r'^"\\\\([A-Za-z]+|[^A-Za-z"\\])": "([^"\\]|\\\\)*",?$')
+    def test_brackets_behind_commands(self):
+        """An optional argument is no part of what is drawn."""
+        bracketed, plain = (self.refusals([latex])[0] for latex in ("\\smash[b]{x}", "\\smash{x}"))
+        self.assertEqual(re.sub("<[^>]*>", "", bracketed), re.sub("<[^>]*>", "", plain))
 
 
 @requires_python()
-class UsualNames(unittest.TestCase):
-    """Each line of cases/names.txt is a test, named by its line: the formula means what the name means in LaTeX."""
+class Macros(Case):
+    X = MATH.format("inline", "<mi>x</mi>")
+    NORM = MATH.format("inline", "<mi>a</mi><mo>+</mo><mi>b</mi>")
 
-    @classmethod
-    def setUpClass(cls):
-        answers = ask(environment(), RENDER, [[True, entry.formula] for entry in USUAL_NAMES])
-        cls.renderings = dict(zip(USUAL_NAMES, answers, strict=True))
+    def check(self, *cases):
+        for (macros, formula, wanted), answer in zip(cases, ask(environment(), MACROS, [it[:2] for it in cases]), strict=True):
+            with self.subTest(macros):
+                self.assertEqual(answer, wanted if isinstance(wanted, str) and not wanted.startswith("<") else [wanted, None])
 
+    def test_forms(self):
+        """A body alone takes as many arguments as it names, as in KaTeX, or as many as are said, as in MathJax."""
+        self.check(
+            ({"x": "x"}, "\\x", self.X),
+            ({"\\xx": "x"}, "\\xx", self.X),
+            ({"xx": ["x"]}, "\\xx", self.X),
+            ({"xx": ["x", 0]}, "\\xx", self.X),
+            ({"xx": ["x", 1]}, "\\xx{y}", self.X),
+            ({",": "x"}, "\\,", self.X),
+            ({"sum": "x"}, "\\sum", self.X),
+            ({"add": "#1+#2"}, "\\add ab", self.NORM),
+            ({"add": ["#1+#2", 2]}, "\\add{a}{b}", self.NORM),
+            ({"add": "\\plus{#2}{#1}", "plus": "#2+#1"}, "\\add ab", self.NORM),
+            ({"inner": r"\def\y##1{##1}\y{x}"}, "\\inner", self.X),
+        )
 
-def test_of(entry):
-    def test(self):
-        self.assertEqual(self.renderings[entry], [MATH.format("inline", entry.contents), None], entry.line.place)
-    return test
+    def test_what_is_no_macro(self):
+        """It is refused by its name."""
+        default = "has an argument with a default, which is not read"
+        self.check(
+            ({"R2": "x"}, "x", "macros: 'R2' is no name of a command: letters, or one other character"),
+            ({"": "x"}, "x", "macros: '' is no name of a command: letters, or one other character"),
+            ({"\\": "x"}, "x", "macros: '\\\\' is no name of a command: letters, or one other character"),
+            ({"a": ["#1", 1, "x"]}, "x", f"macros: \\a {default}: ['#1', 1, 'x']"),
+            ({"a": 1}, "x", "macros: \\a is neither a text nor a list of a text and a number of arguments: 1"),
+            ([], "x", "macros: neither a mapping nor the path of a file: []"),
+            ({"a": []}, "x", "macros: \\a is neither a text nor a list of a text and a number of arguments: []"),
+            ({"a": ["x", 10]}, "x", "macros: \\a has a number of arguments that is not from 0 to 9: 10"),
+            ({"a": ["x", "1"]}, "x", "macros: \\a has a number of arguments that is not from 0 to 9: '1'"),
+            ({"b": "x", "a": ["#2", 1]}, "x", "macros: \\a: a body has no such argument: #2"),
+            ({"a": "{x"}, "x", "macros: \\a: { is not closed: {x"),
+            ({"a": "x}"}, "x", "macros: \\a: not a definition: x}"),
+        )
 
+    def test_a_file(self):
+        file = self.enterContext(scratch()) / "macros.tex"
+        file.write_text("% é\n\\newcommand{\\xx}{x}\n\\DeclareMathOperator{\\rank}{rank}\n", encoding="utf-8")
+        self.check((str(file), "\\xx", self.X))
+        file.write_text("% é\n\\def\\a{é} \\usepackage{bm}", encoding="utf-8")
+        self.check((str(file), "x", f"{file}:2:11: not a definition"))
+        file.write_bytes(b"\xff")
+        self.check((str(file), "x", f"{file}: not UTF-8"))
 
-for each in USUAL_NAMES:
-    setattr(UsualNames, f"test_{each.line.number}", test_of(each))
+    def test_no_file(self):
+        with self.assertRaisesRegex(AssertionError, "FileNotFoundError: .*none.tex"):
+            ask(environment(), MACROS, [["none.tex", "x"]])
 
 
 # Renders formulas, and answers how often the library was called for each.
@@ -304,12 +386,12 @@ import latex2mathml_proved.rendering as it
 
 calls = 0
 
-def count_call(*words):
+def count_call(*words, **more):
     global calls
     calls += 1
-    return convert(*words)
+    return convert(*words, **more)
 
-convert, it.formula = it.formula, count_call
+convert, it.tex = it.tex, count_call
 
 def count(formula):
     global calls
@@ -327,23 +409,22 @@ class Renderings(unittest.TestCase):
         self.assertEqual(ask(environment(), COUNTED, ["x", "{x", "\\foo"]), [1, 1, 1])
 
     def test_faults(self):
-        """A refused formula is shown as it was written, and a marked one is drawn. A warning says what is wrong with either."""
-        asked = [[True, "{\\le<\"&"], [True, "a \\foo b \\bar"], [True, "\\<"], [True, "a \\le b"], [True, "{\\$"]]
-        refused, marked, escaped, sound, dollar = ask(environment(), RENDER, asked)
-        reason = OPEN.replace('"', "&quot;")
-        self.assertEqual(refused, [f'<code class="latex2mathml-refused" title="{reason}">{{\\le&lt;&quot;&amp;</code>', f'{{\\le<"&: {OPEN}'])
-        self.assertEqual(dollar[0], f'<code class="latex2mathml-refused" title="{reason}">{{\\&#x24;</code>')
-        self.assertTrue(marked[0].startswith("<math "))
-        self.assertEqual(marked[1], 'a \\foo b \\bar: marked as an error: Undefined("Command(\\"foo\\")")')
-        self.assertEqual(escaped[1], '\\<: marked as an error: Undefined("Command(\\"<\\")")')
-        self.assertEqual(sound, [MATH.format("inline", "<mi>a</mi><mo>≤</mo><mi>b</mi>"), None])
+        """A refused formula is shown as it was written, with no mark in it. The reason says what is refused first, and where."""
+        refused, twice, dollar, rows, long = ask(environment(), RENDER, [
+            ["{\\le<\"\\&"], ["a \\foo b \\bar"], ["{\\$"], [" a &= b \\\\\n &= \\foo"], ["{" + "x " * 40]])
+        self.assertEqual(refused, [
+            '<code class="latex2mathml-refused" title="{ is not closed at column 1">{\\le&lt;&quot;\\&amp;</code>',
+            '{\\le<"\\&: { is not closed at column 1'])
+        self.assertEqual(twice, [
+            '<code class="latex2mathml-refused" title="unknown command \\foo at column 3">a \\foo b \\bar</code>',
+            "a \\foo b \\bar: unknown command \\foo at column 3"])
+        self.assertEqual(dollar[0], '<code class="latex2mathml-refused" title="{ is not closed at column 1">{\\&#x24;</code>')
+        self.assertIn('title="unknown command \\foo at line 2, column 5"', rows[0])
+        self.assertEqual(rows[1], "a &= b \\\\ &= \\foo: unknown command \\foo at line 2, column 5")
+        self.assertEqual(long[1], "{" + "x " * 29 + "x...: { is not closed at column 1")
 
-    def test_each_kind_of_mark(self):
-        """Also that of a sign that cannot be seen, as of a row break that lacks a backslash at the end of a line."""
-        marks = {"a & b": "Ampersand", "a \\\\ b": "NewLine", "a \\\nb": 'Undefined("Command(\\"\n\\")")', "x^": 'Undefined("EOF")'}
-        answers = ask(environment(), RENDER, [[False, latex] for latex in marks])
-        self.assertEqual([fault for _, fault in answers], [f"{latex}: marked as an error: {mark}" for latex, mark in marks.items()])
-
-
-def usual_names():
-    return re.findall(r'^"\\(\\(?:[A-Za-z]+|.))":', NAMES.read_text(encoding="utf-8"), re.MULTILINE)
+    def test_another_source(self):
+        """Code and faults have what the author wrote, in place of what is converted."""
+        [[markup, fault]] = ask(environment(), RENDER, [["a\\\\\\foo", True, "a\n\n\\foo"]])
+        self.assertEqual(markup, '<code class="latex2mathml-refused" title="unknown command \\foo at line 3, column 1">a\n\n\\foo</code>')
+        self.assertEqual(fault, "a \\foo: unknown command \\foo at line 3, column 1")

@@ -4,7 +4,7 @@ import unittest
 
 import pytest
 
-from tests.environments import environment, requires_python, run_python
+from tests.environments import ask, environment, requires_python, run_python
 from tests.support import ROOT, Case, scratch
 
 pytestmark = pytest.mark.long
@@ -13,7 +13,21 @@ CONF = """
 extensions = ["latex2mathml_proved.sphinx"]
 html_math_renderer = "latex2mathml"
 """
-OPEN = 'The token "RBrace" is expected, but the token "EOF" is found."'
+OPEN = "{ is not closed at column 1"
+
+
+# The processor's seconds for making rows of the text of a directive.
+ROWS = """
+import json, sys, time
+from latex2mathml_proved.sphinx import rows_of
+
+def seconds(text):
+    begun = time.process_time()
+    assert len(rows_of(text)) == len(text)
+    return time.process_time() - begun
+
+print(json.dumps([min(seconds(text) for _ in range(3)) for text in json.load(sys.stdin)]))
+"""
 
 
 class Project(Case):
@@ -45,7 +59,7 @@ class Project(Case):
 
 def formulas(page):
     """The formulas of a page, with the element around each."""
-    return re.findall(r'<(?:span|div) class="math [^>]*>\s*(?:<span class="eqno">.*?</span>)?(<(?:math|code) .*?</(?:math|code)>)</(?:span|div)>', page, re.DOTALL)
+    return re.findall(r'<(?:span|div) class="(?:amsmath )?math [^>]*>\s*(?:<p>)?(?:<span class="eqno">.*?</span>)?(<(?:math|code) .*?</(?:math|code)>)(?:</p>)?</(?:span|div)>', page, re.DOTALL)
 
 
 @requires_python("sphinx")
@@ -55,7 +69,7 @@ class Markup(Project):
         self.assertEqual(warnings, "")
         math = '<math xmlns="http://www.w3.org/1998/Math/MathML" display="{}"><mi>x</mi><mo>&lt;</mo><mi>y</mi></math>'
         self.assertIn(f'<p>A <span class="math notranslate nohighlight">{math.format("inline")}</span> here.</p>', page)
-        self.assertIn(f'<div class="math notranslate nohighlight">\n{math.format("block")}</div>\n', page)
+        self.assertIn(f'<div class="math notranslate nohighlight">\n<p>{math.format("block")}</p></div>\n', page)
 
     def test_rows(self):
         """Rows and equations are lines of one table. Those within braces, fences and environments are not."""
@@ -64,6 +78,12 @@ class Markup(Project):
             (r"a &= b \\ &= c", 2, 4),
             (r"a &= b \\ &= c \\", 2, 4),
             ("a = b\n\n   c = d", 2, 2),
+            ("a = b % one\n\n   c = d % two", 2, 2),
+            ("a = 5\\% % one \\\\\n\n   c = d", 2, 2),
+            ("a = b \\\\\n\n   c = d", 2, 2),
+            ("a = b\\\n\n   c = d", 2, 2),
+            ("a = b\n\n\n\n   c = d", 2, 2),
+            ("a = b \\\\ % one\n\n   c = d\n\n   % two\n\n   % three", 2, 2),
             ("a &= b \\\\\n   &= c \\\\\n\n   d &= e", 3, 6),
             (rf"M = {matrix}", 2, 4),
             (rf"\left({matrix}\right) {{{matrix}}}", 4, 8),
@@ -75,37 +95,105 @@ class Markup(Project):
             with self.subTest(latex):
                 page, warnings = self.page_of(CONF, f".. math::\n\n   {latex}")
                 self.assertEqual(warnings, "")
-                self.assertEqual((page.count("<mtr>"), page.count("<mtd>")), (rows, cells))
+                self.assertEqual((page.count("<mtr>"), page.count("<mtd")), (rows, cells))
+
+    def test_texts_that_are_slow_to_read(self):
+        """Four times the text takes four times as long."""
+        for piece in ("a\n\n", "%", "\\", "\n", "% \n\n", " ", "a\\\n\n", "\\\\\n\n"):
+            with self.subTest(piece):
+                few, many = ask(environment("sphinx"), ROWS, ["a" + piece * count for count in (20_000, 80_000)])
+                self.assertLess(many, 8 * few + 0.05)
 
     def test_no_wrapping(self):
-        page, warnings = self.page_of(CONF, ".. math::\n   :nowrap:\n\n   \\begin{align} a \\\\ b \\end{align}")
-        self.assertEqual((page.count("<mtable"), page.count("<mtr>"), warnings), (1, 2, ""))
+        """A text that brings its environment stands as it is, and a blank line in it is nothing."""
+        for environment, cells in [("align", "a &= b"), ("align*", "a &= b"), ("eqnarray", "a &=& b"), ("gather", "a"), ("multline", "a"),
+                                   ("flalign", "a &= b")]:
+            with self.subTest(environment):
+                latex = f"\\begin{{{environment}}}\n   {cells} \\\\\n\n   {cells}\n   \\end{{{environment}}}"
+                page, warnings = self.page_of(CONF, f".. math::\n   :nowrap:\n   :label: one\n\n   {latex}\n\n:eq:`one`")
+                self.assertEqual((page.count("<mtable"), page.count("<mtr>"), warnings), (1, 2, ""))
+                self.assertIn('<span class="eqno">(1)', page)
+                self.assertIn('href="#equation-one">(1)', page)
 
-    def test_names(self):
-        text = r".. math:: x \in \R^n, \tfrac12 \le 1"
-        page, warnings = self.page_of(CONF + 'latex2mathml_names = {r"\\R": r"\\mathbb{R}"}\n', text)
-        self.assertIn('<msup><mi mathvariant="double-struck">R</mi><mi>n</mi></msup>', page)
-        self.assertIn("<mfrac><mn>1</mn><mn>2</mn></mfrac><mo>≤</mo>", page)
-        self.assertEqual(warnings, "")
-        for option, marked in [("True", ["R"]), ("False", ["R", "tfrac", "le"]), (r'{"\\le": "<"}', ["R"])]:
-            with self.subTest(option):
-                page, _ = self.page_of(CONF + f"latex2mathml_names = {option}\n", text)
-                self.assertEqual(re.findall(r'Command\(\\"(\w+)', page), marked)
-        with self.subTest("a build that brings the pages up to date"):
-            self.write(CONF + "latex2mathml_names = False\n")
-            self.expect(self.build(anew=()), 0, b"", None)
-            self.assertEqual(re.findall(r'Command\(\\"(\w+)', self.page()), ["R", "tfrac", "le"])
+    def test_no_files(self):
+        """The pages of each builder ask for nothing that others without formulas do not, wherever the formulas stand."""
+        for builder in ("html", "dirhtml", "singlehtml"):
+            with self.subTest(builder):
+                self.out = self.source / f"out-{builder}"
+                asked = []
+                for formula in ("x", ":math:`x`"):
+                    self.write(CONF, index="Title\n=====\n\n.. toctree::\n\n   sub\n", sub=f"Sub\n===\n\n{formula}\n")
+                    self.expect(self.build(builder=builder), 0, b"", b"")
+                    pages = sorted(self.out.rglob("*.html"))
+                    asked.append([re.findall(r"<(?:script|link) [^>]*>", page.read_text(encoding="utf-8")) for page in pages])
+                self.assertEqual(asked[0], asked[1])
+                self.assertEqual(sum(page.read_text(encoding="utf-8").count("<math ") for page in pages), 1)
 
-    def test_a_name_that_is_none(self):
-        self.write(CONF + 'latex2mathml_names = {"R": "x"}\n', index="Title\n=====\n")
-        done = self.build()
-        self.assertEqual(done.returncode, 2)
-        self.assertIn("latex2mathml_names: 'R' is no whole name", done.stderr.decode())
+
+@requires_python("sphinx")
+class Macros(Project):
+    TEXT = r".. math:: \norm{x} \in \RR"
+
+    def check(self, conf):
+        page, warnings = self.page_of(CONF + conf, self.TEXT)
+        self.assertEqual((re.sub("<[^>]*>", "", formulas(page)[0]), warnings), ("∥x∥∈ℝ", ""))
+
+    def test_a_mapping(self):
+        self.check('latex2mathml_macros = {"RR": r"\\mathbb{R}", r"\\norm": [r"\\lVert #1 \\rVert", 1]}\n')
+
+    def test_macros_for_mathjax(self):
+        """They are taken where the project has none for this extension."""
+        own = 'latex2mathml_macros = {"RR": r"\\mathbb{R}", "norm": r"\\lVert #1 \\rVert"}\n'
+        theirs = 'mathjax3_config = {"tex": {"macros": {"RR": r"%s", "norm": [r"\\lVert #1 \\rVert", 1]}}}\n'
+        self.check(theirs % r"\mathbb{R}")
+        self.check(own + theirs % r"\mathbb{C}")
+        self.check('mathjax3_config = {"loader": {}}\n' + own)
+
+    def test_a_file(self):
+        """It is seen from the folder of conf.py, and pages are written anew where it has changed."""
+        conf = 'latex2mathml_macros = "macros.tex"\n'
+        file = self.source / "macros.tex"
+        file.write_text("\\newcommand{\\RR}{\\mathbb{C}}\n\\newcommand{\\norm}[1]{\\lVert #1 \\rVert}\n")
+        page, _ = self.page_of(CONF + conf, self.TEXT)
+        self.assertIn("ℂ", page)
+        file.write_text(file.read_text().replace("{C}", "{R}"))
+        self.expect(self.build(anew=()), 0, b"", b"")
+        self.assertIn("ℝ", self.page())
+
+    def test_what_is_no_macro(self):
+        """The build ends before it begins, and says which it is."""
+        (self.source / "macros.tex").write_text("\n \\usepackage{bm}\n")
+        for conf, said in [
+            ('latex2mathml_macros = {"R2": "x"}', "latex2mathml_macros: macros: 'R2' is no name of a command"),
+            ('latex2mathml_macros = {"R": "{x"}', r"latex2mathml_macros: macros: \R: { is not closed: {x"),
+            ('mathjax3_config = {"tex": {"macros": {"R": ["#1", 1, "x"]}}}', r"latex2mathml_macros: macros: \R has an argument with a default"),
+            ('latex2mathml_macros = "macros.tex"', "macros.tex:2:2: not a definition"),
+            ('latex2mathml_macros = "none.tex"', "No such file or directory"),
+        ]:
+            with self.subTest(conf):
+                self.write(CONF + conf + "\n", index="Title\n=====\n")
+                done = self.build()
+                self.assertEqual(done.returncode, 2)
+                self.assertIn(said, done.stderr.decode())
+
+    def test_annotation(self):
+        """It is the formula as it is read: with the ends of its rows."""
+        page, said = self.page_of(CONF + "latex2mathml_annotation = True\n", ":math:`a<b`\n\n.. math::\n\n   a\n\n   b")
+        annotations = re.findall('<annotation encoding="application/x-tex">(.*?)</annotation></semantics></math>', page, re.DOTALL)
+        self.assertEqual((["".join(it.split()) for it in annotations], said), (["a&lt;b", "a\\\\b"], ""))
+
+    def test_former_options(self):
+        """One that has no effect any more is told."""
+        _, said = self.page_of(CONF + "latex2mathml_page = False\nlatex2mathml_strict = True\n", ":math:`x`")
+        self.assertEqual(sorted(said.splitlines()), [
+            "WARNING: latex2mathml_page has no effect any more: pages link no files",
+            "WARNING: latex2mathml_strict has no effect any more: use Sphinx's option -W"])
 
 
 @requires_python("sphinx")
 class Numbers(Project):
-    """Everything except the formulas is as with Sphinx's `mathjax` renderer, on pages of every kind."""
+    """Everything except the formulas, and the paragraphs around those in blocks, is as with Sphinx's `mathjax` renderer, on pages of
+    every kind."""
 
     TEXT = """
 Title
@@ -139,10 +227,11 @@ Behind :eq:`three`.
 """
     OTHER = "Other\n=====\n\n.. math:: f\n   :label: other\n\nSee :eq:`one`.\n"
     FORMULA = re.compile(r'<math .*?</math>|\\[(\[].*?\\[)\]]', re.DOTALL)
-    LINKS = re.compile(r'.*(?:latex2mathml\.(?:css|js)|mathjax).*\n')
+    PARAGRAPH = re.compile(r'(<div class="(?:wide )?math [^>]*>\n?(?:<span id="[^"]*"></span>)*)<p>(.*)</p></div>')
+    LINKS = re.compile(r'.*mathjax.*\n')
 
     def body(self, name):
-        return self.FORMULA.sub("FORMULA", self.LINKS.sub("", self.page(name)))
+        return self.PARAGRAPH.sub(r"\1\2</div>", self.FORMULA.sub("FORMULA", self.LINKS.sub("", self.page(name))))
 
     def bodies(self, conf, builder):
         self.write(conf, index=self.TEXT, other=self.OTHER)
@@ -164,33 +253,8 @@ Behind :eq:`three`.
 
 @requires_python("sphinx")
 class Pages(Project):
-    def links(self, page):
-        return re.findall(r'(?:href|src)="([^"]*latex2mathml\.(?:css|js))(?:\?[^"]*)?"', page)
-
-    def test_page_files(self):
-        """They are copied, and linked if a page has formulas."""
-        plain = "Title\n=====\n\nNo formula.\n"
-        self.write(CONF, index=f"{plain}\n.. toctree::\n\n   with\n", **{"with": ":math:`x`\n"})
-        self.expect(self.build(), 0, b"", None)
-        for name in ("latex2mathml.css", "latex2mathml.js"):
-            self.assertEqual((self.out / "_static" / name).read_bytes(), (ROOT / "page" / name).read_bytes())
-        self.assertEqual(self.links(self.page()), [])
-        self.assertEqual(self.links(self.page("with")), ["_static/latex2mathml.css", "_static/latex2mathml.js"])
-        self.assertNotIn("mathjax", self.page("with").lower())
-
-    def test_switched_off(self):
-        page, _ = self.page_of(CONF + "latex2mathml_page = False\n", ":math:`x`")
-        self.assertEqual(self.links(page), [])
-        self.assertFalse((self.out / "_static/latex2mathml.js").exists())
-        # and switched on, in a build that brings the pages up to date
-        self.write(CONF)
-        self.expect(self.build(anew=()), 0, b"", b"")
-        self.assertEqual(len(self.links(self.page())), 2)
-        self.assertTrue((self.out / "_static/latex2mathml.js").exists())
-
     def test_other_renderers_are_left_alone(self):
         page, _ = self.page_of('extensions = ["latex2mathml_proved.sphinx"]\nhtml_math_renderer = "mathjax"\n', ":math:`x`")
-        self.assertEqual(self.links(page), [])
         self.assertIn(r"\(x\)", page)
 
     def test_builders_without_renderers(self):
@@ -218,15 +282,37 @@ class Pages(Project):
         """The README's lines of conf.py are enough."""
         text = (ROOT / "integrations/python/README.md").read_text(encoding="utf-8")
         [conf] = re.findall(r"In `conf.py`:\n\n```python\n(.*?)```", text, re.DOTALL)
-        page, warnings = self.page_of(conf, r":math:`\R`")
-        self.assertIn('<mi mathvariant="double-struck">R</mi>', page)
-        self.assertEqual((len(self.links(page)), warnings), (2, ""))
+        page, warnings = self.page_of(conf, r":math:`\norm{x} \in \R`")
+        self.assertEqual((re.sub("<[^>]*>", "", formulas(page)[0]), warnings), ("∥x∥∈ℝ", ""))
 
     def test_example(self):
         """The example of the package is built without a warning, and all its formulas are drawn."""
         source = ROOT / "integrations/python/examples/sphinx"
         self.expect(run_python(environment("sphinx"), "-m", "sphinx", "-q", "-W", source, self.out, timeout=300), 0, b"", b"")
         self.assertEqual(len(formulas(self.page())), 6)
+
+
+@requires_python("sphinx", "myst_parser")
+class Myst(Project):
+    CONF = CONF.replace('["', '["myst_parser", "') + 'myst_enable_extensions = ["dollarmath", "amsmath"]\n'
+
+    def page_of_markdown(self, text):
+        self.write(self.CONF)
+        (self.source / "index.md").write_text(f"# Title\n\n{text}\n", encoding="utf-8")
+        done = run_python(environment("sphinx", "myst_parser"), "-m", "sphinx", "-E", "-a", "-q", self.source, self.out, timeout=300)
+        self.expect(done, 0, b"", None)
+        return self.page(), done.stderr.decode()
+
+    def test_formulas(self):
+        page, warnings = self.page_of_markdown(
+            "A $x$.\n\n$$\na\n$$ (one)\n\n\\begin{align}\nb &= c \\\\\nd &= e\n\\end{align}\n\n\\begin{gather*}\nf\n\\end{gather*}\n\nSee {eq}`one`.")
+        self.assertEqual(["".join(re.sub("<[^>]*>", "", it).split()) for it in formulas(page)], ["x", "a", "b=cd=e", "f"])
+        self.assertEqual((re.findall(r'<span class="eqno">\((\d)\)', page), page.count("<mtr>"), warnings), (["1", "2"], 3, ""))
+
+    def test_places(self):
+        _, said = self.page_of_markdown("A\n$x + \\foo$.\n\n$$\na\n\\foo\n$$\n\n\\begin{align}\nb &= c \\\\\nd &= \\foo\n\\end{align}")
+        self.assertEqual(re.findall(r"index\.md:(\d+): WARNING: .* at (.*)", said),
+                         [("4", "column 5"), ("8", "line 3, column 1"), ("13", "line 3, column 6")])
 
 
 @requires_python("sphinx")
@@ -236,23 +322,37 @@ class Faults(Project):
         return [(int(line), text) for line, text in re.findall(r"index\.rst:(\d+): WARNING: (.*)", said)]
 
     def test_refused(self):
-        """The page shows the formula as it was written, and the build goes on. The warning names the line."""
-        page, said = self.page_of(CONF, "One\ntwo :math:`{x<y` three.\n\n* An item\n  with :math:`{a`\n\n.. math::\n\n   {b &= c\n\n:math:`d`")
-        reason = OPEN.replace('"', "&quot;")
-        code = [f'<code class="latex2mathml-refused" title="{reason}">{{{it}</code>' for it in ("x&lt;y", "a", "b &amp;= c")]
+        """The page shows each formula as it was written, and the build goes on. The warnings name their lines."""
+        page, said = self.page_of(CONF, "One\ntwo :math:`{x<y` three.\n\n* An item\n  with :math:`{a`\n\n.. math::\n\n   {b \\& c\n\n:math:`d`")
+        code = [f'<code class="latex2mathml-refused" title="{OPEN}">{{{it}</code>' for it in ("x&lt;y", "a", r"b \&amp; c")]
         self.assertEqual(formulas(page)[:3], code)
         self.assertIn("<mi>d</mi>", page)
-        self.assertEqual(self.warnings(said), [(5, f"{{x<y: {OPEN}"), (8, f"{{a: {OPEN}"), (10, f"{{b &= c: {OPEN}")])
+        self.assertEqual(self.warnings(said), [(5, f"{{x<y: {OPEN}"), (8, f"{{a: {OPEN}"), (12, f"{{b \\& c: {OPEN}")])
 
     def test_lines_of_a_paragraph(self):
         """Formulas that are written alike have a line each. One that is not written in the paragraph has the paragraph's."""
         _, said = self.page_of(CONF, "One :math:`{x`\ntwo :math:`{x`\nthree |z|\nfour :math:`{x`.\n\n.. |z| replace:: :math:`{z`")
         self.assertEqual([(line, text[:2]) for line, text in self.warnings(said)], [(4, "{x"), (5, "{x"), (4, "{z"), (7, "{x")])
 
-    def test_marked(self):
-        page, said = self.page_of(CONF, ":math:`a \\foo b`")
-        self.assertIn('<mtext>[PARSE ERROR: Undefined("Command(\\"foo\\")")]</mtext>', page)
-        self.assertEqual(self.warnings(said), [(4, 'a \\foo b: marked as an error: Undefined("Command(\\"foo\\")")')])
+    def test_lines_of_formulas(self):
+        """The line and the column of what is refused in a formula of several lines, however they are written."""
+        _, said = self.page_of(CONF, ".. math:: a &= b \\\\\n   :label: one\n\n   c &= \\foo\n\n"
+                               ".. math::\n   :nowrap:\n\n   \\begin{align}\n   a\n   \\foo\n   \\end{align}\n\n"
+                               ".. math::\n\n   a\n\n   b\n\n   c \\foo\n\nA :math:`a +\nb + \\foo`")
+        self.assertEqual([(line, text.partition(" at ")[2]) for line, text in self.warnings(said)],
+                         [(7, "line 3, column 6"), (14, "line 3, column 1"), (23, "line 5, column 3"), (26, "line 2, column 5")])
+
+    def test_one_line(self):
+        """A warning is one line, which cuts a long formula."""
+        _, said = self.page_of(CONF, ".. math::\n\n   {x +\n   " + "y + " * 100)
+        self.assertEqual(self.warnings(said), [(6, ("{x + " + "y + " * 100)[:60] + "...: { is not closed at line 1, column 1")])
+
+    def test_docstrings(self):
+        """A formula in one has the line of its directive."""
+        (self.source / "module_of_ours.py").write_text('def f():\n    """One.\n\n    .. math::\n\n       a\n       \\\\foo\n    """\n')
+        conf = CONF.replace('["', '["sphinx.ext.autodoc", "') + "import pathlib, sys\nsys.path.insert(0, str(pathlib.Path(__file__).parent))\n"
+        _, said = self.page_of(conf, ".. autofunction:: module_of_ours.f")
+        self.assertRegex(said, r"module_of_ours\.py:docstring of module_of_ours\.f:3: WARNING: a \\foo: unknown command \\foo at line 2, column 1")
 
     def test_places(self):
         """Where it stands in a title, a table, a note or an included file; docutils counts a title's line
@@ -263,13 +363,12 @@ class Faults(Project):
         places = re.findall(r"(\w+\.\w+):(\d+): WARNING: {(\w):", said)
         self.assertEqual(places, [("index.rst", "5", "a"), ("index.rst", "8", "b"), ("index.rst", "14", "d"), ("part.txt", "2", "e")])
 
-    def test_strict(self):
-        for latex, fault in [("{x", OPEN), ("\\foo", 'marked as an error: Undefined("Command(\\"foo\\")")')]:
-            with self.subTest(latex):
-                self.write(CONF + "latex2mathml_strict = True\n", index=f"Title\n=====\n\n:math:`{latex}`\n")
-                done = self.build()
-                self.assertEqual(done.returncode, 2)
-                self.assertIn(f"index.rst:4: {latex}: {fault}", done.stderr.decode())
+    def test_warnings_that_fail_the_build(self):
+        """Sphinx's own option names all formulas that are refused."""
+        self.write(CONF, index="Title\n=====\n\n:math:`{a`\n\n.. toctree::\n\n   other\n", other="Other\n=====\n\n:math:`{b` :math:`{c`\n")
+        done = self.build("-W", "--keep-going")
+        self.assertEqual(done.returncode, 1)
+        self.assertEqual(re.findall(r"(\w+)\.rst:4: WARNING: (.*): {", done.stderr.decode()), [("index", "{a"), ("other", "{b"), ("other", "{c")])
 
     def test_warnings_that_are_suppressed(self):
         _, said = self.page_of(CONF + 'suppress_warnings = ["latex2mathml"]\n', ":math:`{x`")

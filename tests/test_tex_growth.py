@@ -24,8 +24,10 @@ MOST_DOUBLINGS = 17
 # Of a second formula that is the same as the first only the input and the answers need more room, each once.
 MOST_FOR_ANOTHER = 3
 
-PIECES = ["x", "1", "1.5 ", "+", "x+", "\\alpha ", "x_1^2", "x''", "\\sin x", "\\frac12", "{ab}", "\\left(x\\right)", "\\text{a b}", "\\mathrm{ab}",
-          "\\operatorname{ab}", "% c\n", "\\not=", " x", "\\,", "𝑥", "\\def\\a{x}", "\\newcommand{\\a}[1]{#1}", "\\begin{matrix}x&y\\\\z\\end{matrix}"]
+PIECES = ["x", "1", "1.5 ", "+", "x+", "\\alpha ", "x_1^2", "x''", "\\sin x", "\\frac12", "{ab}", "\\left(x\\right)", "\\text{a b}",
+          "\\mathrm{ab}", "\\operatorname{ab}", "\\hspace{1em}", "\\rule{1em}{1em}", "\\textcolor{red}x", "\\color{red}x",
+          "\\xrightarrow[x]y", "% c\n", "\\not=", " x", "\\,", "𝑥", "\\def\\a{x}", "\\newcommand{\\a}[1]{#1}",
+          "\\begin{matrix}x&y\\\\z\\end{matrix}"]
 IN_WORDS = ["a", "$x$", "{a}", "\\textbf{a}", "\\alpha", " ", "a "]
 BETWEEN_DELIMITERS = ["x", "\\middle|", "\\frac12\\middle|"]
 # cells, rows, and rows of two cells
@@ -70,9 +72,10 @@ TEXTS = {
 
 
 def asked_for(text):
-    """What tables, lengths behind their rows, and definitions may ask for, each for itself: the names of a table, the text of a
-    length, and the parts of a definition."""
-    return 2 * text.count("\\begin") + text.count("\\\\[") + 3 * (text.count("\\def") + text.count("\\newcommand"))
+    """What tables, lengths, colors and definitions may ask for, each for itself: the names of a table, the text of a length, the name
+    of a color, and the parts of a definition."""
+    values = text.count("\\\\[") + text.count("{1em}") + text.count("{red}")
+    return 2 * text.count("\\begin") + values + 3 * (text.count("\\def") + text.count("\\newcommand"))
 
 
 def asked_anew(text):
@@ -147,7 +150,7 @@ class Memory(Growth):
 
 @support.requires("cc")
 class Requests(Growth):
-    """Memory is asked for only where a text or a list is full, and for each table and each definition."""
+    """Memory is asked for only where a text or a list is full, and for each table, length, color and definition."""
 
     def judge(self, text_of):
         text = text_of(pieces_in(text_of, 100_000))

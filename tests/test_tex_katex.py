@@ -1,11 +1,12 @@
-"""The cases of `cases/tex/` against KaTeX: each is read as KaTeX reads it, but for those that are listed here."""
+"""The cases of `cases/tex/`, and usual names of LaTeX, against KaTeX: each is read as KaTeX reads it, but for those that are listed
+here."""
 import json
 import sys
 import unittest
 from pathlib import Path
 
 from tests import cases
-from tests.support import ROOT, Case, requires, run
+from tests.support import ROOT, Case, requires, run, tex_program
 
 sys.path.insert(0, str(ROOT / "diff"))
 
@@ -23,11 +24,15 @@ OTHERWISE = {
     "\\left<x\\right>": "KaTeX leaves the signs as they are in its MathML",
     "\\begin{matrix}a\\\\*[2pt]b\\cr[c]\\end{matrix}": "KaTeX draws the star and the length",
     "\\begin{array}{l|r}\\hline a&b\\\\ \\hline\\end{array}": "KaTeX draws the lines",
+    "\\cfrac[l]{1}{2}": "KaTeX takes the bracket as a numerator",
+    "\\cfrac [ r ] 12": "KaTeX takes the bracket as a numerator",
     "\\boxed{x}": "KaTeX has an element for a line around it, which MathML Core has not",
     "\\fbox{if }": "KaTeX has an element for a line around it, which MathML Core has not",
     "\\cancel{x}": "KaTeX has an element for lines through it, which MathML Core has not",
     "\\bcancel{x}^2": "KaTeX has an element for lines through it, which MathML Core has not",
     "\\xcancel{x}": "KaTeX has an element for lines through it, which MathML Core has not",
+    "a=b\\tag{1}": "KaTeX sets a tag at the margin of a block, and refuses it in a line of text",
+    "x\\tag{$\\star$ or so}": "KaTeX sets a tag at the margin of a block, and refuses it in a line of text",
     "\\dots\\not=b": "KaTeX takes the stroke apart before it looks for it; amsmath centers the dots",
     "\\def\\a{x}\\providecommand{\\a}{y}\\a": "KaTeX defines anew what is there already; LaTeX leaves it",
 }
@@ -45,6 +50,9 @@ REFUSED = {
     "\\newcommand*{\\sq}[1]{#1^2}\\sq{x}": "KaTeX takes no star there",
     "\\begin{array}[t]{@{}p{2cm}c@{\\,}}a&b&d\\end{array}": "KaTeX has no place of an array and no columns of a width",
     "a\\mspace{9mu}b": "KaTeX has no such command",
+    "\\raisemath{1em}{+}": "KaTeX has no such command",
+    "\\mathcolorbox{yellow}{x}": "KaTeX has no such command",
+    "\\textcolor { RoyalBlue } xy": "KaTeX lets no space stand beside the name of a color",
     "a\\label{eq:x_1}^2": "KaTeX has no such command",
     "\\text{a\\label{b}c}": "KaTeX has no such command",
     "x\\relax_1": "KaTeX lets nothing stand between an atom and its scripts",
@@ -70,6 +78,22 @@ IN_ALIGNED = {
 BLOCK_ALONE = {"\\begin{alignat*}{2}a&b\\end{alignat*}"}
 
 
+# usual names that KaTeX reads otherwise, or refuses
+NAMES_OTHERWISE = {
+    "\\coloneq": "KaTeX has the colon and the minus sign of older versions of mathtools",
+    "\\coloneqq": "KaTeX has one character for the colon and the sign",
+}
+NAMES_REFUSED = {
+    "\\mathds{R}": "KaTeX has no such command",
+    "\\mathbbm{R}": "KaTeX has no such command",
+    "\\mbox{if}": "KaTeX has no such command",
+    "\\csch x": "KaTeX has no such command",
+    "\\sech x": "KaTeX has no such command",
+    "\\ensuremath{x}": "KaTeX has no such command",
+    "\\strut x": "KaTeX has no such command",
+}
+
+
 def as_asked(formula):
     return f"\\begin{{aligned}}{formula}\\end{{aligned}}" if formula in IN_ALIGNED else formula
 
@@ -80,12 +104,15 @@ class AsKatexReads(Case):
     def structures(self, display, names):
         """Of each formula of these files: the structure that is expected, and that of KaTeX, or None where it refuses it."""
         pairs = [(case.input.decode(), case.answer) for name in names for case in cases.read(name)]
-        asked = json.dumps([[as_asked(formula), display == "block"] for formula, _ in pairs]).encode()
+        theirs = self.structures_of_katex([as_asked(formula) for formula, _ in pairs], display)
+        for (formula, contents), its in zip(pairs, theirs):
+            yield formula, structure.structure(cases.math(display, contents).decode()), its
+
+    def structures_of_katex(self, formulas, display):
+        asked = json.dumps([[formula, display == "block"] for formula in formulas]).encode()
         done = run(["node", ROOT / "diff/katex.js", KATEX], stdin=asked)
         self.assertEqual(done.returncode, 0, done.stderr.decode())
-        for (formula, contents), markup in zip(pairs, json.loads(done.stdout)):
-            ours = structure.structure(cases.math(display, contents).decode())
-            yield formula, ours, markup and structure.structure(markup)
+        return [markup and structure.structure(markup) for markup in json.loads(done.stdout)]
 
     def test_cases(self):
         for display in ("inline", "block"):
@@ -97,6 +124,23 @@ class AsKatexReads(Case):
                         self.assertNotEqual(ours, theirs)
                     else:
                         self.assertEqual(ours, theirs)
+
+    def test_usual_names(self):
+        """Each is read. The packages for tools took other commands in the place of these names before they used `tex_to_mathml`."""
+        formulas = (ROOT / "tests/usual_names.txt").read_text(encoding="utf-8").splitlines()
+        done = run([tex_program(), "--null"], stdin="\0".join(formulas).encode())
+        self.expect(done, 0, None, b"")
+        replies = done.stdout.decode().removesuffix("\0").split("\0")
+        for formula, reply, theirs in zip(formulas, replies, self.structures_of_katex(formulas, "inline"), strict=True):
+            with self.subTest(formula):
+                kind, _, ours = reply.partition("\n")
+                self.assertEqual(kind, "mathml", ours)
+                if formula in NAMES_REFUSED:
+                    self.assertIsNone(theirs)
+                elif formula in NAMES_OTHERWISE:
+                    self.assertNotEqual(structure.structure(ours), theirs)
+                else:
+                    self.assertEqual(structure.structure(ours), theirs)
 
 
 if __name__ == "__main__":

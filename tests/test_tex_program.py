@@ -6,8 +6,9 @@ import os
 import re
 import threading
 import unittest
+import xml.etree.ElementTree as ElementTree
 
-from tests import faulty
+from tests import cases, faulty
 from tests.support import ROOT, Case, requires, run, scratch, tex_program
 
 MATH = b'<math xmlns="http://www.w3.org/1998/Math/MathML" display="%s">%s</math>'
@@ -251,6 +252,62 @@ ROOM = 4096
 
 
 @requires("cc")
+def annotated(shown, tex, display=b"inline"):
+    annotation = b'<annotation encoding="application/x-tex">%s</annotation>' % tex
+    markup = math(b"<semantics>%s%s</semantics>" % (shown, annotation), display)
+    return markup.replace(b"><semantics>", b' alttext="%s"><semantics>' % tex.replace(b'"', b"&quot;"), 1)
+
+
+class Annotations(Case):
+    """`--annotation`."""
+
+    def answers(self, formula, shown, tex, *words, display=b"inline"):
+        self.expect(ask("--annotation", *words, stdin=formula), stdout=annotated(shown, tex, display) + b"\n")
+
+    def test_several_elements(self):
+        self.answers(b"x<y", b"<mrow><mi>x</mi><mo>&lt;</mo><mi>y</mi></mrow>", b"x&lt;y")
+
+    def test_one_element(self):
+        self.answers(b"x", b"<mi>x</mi>", b"x", "--display", "block", display=b"block")
+
+    def test_nothing(self):
+        self.answers(b"", b"<mrow></mrow>", b"")
+
+    def test_as_it_was_given(self):
+        """White space, comments and macros too, but no character that XML forbids."""
+        self.answers(b"\\def\\a{x} \\a % &$\1\n", b"<mi>x</mi>", "\\def\\a{x} \\a % &amp;&#x24;\ufffd\n".encode())
+
+    def test_quotation_marks(self):
+        """They are escaped in the alternative text alone."""
+        self.answers(b"x%\"'", b"<mi>x</mi>", b"x%\"'")
+
+    def test_many_formulas(self):
+        x, y = (b"mathml\n" + annotated(b"<mi>%s</mi>" % it, it) + b"\0" for it in (b"x", b"y"))
+        self.expect(ask("--null", "--annotation", stdin=b"x\0\\foo\0y\0"), stdout=x + b"error\nunknown command \\foo at 0\0" + y)
+
+    def test_refusal(self):
+        self.expect(ask("--annotation", stdin=b"x + \\foo"), 1, b"", b"tex2mathml: unknown command \\foo at 4\n")
+
+    def test_each_case(self):
+        """An XML parser finds the formula in the annotation, and beside it what the case shows."""
+        of_tex = [case for name in cases.files("tex/*.txt") for case in cases.read(name)]
+        done = ask("--null", "--annotation", stdin=b"".join(case.input + b"\0" for case in of_tex))
+        replies = done.stdout.split(b"\0")[:-1]
+        for case, reply in zip(of_tex, replies, strict=True):
+            with self.subTest(case.place):
+                math = ElementTree.fromstring(reply.removeprefix(b"mathml\n"))
+                shown, annotation = math[0]
+                self.assertEqual(annotation.text, case.input.decode())
+                # a parser reads the white space of an attribute as spaces
+                self.assertEqual(math.get("alttext"), re.sub(r"[\t\n\r]", " ", annotation.text))
+                self.assertEqual(*map(ElementTree.tostring, (self.one_element(case.answer), shown)))
+
+    def one_element(self, contents):
+        """The only element of these contents, or an `mrow` of all."""
+        found = ElementTree.fromstring(cases.math("inline", contents))
+        return found[0] if len(found) == 1 else ElementTree.fromstring(cases.math("inline", b"<mrow>%s</mrow>" % contents))[0]
+
+
 class Calls(Case):
     """How often the program reads and writes, and what it does where one of these calls fails."""
 
@@ -338,7 +395,7 @@ class Words(Case):
     def test_help(self):
         done = ask("--help")
         self.expect(done, stdout=None)
-        for word in (b"Usage: tex2mathml [OPTIONS]", b"--display", b"--null", b"--definitions <FILE>", b"inline", b"block"):
+        for word in (b"Usage: tex2mathml [OPTIONS]", b"--display", b"--null", b"--definitions <FILE>", b"--annotation", b"inline", b"block"):
             self.assertIn(word, done.stdout)
 
     def test_version(self):
@@ -346,7 +403,8 @@ class Words(Case):
         self.expect(ask("--version"), stdout=f"tex2mathml {version}\n".encode())
 
     def test_wrong_ones(self):
-        for words in (["--wrong"], ["--display"], ["--display", "wrong"], ["x"], ["--null", "--null"], ["--definitions"],
+        for words in (["--wrong"], ["--display"], ["--display", "wrong"], ["x"], ["--null", "--null"], ["--annotation", "--annotation"],
+                      ["--annotation=x"], ["--definitions"],
                       ["--definitions", "/dev/null", "--definitions", "/dev/null"], ["--definitions", "--null"]):
             with self.subTest(words):
                 done = ask(*words, stdin=b"x")

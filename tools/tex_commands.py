@@ -62,6 +62,11 @@ ALONE = {
     "Skip": ("Lengths and boxes", "a space as wide as a length", "a@1.5em b"),
     "SkipInBraces": ("Lengths and boxes", "a space as wide as a length; a star is nothing", "a@{1.5em}b"),
     "Smash": ("Lengths and boxes", "an operand without height and depth; with `[t]` it has a depth, with `[b]` a height", "@{x}"),
+    "Raise": ("Lengths and boxes", "an operand that a length raises", "@{2pt}{x}"),
+    "Rectangle": ("Lengths and boxes", "a black rectangle, so wide and so high; a length in brackets before them raises it", "@{1em}{0.4pt}"),
+    "InColor": ("Colors", "an operand in a color", "@{red}{x}"),
+    "Highlight": ("Colors", "an operand on a color", "@{yellow}{x}"),
+    "ContinuedFraction": ("Fractions and roots", "a fraction, in the style of a block; `[l]` and `[r]` are nothing", "@{a}{b}"),
     "Root": ("Fractions and roots", "a root, with its degree in brackets", "@[3]{a}"),
     "StackedRelation": ("Marks, braces and stacks", "a relation, with the first operand above the second", "@{a}{=}"),
     "OperatorName": ("Functions", "the name of a function; with `*` it has limits", "@{rank} A"),
@@ -71,7 +76,7 @@ ALONE = {
     "Left": ("Delimiters", "an opening delimiter, as high as what stands behind it", "@( a \\right)"),
     "Middle": ("Delimiters", "a delimiter between the two", "\\left( a @/ b \\right)"),
     "Right": ("Delimiters", "the closing delimiter", "\\left( a @)"),
-    "Limits": ("Functions", "sets the scripts of an operator above and below it", "\\sum@_a^b"),
+    "Limits": ("Functions", "sets the scripts of an operator above and below it, `\\displaylimits` in a block alone", "\\sum@_a^b"),
     "NoLimits": ("Functions", "sets them beside it, also where they would be limits", "\\sum@_a^b"),
     "BeginTable": ("Tables", "begins an environment", "@{matrix} a \\end{matrix}"),
     "EndTable": ("Tables", "ends it", "\\begin{matrix} a @{matrix}"),
@@ -94,6 +99,7 @@ SECTIONS = {
     "Words": "",
     "Spaces": "Widths are in eighteenths of an em. The character `~` is a space too, of 6.",
     "Lengths and boxes": "",
+    "Colors": "A color is a name of style sheets, in letters of either case, or `#` with three or six digits in hexadecimal.",
     "Strokes": "",
     "Classes": "",
     "Delimiters": "A point stands for no delimiter.",
@@ -123,6 +129,8 @@ def place_of(meaning):
             return Place("Functions", LIMITS[limits]), text_of(name)
         case Made("Accent", (Made(side), int(mark), Made(width))):
             return Place("Marks, braces and stacks", f"Marks {SIDES[side]}, {WIDTHS[width]}"), chr(mark)
+        case Made("Arrow", (int(sign),)):
+            return Place("Marks, braces and stacks", "Arrows as long as what stands above them, and below them in brackets"), chr(sign)
         case Made("Brace", (Made(side), int(mark))):
             return Place("Marks, braces and stacks", f"Braces {SIDES[side]}, whose label is a script"), chr(mark)
     return Place(*example_of(meaning)), None
@@ -172,6 +180,8 @@ def example_of(meaning):
             return "Up to the end of the group", f"letters and digits in {ALPHABETS[alphabet]}", "{@ a}"
         case Made("Changes", (Made("ToStyle", (Made(style),)),)):
             return "Up to the end of the group", f"all in the style of {STYLES[style]}", "{@ a}"
+        case Made("Changes", (Made("ToColor"),)):
+            return "Up to the end of the group", "all in a color", "{@{red} a}"
         case Made("Changes", (Made("Divides", (Made(rule),)),)):
             return "Up to the end of the group", f"{FRACTIONS[rule]}, of what stands before it and behind it", "{a @ b}"
         case Made(name, ()):

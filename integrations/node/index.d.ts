@@ -1,14 +1,43 @@
-/** A formula or a document is refused. The message is the reason. It may quote the formula, so escape it in HTML. */
-export class Refused extends Error {}
+import type { Macros } from './options';
 
 /**
- * Returns the `math` element of a formula, for a line of text or for a block of its own.
+ * A formula, a document or a definition is refused. The message is the reason. It may quote the formula, so escape it in HTML.
+ */
+export class Refused extends Error {
+    /** The byte of the text where what is refused begins, if that is known. */
+    place?: number;
+}
+
+/** Options of `tex`. */
+export interface TexOptions {
+    /** Whether the element also has the formula itself, as an annotation, so that a copy of it takes the LaTeX along. */
+    annotation?: boolean;
+}
+
+/**
+ * Returns the `math` element of a formula in LaTeX as authors write it, for a line of text or for a block of its own.
+ * @param definitions a text of definitions, whose macros the formula may use
+ * @throws {Refused} if the formula or the definitions cannot be read
+ */
+export function tex(formula: string, block?: boolean, definitions?: string, options?: TexOptions): string;
+
+/**
+ * Returns a text of definitions for `tex`.
+ * @throws {Refused} if one of the definitions is refused
+ * @throws {TypeError} if a name is no name of a command
+ */
+export function definitionsOf(macros: Macros): string;
+
+/**
+ * Returns the `math` element of a formula as the Rust crate reads it, for a line of text or for a block of its own.
+ * @param strict whether a formula with a marked error, such as an unknown command, is refused
  * @throws {Refused} if the formula cannot be read, for example because a brace is not closed
  */
-export function formula(latex: string, block?: boolean): string;
+export function formula(latex: string, block?: boolean, strict?: boolean): string;
 
 /**
- * Returns the document with each formula between dollar signs replaced by its `math` element.
+ * Returns the document with each formula between dollar signs replaced by its `math` element, as the Rust crate reads it.
+ * @param strict whether a document with a marked error is refused
  * @throws {Refused} if the dollar signs do not pair, or a formula is refused
  */
-export function document(text: string): string;
+export function document(text: string, strict?: boolean): string;

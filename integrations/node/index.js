@@ -1,30 +1,66 @@
 'use strict';
 // LaTeX formulas to MathML.
 const addon = require('./build/Release/latex2mathml.node');
+const { macroDefinitions } = require('./macros.js');
 
-/** A formula or a document is refused. The message is the reason. It may quote the formula, so escape it in HTML. */
+/**
+ * A formula, a document or a definition is refused. The message is the reason. It may quote the formula, so escape it in HTML.
+ * `place` is the byte of the text where what is refused begins, if that is known.
+ */
 class Refused extends Error {
     get name() {
         return 'Refused';
     }
 }
 
+function refusalOf(error) {
+    const refusal = new Refused(error.message);
+    if (error.place !== undefined) refusal.place = error.place;
+    return refusal;
+}
+
 function call(convert, ...words) {
     try {
         return convert(...words);
     } catch (error) {
-        throw error.code === 'LATEX2MATHML_REFUSED' ? new Refused(error.message) : error;
+        throw /^LATEX2MATHML_(DEFINITION_)?REFUSED$/.test(error.code) ? refusalOf(error) : error;
     }
 }
 
-/** Returns the `math` element of a formula, for a line of text or for a block of its own. */
-function formula(latex, block = false) {
-    return call(addon.formula, latex, block);
+/**
+ * Returns the `math` element of a formula in LaTeX as authors write it, which may use the macros of a text of definitions. With the
+ * option `annotation` it also has the formula itself, as an annotation.
+ */
+function tex(formula, block = false, definitions = '', { annotation = false } = {}) {
+    return call(addon.tex, formula, block, definitions, annotation);
 }
 
-/** Returns the document with each formula between dollar signs replaced by its `math` element. */
-function document(text) {
-    return call(addon.document, text);
+/** Returns a text of definitions for `tex`, by the option `macros` of the plugins. */
+function definitionsOf(macros) {
+    if (typeof macros === 'string') {
+        tex('', false, macros);
+        return macros;
+    }
+    return macroDefinitions(macros, definition => tex('', false, definition));
 }
 
-module.exports = { formula, document, Refused };
+const CHARACTERS = { '&amp;': '&', '&lt;': '<', '&gt;': '>', '&quot;': '"', '&#x24;': '$' };
+
+/** Returns the markup of `formula` or `document`, unless parts of it are marked as errors and `strict` forbids that. */
+function checked(markup, strict) {
+    const marks = strict ? Array.from(markup.matchAll(/<mtext>\[PARSE ERROR: (.*?)\]<\/mtext>/gs), ([, mark]) => mark) : [];
+    if (marks.length === 0) return markup;
+    throw new Refused(`marked as an error: ${marks.join(', ').replace(/&[^;]*;/g, reference => CHARACTERS[reference] ?? reference)}`);
+}
+
+/** Returns the `math` element of a formula as the Rust crate reads it, for a line of text or for a block of its own. */
+function formula(latex, block = false, strict = false) {
+    return checked(call(addon.formula, latex, block), strict);
+}
+
+/** Returns the document with each formula between dollar signs replaced by its `math` element, as the Rust crate reads it. */
+function document(text, strict = false) {
+    return checked(call(addon.document, text), strict);
+}
+
+module.exports = { tex, definitionsOf, formula, document, Refused };

@@ -1,14 +1,12 @@
 'use strict';
-// A plugin for markdown-it: `$..$` is a formula in a line, `$$..$$` one in a block of its own, and `\$` a dollar sign.
-const { FORMULA, findFormulas } = require('./dollars.js');
-const { formula, Refused } = require('./index.js');
-const { namesOf, replaceNames } = require('./names.js');
+// A plugin for markdown-it: `$..$` and `\(..\)` are formulas in a line, and `$$..$$`, `\[..\]` and fences of the language `math`
+// are formulas in a block of their own.
+const { FORMULA, findFormulas } = require('./delimiters.js');
+const { REFUSED, checkOptions, converterOf, warningOf } = require('./rendering.js');
 
 const REFERENCES = { '&': '&amp;', '<': '&lt;', '>': '&gt;', '"': '&quot;', '$': '&#x24;' };
-const CHARACTERS = Object.fromEntries(Object.entries(REFERENCES).map(([character, reference]) => [reference, character]));
 
 const escape = text => text.replace(/[&<>"$]/g, character => REFERENCES[character]);
-const unescape = text => text.replace(/&[^;]*;/g, reference => CHARACTERS[reference] ?? reference);
 
 const isFormula = token => token.type === FORMULA;
 
@@ -31,7 +29,7 @@ function restoreImageTexts(tokens) {
     for (const image of tokens.flatMap(token => token.children ?? []).filter(token => token.type === 'image')) {
         for (const child of image.children.filter(isFormula)) {
             child.type = 'text';
-            child.content = child.markup + child.content + child.markup;
+            child.content = child.meta.source;
         }
     }
 }
@@ -42,45 +40,29 @@ function place(env, line) {
     return Number.isNaN(line) ? file : `${file}:${line}`;
 }
 
-// The markup that stands in a formula's place, and what is wrong with it.
-function convert(latex, isBlock, names) {
-    try {
-        const markup = formula(replaceNames(latex, names), isBlock);
-        const mark = /<mtext>\[PARSE ERROR: (.*?)\]<\/mtext>/s.exec(markup);
-        return { markup, fault: mark && `marked as an error: ${unescape(mark[1])}` };
-    } catch (error) {
-        if (!(error instanceof Refused)) throw error;
-        const reason = error.message;
-        return { markup: `<code class="latex2mathml-refused" title="${escape(reason)}">${escape(latex)}</code>`, fault: reason };
-    }
-}
-
-const links = folder => `<link rel="stylesheet" href="${escape(folder)}/latex2mathml.css">
-<script src="${escape(folder)}/latex2mathml.js" defer></script>
-`;
+const refusedMarkup = (latex, reason) => `<code class="${REFUSED}" title="${escape(reason)}">${escape(latex)}</code>`;
 
 /** The plugin, for `md.use(latex2mathml, options)`. */
-module.exports = function latex2mathml(md, { names, strict = false, page = 'page', warn = console.warn } = {}) {
-    const replaced = namesOf(names);
+module.exports = function latex2mathml(md, options = {}) {
+    checkOptions(options, ['macros', 'annotation', 'strict', 'brackets', 'warn']);
+    const { strict = false, brackets = true, warn = console.warn } = options;
+    const convert = converterOf(options);
+
+    function report(message) {
+        if (strict) throw new Error(message);
+        warn(message);
+    }
 
     function convertPage(state) {
         restoreImageTexts(state.tokens);
-        const found = [...formulas(state.tokens)];
-        for (const [token, line] of found) {
-            const { markup, fault } = convert(token.content, token.markup === '$$', replaced);
-            token.meta = { markup };
-            if (!fault) continue;
-            const message = `${place(state.env, line)}: ${token.content}: ${fault}`;
-            if (strict) throw new Error(message);
-            warn(message);
+        for (const [token, line] of formulas(state.tokens)) {
+            const { markup, reason } = convert(token.content, token.meta.isBlock);
+            token.meta.markup = markup ?? refusedMarkup(token.content, reason);
+            if (reason !== undefined) report(`${place(state.env, line)}: ${warningOf(token.content, reason)}`);
         }
-        if (found.length === 0 || page === false || state.inlineMode) return;
-        const token = new state.Token('html_block', '', 0);
-        token.content = links(page);
-        state.tokens.unshift(token);
     }
 
-    findFormulas(md);
+    findFormulas(md, { brackets });
     md.core.ruler.push(FORMULA, convertPage);
     md.renderer.rules[FORMULA] = (tokens, i) => tokens[i].meta.markup + (tokens[i].block ? '\n' : '');
 };

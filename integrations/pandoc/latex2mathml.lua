@@ -2,287 +2,472 @@
 --
 --     pandoc --lua-filter latex2mathml.lua -s a.md -o a.html
 --
--- All formulas go through one process of the program `latex2mathml`, each different one once. Only where one is refused,
--- the list is halved until that one stands alone.
+-- The document is walked twice. The first walk gathers formulas, definitions and labels. Then the program `tex2mathml` converts the
+-- formulas: those in lines in one run, those in blocks in another. The second walk puts the results in.
 
-local REFUSED = 1 -- the program's status
+local re = require 're'
 
---- The options, each of which the metadata has as `latex2mathml-NAME`.
-local options = {
-  program = 'latex2mathml', -- the program's path, or its name where it is on the path
-  names = true,
-  strict = false,
-  page = 'page',
-}
-
---- The formulas of the document, each different one once, and by its key what stands in its place.
-local formulas = {}
-local places = {}
-
-local function key(math)
-  return math.mathtype .. math.text
-end
+-- groups may be nested deeper than the few hundred levels that are the default
+require('lpeg').setmaxstack(1000000)
 
 local function fail(message, ...)
   error('latex2mathml: ' .. message:format(...), 0)
 end
 
--- Options ------------------------------------------------------------------------------------------------------------
+-- Raw TeX ------------------------------------------------------------------------------------------------------------
 
---- The TeX that a name stands for. Only raw TeX and code keep it as it was written; pandoc reads any other text as Markdown.
-local function tex(name, value)
-  if type(value) == 'string' then
-    return value
-  end
-  local only = #value == 1 and value[1]
-  if only and (only.t == 'Code' or only.t == 'RawInline') then
-    return only.text
-  end
-  fail('what %s stands for is to be put between backquotes', name)
+--- The parts of raw TeX that matter here, in turn, up to a brace that is not closed. Anything else is passed over. What fails at one
+--- place stops early, so that the time stays linear.
+local RAW_TEX = re.compile([=[
+  parts       <- {| (definition / environment / reference / command / group / comment / [^{])* |}
+  definition  <- {| {:kind: '' -> 'definition' :} {:text: { (new / def / operator) } :} |}
+  new         <- '\' ('newcommand' / 'renewcommand' / 'providecommand') end_of_word '*'? space name space option* group
+  def         <- '\def' end_of_word space command [^{\]* group
+  operator    <- '\DeclareMathOperator' end_of_word '*'? space name space group
+  environment <- {| {:kind: '' -> 'formula' :} {:text: { body } :} |}
+  body        <- '\begin{' {:name: math '*'? :} '}' (!ending !another (comment / command / .))* ending
+  ending      <- '\end{' =name '}'
+  another     <- '\begin{' math '*'? '}'
+  math        <- 'equation' / 'alignat' / 'align' / 'gather' / 'multline' / 'flalign' / 'eqnarray'
+  reference   <- {| {:kind: '' -> 'reference' :} '\' {:type: 'eqref' / 'ref' :} '{' {:label: [^}]+ :} '}' |}
+  name        <- group / command
+  option      <- '[' (command / [^][\])* ']' space
+  group       <- '{' (comment / command / group / [^{}])* '}'
+  command     <- '\' ([A-Za-z]+ / .)
+  end_of_word <- ![A-Za-z]
+  space       <- (%s / comment)*
+  comment     <- '%' [^%nl]*
+]=])
+
+local function is_tex(raw)
+  return raw.format == 'tex' or raw.format == 'latex'
 end
 
-local function own_names(meta)
-  local names = {}
-  for name, value in pairs(meta) do
-    if not (name:match('^\\[A-Za-z]+$') or name:match('^\\[^A-Za-z][\128-\191]*$')) then
-      fail('%s is no name of a command', name)
-    end
-    names[name] = tex(name, value)
+--- The command that a definition defines.
+local function defined_name(definition)
+  return definition:match('^\\%a+%*?[%s{]*(\\%a+)') or definition:match('^\\%a+%*?[%s{]*(\\?.)')
+end
+
+--- A formula without comments, which hide what they hold.
+local function without_comments(source)
+  return (source:gsub('\\%%', '  '):gsub('%%[^\n]*', ''))
+end
+
+--- The labels of a formula, in turn.
+local function labels_of(source)
+  local labels = {}
+  for label in without_comments(source):gmatch('\\label%s*{([^{}]+)}') do
+    labels[#labels + 1] = label
   end
-  return names
+  return labels
+end
+
+-- Options ------------------------------------------------------------------------------------------------------------
+
+--- What holds if the metadata do not say otherwise.
+local function default_options()
+  return {
+    program = 'tex2mathml', -- the program's path, or its name if it is on the path
+    strict = false, -- whether a refused formula ends the run
+    definitions = false, -- a file of definitions, for the program
+    macros = {}, -- definitions, each with its name
+    annotation = false, -- whether the MathML also has the formula itself
+  }
+end
+
+local function type_of(meta)
+  return pandoc.utils.type(meta)
+end
+
+--- The one element of a value, or nil: blocks may hold it in a paragraph.
+local function only_element(value)
+  local only = #value == 1 and value[1] or nil
+  if only and (only.t == 'Para' or only.t == 'Plain') then
+    return only_element(only.content)
+  end
+  return only
+end
+
+--- The TeX that a value of the metadata stands for, or nil if pandoc has not kept it as it was written. It reads metadata as
+--- Markdown, where a backslash before a comma disappears.
+local function tex_of(value)
+  if type_of(value) == 'string' then
+    return value
+  elseif type_of(value) ~= 'Inlines' and type_of(value) ~= 'Blocks' then
+    return nil
+  end
+  local only = only_element(value)
+  if not only then
+    return nil
+  elseif only.t == 'Str' then
+    return only.text:match('^%w+$')
+  end
+  return only.text
+end
+
+--- The number of arguments of a macro: the highest behind a `#`.
+local function count_arguments(body)
+  local count = 0
+  for digit in body:gsub('##', ''):gmatch('#(%d)') do
+    count = math.max(count, tonumber(digit))
+  end
+  return count
+end
+
+--- A definition of a macro, by its name and what it stands for: TeX, or a list of TeX and the number of arguments.
+local function definition_of(name, value)
+  local is_list = type_of(value) == 'List'
+  local body = tex_of(is_list and value[1] or value)
+  if not body then
+    fail('write what the macro %s stands for between backquotes', name)
+  end
+  local count = is_list and value[2] and tonumber(pandoc.utils.stringify(value[2])) or count_arguments(body)
+  local command = name:match('^\\') and name or '\\' .. name
+  -- a comment at the end of the body does not reach the brace
+  local last = body:find('%%') and '\n' or ''
+  local arguments = count > 0 and ('[%d]'):format(count) or ''
+  return {name = command, text = ('\\newcommand{%s}%s{%s%s}'):format(command, arguments, body, last), is_option = true}
+end
+
+--- The definitions in a text.
+local function definitions_in(value)
+  local text = tex_of(value)
+  local definitions = {}
+  for _, part in ipairs(text and RAW_TEX:match(text) or {}) do
+    if part.kind == 'definition' then
+      definitions[#definitions + 1] = {name = defined_name(part.text), text = part.text, is_option = true}
+    end
+  end
+  if #definitions == 0 then
+    fail('the option macros is a mapping or a text of definitions')
+  end
+  return definitions
 end
 
 local function is_mapping(meta)
-  return type(meta) == 'table' and #meta == 0 and next(meta) ~= nil
+  return type_of(meta) == 'table'
 end
 
---- The value of an option: a boolean, a string, or a table of names.
-local function value_of(meta)
-  if type(meta) == 'boolean' then
-    return meta
-  elseif is_mapping(meta) then
-    return own_names(meta)
+--- The definitions of the option `macros`, in the order of their names.
+local function macros_of(value)
+  if not is_mapping(value) then
+    return definitions_in(value)
   end
-  local text = pandoc.utils.stringify(meta)
-  if text == 'true' or text == 'false' then
-    return text == 'true'
+  local definitions = {}
+  for name, body in pairs(value) do
+    definitions[#definitions + 1] = definition_of(name, body)
   end
-  return text
+  table.sort(definitions, function(first, second) return first.name < second.name end)
+  return definitions
 end
 
-local function read_options(meta)
-  for name in pairs(options) do
-    local given = meta['latex2mathml-' .. name]
-    if given ~= nil then
-      options[name] = value_of(given)
+local function boolean_of(name, value)
+  local text = type_of(value) == 'boolean' and tostring(value) or pandoc.utils.stringify(value)
+  if text ~= 'true' and text ~= 'false' then
+    fail('the option %s is true or false', name)
+  end
+  return text == 'true'
+end
+
+local READERS = {
+  program = function(_, value) return pandoc.utils.stringify(value) end,
+  definitions = function(_, value) return pandoc.utils.stringify(value) end,
+  strict = boolean_of,
+  annotation = boolean_of,
+  macros = function(_, value) return macros_of(value) end,
+}
+
+--- Takes the options out of the metadata: those in `latex2mathml`, and those that are written `latex2mathml-NAME`.
+local function take_options(meta)
+  local given = {}
+  local mapping = meta.latex2mathml or {}
+  if not is_mapping(mapping) then
+    fail('latex2mathml is a mapping with the options')
+  end
+  for name, value in pairs(mapping) do
+    given[name] = value
+  end
+  meta.latex2mathml = nil
+  for key, value in pairs(meta) do
+    local name = key:match('^latex2mathml%-(.+)$')
+    if name then
+      given[name] = value
+      meta[key] = nil
     end
   end
-end
-
--- Names --------------------------------------------------------------------------------------------------------------
-
---- The text of names.json, which stands beside the filter or in the folder above.
-local function read_usual_names()
-  local folder = pandoc.path.directory(PANDOC_SCRIPT_FILE)
-  for _, place in ipairs {'names.json', '../names.json'} do
-    local file = io.open(pandoc.path.join {folder, place})
-    if file then
-      local text = file:read('a')
-      file:close()
-      return text
+  local options = default_options()
+  for name, value in pairs(given) do
+    if not READERS[name] then
+      fail('there is no option %s', name)
     end
+    options[name] = READERS[name](name, value)
   end
-  fail('names.json does not stand beside %s or in the folder above', PANDOC_SCRIPT_FILE)
+  return options
 end
 
-local function all_names()
-  local names = {}
-  if not options.names then
-    return names
-  elseif type(options.names) == 'string' then
-    fail('latex2mathml-names is true, false or a mapping')
-  end
-  for name, value in read_usual_names():gmatch('"([^"]*)": "([^"]*)"') do
-    names[name:gsub('\\\\', '\\')] = value:gsub('\\\\', '\\')
-  end
-  for name, value in pairs(options.names == true and {} or options.names) do
-    names[name] = value
-  end
-  return names
+-- What is wrong ------------------------------------------------------------------------------------------------------
+
+--- The text in one line.
+local function in_one_line(text)
+  return text:gsub('%s+', ' '):match('^ ?(.-) ?$')
 end
 
---- The pieces of a text: commands, and what stands between them.
-local function pieces(text)
-  local start = 1
-  return function()
-    local _, last = text:find('^\\[A-Za-z]+', start)
-    if not last then
-      _, last = text:find('^\\[^A-Za-z][\128-\191]*', start)
-    end
-    if not last then
-      _, last = text:find('^\\?[^\\]*', start)
-    end
-    if last >= start then
-      local piece = text:sub(start, last)
-      start = last + 1
-      return piece
-    end
-  end
-end
-
-local function ends_in_letters(text)
-  local last
-  for piece in pieces(text) do
-    last = piece
-  end
-  return last:match('^\\[A-Za-z]+$') ~= nil
-end
-
---- The formula with each of the names replaced; what takes a name's place is not looked at again.
-local function replace_names(latex, names)
-  local parts = {}
-  local is_command = false
-  for piece in pieces(latex) do
-    local part = names[piece] or piece
-    if part ~= '' then
-      -- a command does not run into the letter behind it
-      parts[#parts + 1] = is_command and part:match('^[A-Za-z]') and ' ' or ''
-      parts[#parts + 1] = part
-      is_command = ends_in_letters(part)
-    end
-  end
-  return table.concat(parts)
-end
-
--- The program --------------------------------------------------------------------------------------------------------
-
---- What the program answers, or nil and the reason why it refuses the input.
-local function run(word, input)
-  -- Standard output is empty where there is a reason, so that can go the same way.
-  local done, answer = pcall(pandoc.pipe, 'sh', {'-c', 'exec "$0" "$1" 2>&1', options.program, word}, input)
-  if done then
-    return answer
-  end
-  local reason = answer.output:gsub('^LaTeX2MathML Error: ', ''):gsub('\n$', '')
-  if answer.error_code ~= REFUSED or reason == 'Memory could not be found.' then
-    fail('%s ended with status %d: %s', options.program, answer.error_code, reason)
-  end
-  return nil, reason
-end
-
---- Whether the formula can stand between dollar signs: not where it ends in a backslash that takes no character with it.
-local function is_body(formula)
-  return #formula.latex:match('\\*$') % 2 == 0
-end
-
---- The formula as a document has it. The space stands for nothing, and keeps an empty one from being a pair of dollar signs.
-local function spell(formula)
-  local fence = formula.is_block and '$$' or '$'
-  return fence .. formula.latex:gsub('\\?.', {['$'] = '\\$'}) .. ' ' .. fence
-end
-
-local function convert_alone(formula)
-  local answer, reason = run(formula.is_block and 'block' or 'inline', formula.latex)
-  formula.markup = answer and answer:gsub('\n$', '')
-  formula.reason = reason
-end
-
---- Converts the formulas from `first` to `last` in one document, and where that is refused, each half of them.
-local function convert(formulas, first, last)
-  if first >= last then
-    return first == last and convert_alone(formulas[first])
-  end
-  local document = {}
-  for i = first, last do
-    document[#document + 1] = spell(formulas[i])
-  end
-  local answer = run('document', table.concat(document, '\n'))
-  if not answer then
-    local middle = (first + last) // 2
-    convert(formulas, first, middle)
-    return convert(formulas, middle + 1, last)
-  end
-  -- The contents of elements are escaped, so none holds the closing tag.
-  for markup in answer:gmatch('<math .-</math>') do
-    formulas[first].markup = markup
-    first = first + 1
-  end
-  assert(first == last + 1, 'there are as many answers as formulas')
-end
-
--- The document -------------------------------------------------------------------------------------------------------
-
-local REFERENCES = {['&'] = '&amp;', ['<'] = '&lt;', ['>'] = '&gt;', ['"'] = '&quot;', ['$'] = '&#x24;'}
-local CHARACTERS = {['&amp;'] = '&', ['&lt;'] = '<', ['&gt;'] = '>', ['&#x24;'] = '$'}
-
-local function escape(text)
-  return (text:gsub('[&<>"$]', REFERENCES))
-end
-
---- Tells what is wrong with a formula, as a warning, or as an error that ends the run.
-local function report(formula, fault)
+--- Says what is wrong, as a warning of one line, or as an error that ends the run.
+local function report(options, source, reason)
   local files = table.concat(PANDOC_STATE.input_files, ', '):gsub('^%-?$', 'standard input')
-  local message = ('%s: %s: %s'):format(files, formula.source, fault)
+  local message = ('%s: %s: %s'):format(files, in_one_line(source), reason)
   if options.strict then
     fail('%s', message)
   end
   io.stderr:write('[WARNING] latex2mathml: ', message, '\n')
 end
 
---- The markup that stands in the formula's place.
+-- The first walk -----------------------------------------------------------------------------------------------------
+
+--- Gathers the formulas of a document with the number of definitions before each, the definitions, the numbers of labels, and the
+--- references in raw TeX.
+local function gather(document, definitions)
+  local formulas, numbers, last_number, references = {}, {}, 0, {}
+
+  local function add_formula(source, is_block)
+    local formula = {source = source, is_block = is_block, definitions = #definitions, labels = {}}
+    for _, label in ipairs(is_block and labels_of(source) or {}) do
+      if not numbers[label] then
+        last_number = last_number + 1
+        numbers[label] = last_number
+        table.insert(formula.labels, label)
+      end
+    end
+    formulas[#formulas + 1] = formula
+  end
+
+  local function add_raw(raw)
+    for _, part in ipairs(is_tex(raw) and RAW_TEX:match(raw.text) or {}) do
+      if part.kind == 'definition' then
+        definitions[#definitions + 1] = {name = defined_name(part.text), text = part.text}
+      elseif part.kind == 'formula' then
+        add_formula(part.text, true)
+      else
+        references[#references + 1] = part
+      end
+    end
+  end
+
+  document:walk {
+    traverse = 'topdown',
+    Math = function(math) add_formula(math.text, math.mathtype == 'DisplayMath') end,
+    RawInline = add_raw,
+    RawBlock = add_raw,
+  }
+  return formulas, numbers, references
+end
+
+--- Says which references find no formula. A `\ref` may be to something else.
+local function check_references(options, references, numbers)
+  for _, reference in ipairs(references) do
+    if reference.type == 'eqref' and not numbers[reference.label] then
+      report(options, ('\\eqref{%s}'):format(reference.label), 'no formula has this label')
+    end
+  end
+end
+
+-- The program --------------------------------------------------------------------------------------------------------
+
+--- The program's reply to each text, in turn: whether it is markup, and the markup or the reason why there is none.
+local function ask(options, texts, words)
+  if #texts == 0 then
+    return {}
+  end
+  words = pandoc.List {'--null'} .. words
+  if options.definitions then
+    words:extend {'--definitions', options.definitions}
+  end
+  local done, output = pcall(pandoc.pipe, options.program, words, table.concat(texts, '\0') .. '\0')
+  if not done then
+    fail('%s could not convert the formulas: %s', options.program, tostring(output))
+  end
+  local replies = {}
+  for kind, said in output:gmatch('(%l+)\n([^\0]*)\0') do
+    replies[#replies + 1] = {is_markup = kind == 'mathml', said = said}
+  end
+  assert(#replies == #texts, 'there is a reply to each formula')
+  return replies
+end
+
+--- Keeps the definitions that define something and are nothing else, and says what is wrong with the others.
+local function check_definitions(options, definitions)
+  local texts = {}
+  for i, definition in ipairs(definitions) do
+    texts[i] = definition.text
+  end
+  for i, reply in ipairs(ask(options, texts, {})) do
+    local definition = definitions[i]
+    local reason = not reply.is_markup and reply.said:gsub(' at %d+$', '') or nil
+    if reply.is_markup and not reply.said:match('^<math[^>]*></math>$') then
+      reason = 'not a definition'
+    end
+    if reason and definition.is_option then
+      fail('the macro %s is refused: %s', definition.name, reason)
+    elseif reason then
+      report(options, definition.text, reason)
+      definition.text = ''
+    end
+  end
+end
+
+--- The texts of the first definitions, a line for each.
+local function texts_of(definitions, count)
+  local texts = {}
+  for i = 1, count do
+    texts[i] = definitions[i].text ~= '' and definitions[i].text .. '\n' or ''
+  end
+  return table.concat(texts)
+end
+
+--- The reason with its place in the formula, before which the program read definitions.
+local function without_definitions(reason, definitions)
+  return (reason:gsub(' at (%d+)$', function(place) return (' at %d'):format(tonumber(place) - #definitions) end))
+end
+
+--- The markup with an annotation of the formula alone, where it has one that begins with the definitions, a line for each.
+local function without_annotated_definitions(markup, definitions)
+  local _, count = definitions:gsub('\n', '')
+  local function formula_of(start, text)
+    return start .. text:gsub('[^\n]*\n', '', count)
+  end
+  markup = markup:gsub('( alttext=")([^"]*)', formula_of, 1)
+  return (markup:gsub('(<annotation encoding="application/x%-tex">)([^<]*)', formula_of, 1))
+end
+
+--- Converts the formulas that stand in a line, or those that stand in a block.
+local function convert(options, formulas, definitions, is_block)
+  local chosen, texts = {}, {}
+  for _, formula in ipairs(formulas) do
+    if formula.is_block == is_block then
+      formula.before = texts_of(definitions, formula.definitions)
+      chosen[#chosen + 1] = formula
+      -- a NUL would end the formula, and Markdown reads one as this character too
+      texts[#texts + 1] = formula.before .. formula.source:gsub('\0', '\u{FFFD}')
+    end
+  end
+  local words = pandoc.List {'--display', is_block and 'block' or 'inline'}
+  if options.annotation then
+    words:insert('--annotation')
+  end
+  for i, reply in ipairs(ask(options, texts, words)) do
+    local formula = chosen[i]
+    formula.markup = reply.is_markup and without_annotated_definitions(reply.said, formula.before) or nil
+    formula.reason = not reply.is_markup and without_definitions(reply.said, formula.before) or nil
+  end
+end
+
+-- The second walk ----------------------------------------------------------------------------------------------------
+
+local REFERENCES = {['&'] = '&amp;', ['<'] = '&lt;', ['>'] = '&gt;', ['"'] = '&quot;', ['$'] = '&#x24;'}
+
+local function escape(text)
+  return (text:gsub('[&<>"$]', REFERENCES))
+end
+
 local function markup_of(formula)
   if formula.reason then
-    report(formula, formula.reason)
     return ('<code class="latex2mathml-refused" title="%s">%s</code>'):format(escape(formula.reason), escape(formula.source))
-  end
-  local mark = formula.markup:match('<mtext>%[PARSE ERROR: (.-)%]</mtext>')
-  if mark then
-    report(formula, 'marked as an error: ' .. mark:gsub('&.-;', CHARACTERS))
   end
   return formula.markup
 end
 
-local function convert_all()
-  local names = all_names()
-  local bodies = {}
-  for _, formula in ipairs(formulas) do
-    formula.latex = replace_names(formula.source, names)
-    if is_body(formula) then
-      bodies[#bodies + 1] = formula
-    else
-      convert_alone(formula)
+--- The formula with its numbers beside it. It is the target of its labels.
+local function with_numbers(formula, numbers)
+  local shown, targets = {}, pandoc.Inlines {}
+  for i, label in ipairs(formula.labels) do
+    shown[i] = ('(%d)'):format(numbers[label])
+    if i > 1 then
+      targets:insert(pandoc.Span({}, {id = label}))
     end
   end
-  convert(bodies, 1, #bodies)
-  for _, formula in ipairs(formulas) do
-    places[formula.key] = pandoc.RawInline('html', markup_of(formula))
-  end
+  local middle = pandoc.Span({pandoc.RawInline('html', markup_of(formula))}, {style = 'flex: 1; min-width: 0'})
+  local number = pandoc.Span({pandoc.Str(table.concat(shown, ', '))}, {class = 'latex2mathml-number'})
+  targets:extend {middle, number}
+  return pandoc.Span(targets, {
+    id = formula.labels[1], class = 'latex2mathml-numbered', style = 'display: flex; align-items: center',
+  })
 end
 
---- Links the files of the folder `page`: in the head, or in the body where --include-in-header takes the head's place.
-local function link_page(document)
-  local folder = escape(options.page)
-  local links = pandoc.RawBlock('html', ('<link rel="stylesheet" href="%s/latex2mathml.css">\n' ..
-    '<script src="%s/latex2mathml.js" defer></script>'):format(folder, folder))
-  if PANDOC_WRITER_OPTIONS.variables['header-includes'] then
-    document.blocks:insert(1, links)
-    return
+local function inline_of(formula, numbers)
+  if #formula.labels > 0 then
+    return with_numbers(formula, numbers)
   end
-  local head = document.meta['header-includes']
-  if pandoc.utils.type(head) ~= 'List' then
-    head = pandoc.MetaList {head}
-  end
-  head:insert(pandoc.MetaBlocks {links})
-  document.meta['header-includes'] = head
+  return pandoc.RawInline('html', markup_of(formula))
 end
 
-local function collect(math)
-  local formula = {key = key(math), source = math.text, is_block = math.mathtype == 'DisplayMath'}
-  if not places[formula.key] then
-    places[formula.key] = formula
-    formulas[#formulas + 1] = formula
-  end
+--- The text of a reference to a number.
+local function reference_text(kind, number)
+  return (kind == 'eqref' and '(%d)' or '%d'):format(number)
 end
+
+--- Puts the converted formulas and the references to them into a document.
+local function put(document, formulas, numbers)
+  local count = 0
+
+  local function next_inline()
+    count = count + 1
+    return inline_of(formulas[count], numbers)
+  end
+
+  local function link_to(part)
+    local number = numbers[part.label]
+    if not number then
+      return nil
+    end
+    local attributes = pandoc.Attr('', {}, {{'reference-type', part.type}, {'reference', part.label}})
+    return pandoc.Link(reference_text(part.type, number), '#' .. part.label, '', attributes)
+  end
+
+  local function inlines_of(raw)
+    local inlines = pandoc.Inlines {}
+    for _, part in ipairs(is_tex(raw) and RAW_TEX:match(raw.text) or {}) do
+      local inline = part.kind == 'formula' and next_inline() or part.kind == 'reference' and link_to(part) or nil
+      if inline then
+        inlines:insert(inline)
+      end
+    end
+    return #inlines > 0 and inlines or nil
+  end
+
+  --- Gives a reference of pandoc's LaTeX reader, which shows the label in brackets, the number in place of it.
+  local function number_link(link)
+    local label, kind = link.attributes.reference, link.attributes['reference-type']
+    local number = label and numbers[label]
+    if number and kind ~= 'ref+page' and pandoc.utils.stringify(link.content) == ('[%s]'):format(label) then
+      link.content = {pandoc.Str(reference_text(kind, number))}
+      return link
+    end
+  end
+
+  --- Gives an image the text that stands for it, in which formulas stand as they were written: no markup stands there.
+  local function keep_alt(image)
+    local has_math = false
+    image.caption:walk {Math = function() has_math = true end}
+    if has_math and not image.attributes.alt then
+      image.attributes.alt = pandoc.utils.stringify(image.caption)
+      return image
+    end
+  end
+
+  return document:walk {
+    traverse = 'topdown',
+    Math = next_inline,
+    RawInline = inlines_of,
+    RawBlock = function(raw)
+      local inlines = inlines_of(raw)
+      return inlines and pandoc.Para(inlines)
+    end,
+    Link = number_link,
+    Image = keep_alt,
+  }
+end
+
+-- The document -------------------------------------------------------------------------------------------------------
 
 --- Gives the page the title's text, in which formulas stand as they were written: no markup stands there.
 local function keep_title(meta)
@@ -292,30 +477,23 @@ local function keep_title(meta)
 end
 
 local function convert_document(document)
-  read_options(document.meta)
+  local options = take_options(document.meta)
   keep_title(document.meta)
-  convert_all()
-  if #formulas > 0 and options.page and not FORMAT:match('^epub') then
-    link_page(document)
+  local definitions = options.macros
+  local formulas, numbers, references = gather(document, definitions)
+  check_definitions(options, definitions)
+  convert(options, formulas, definitions, false)
+  convert(options, formulas, definitions, true)
+  for _, formula in ipairs(formulas) do
+    if formula.reason then
+      report(options, formula.source, formula.reason)
+    end
   end
-  return document
-end
-
---- Gives an image the text that stands for it, in which formulas stand as they were written: no markup stands there.
-local function keep_alt(image)
-  local has_math = false
-  pandoc.walk_inline(image, {Math = function() has_math = true end})
-  if has_math and not image.attributes.alt then
-    image.attributes.alt = pandoc.utils.stringify(image.caption)
-    return image
-  end
-end
-
-local function replace(math)
-  return places[key(math)]
+  check_references(options, references, numbers)
+  return put(document, formulas, numbers)
 end
 
 local IS_HTML = FORMAT:match('^html') or FORMAT:match('^epub') or FORMAT:match('^chunkedhtml') or
   FORMAT:match('^s5') or FORMAT:match('^slid') or FORMAT:match('^dzslides') or FORMAT:match('^revealjs')
 
-return IS_HTML and {{Math = collect, Image = keep_alt}, {Pandoc = convert_document}, {Math = replace}} or {}
+return IS_HTML and {{Pandoc = convert_document}} or {}

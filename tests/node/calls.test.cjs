@@ -1,13 +1,11 @@
 'use strict';
-// The calls of the package, and the names that its plugin replaces.
+// The calls of the package.
 const assert = require('node:assert/strict');
 const { once } = require('node:events');
 const test = require('node:test');
 const { Worker } = require('node:worker_threads');
-const { formula, document, Refused } = require('latex2mathml-proved');
-const { UNCLOSED, answerOf, folder } = require('./shared.cjs');
-const { namesOf, replaceNames } = require(`${folder}/names.js`);
-const namesCases = require('../../integrations/names-cases.json');
+const { tex, definitionsOf, formula, document, Refused } = require('latex2mathml-proved');
+const { UNCLOSED, answerOf, texAnswerOf, folder } = require('./shared.cjs');
 
 for (const latex of ['', 'x<y', '\\frac{a}{b}', 'é𝑥\0', '$', '\\', 'x'.repeat(100_000)]) {
     test(`the formula ${JSON.stringify(latex.slice(0, 20))}`, () => {
@@ -39,9 +37,105 @@ for (const [call, reason] of [
 for (const call of [() => formula(), () => formula(3), () => formula(null), () => formula('x', 1), () => formula(['x'])]) {
     test(`no text: ${call}`, () => assert.throws(call, { constructor: TypeError, message: /formula\(/ }));
 }
+for (const call of [() => tex(), () => tex(3), () => tex('x', 1), () => tex('x', true, {}), () => tex('x', true, null), () => tex('x', true, '', { annotation: 1 })]) {
+    test(`no text: ${call}`, () => assert.throws(call, { constructor: TypeError, message: /tex\(/ }));
+}
 for (const call of [() => document(), () => document({})]) {
     test(`no text: ${call}`, () => assert.throws(call, { constructor: TypeError, message: /document\(/ }));
 }
+
+for (const latex of ['', 'x_i^2', '\\frac12', 'é𝑥', '\\text{if } x', 'x'.repeat(100_000)]) {
+    test(`the formula of an author ${JSON.stringify(latex.slice(0, 20))}`, () => {
+        assert.equal(tex(latex), texAnswerOf(latex));
+        assert.equal(tex(latex, true), texAnswerOf(latex, 'block'));
+    });
+}
+
+// the place is that of the byte, and é has two
+for (const [call, message, place] of [
+    [() => tex('é + \\foo'), 'unknown command \\foo at 5', 5],
+    [() => tex('x', false, '\\def\\a{y} x'), 'not a definition at 10', 10],
+]) {
+    test(`a place: ${call}`, () => assert.throws(call, { constructor: Refused, message, place }));
+}
+
+for (const latex of ['x<y', 'x', '\\def\\a{x} \\a % é &']) {
+    test(`an annotation: ${latex}`, () => {
+        for (const [block, display] of [[false, 'inline'], [true, 'block']]) {
+            assert.equal(tex(latex, block, '', { annotation: true }), texAnswerOf(latex, display, '--annotation'));
+        }
+        assert.equal(tex(latex, false, '', {}), texAnswerOf(latex));
+    });
+}
+
+test('definitions', () => assert.equal(tex('\\a', true, '\\def\\a{x}\n'), texAnswerOf('x', 'block')));
+
+// macros, and what a formula with them means without
+for (const [macros, latex, meaning] of [
+    [{ '\\RR': '\\mathbb{R}' }, 'x \\in \\RR', 'x \\in \\mathbb{R}'],
+    [{ RR: '\\mathbb{R}' }, '\\RR', '\\mathbb{R}'],
+    [{ norm: '\\lVert #1 \\rVert' }, '\\norm{x}^2', '\\lVert x\\rVert^2'],
+    [{ second: '#2' }, '\\second{a}{b}', 'b'],
+    [{ bra: ['\\langle #1 |', 1] }, '\\bra{x}', '\\langle x |'],
+    [{ none: ['x', 1] }, '\\none{a}b', 'xb'],
+    [{ x: ['y'] }, '\\x', 'y'],
+    [{ '\\+': '\\oplus' }, 'a\\+b', 'a\\oplus b'],
+    [{ a: 'x % why' }, '\\a y', 'xy'],
+    [{ a: '\\b', b: 'x' }, '\\a', 'x'],
+    [{ twice: '\\def\\b##1{##1##1}\\b' }, '\\twice x', 'xx'],
+    [{}, 'x', 'x'],
+    ['\\newcommand{\\R}{\\mathbb{R}} % and\n\\DeclareMathOperator{\\rank}{rank}', '\\rank\\R', '\\operatorname{rank}\\mathbb{R}'],
+    ['', 'x', 'x'],
+]) {
+    test(`macros: ${JSON.stringify(macros)}`, () => assert.equal(tex(latex, false, definitionsOf(macros)), texAnswerOf(meaning)));
+}
+
+for (const [macros, message] of [
+    [{ fine: 'x', broken: '{x' }, 'the macro broken is refused: { is not closed'],
+    [{ a: 'x}{y' }, 'the macro a is refused: not a definition'],
+    [{ a: ['#2', 1] }, 'the macro a is refused: a body has no such argument'],
+    ['\\usepackage{bm}', 'not a definition at 0'],
+]) {
+    test(`macros that are refused: ${JSON.stringify(macros)}`, () => {
+        assert.throws(() => definitionsOf(macros), { constructor: Refused, message });
+    });
+}
+
+for (const [macros, message] of [
+    [{ R2: 'x' }, '"R2" is no name of a macro'],
+    [{ '': 'x' }, '"" is no name of a macro'],
+    [{ a: 1 }, 'the macro \\a stands for no string'],
+    [{ a: [] }, 'the macro \\a stands for no string'],
+    [{ a: ['x', 10] }, 'the macro \\a takes 0 to 9 arguments'],
+    [{ a: ['x', null] }, 'the macro \\a takes 0 to 9 arguments'],
+    [undefined, 'macros are a mapping from names to TeX, or a text of definitions'],
+    [['x'], 'macros are a mapping from names to TeX, or a text of definitions'],
+]) {
+    test(`no macros: ${JSON.stringify(macros)}`, () => {
+        assert.throws(() => definitionsOf(macros), { constructor: TypeError, message: `latex2mathml: ${message}` });
+    });
+}
+
+test('a marked error', () => {
+    assert.equal(formula('x \\le y'), answerOf('x \\le y'));
+    assert.equal(formula('x \\leq y', false, true), answerOf('x \\leq y'));
+    assert.equal(document('$x$', true), answerOf('x'));
+});
+
+for (const [call, command] of [
+    [() => formula('x \\le y', false, true), 'le'],
+    [() => formula('\\<', true, true), '<'],
+    [() => document('$x$ $x \\le y$', true), 'le'],
+]) {
+    test(`a marked error where none may be: ${call}`, () => {
+        assert.throws(call, { constructor: Refused, message: `marked as an error: Undefined("Command(\\"${command}\\")")` });
+    });
+}
+
+test('each marked error is named', () => {
+    const message = 'marked as an error: Undefined("Command(\\"le\\")"), Undefined("Command(\\"foo\\")")';
+    assert.throws(() => document('$x \\le y$ $\\foo$', true), { constructor: Refused, message });
+});
 
 test('workers', async () => {
     const script = "require('node:worker_threads').parentPort.postMessage(require('latex2mathml-proved').formula('x'))";
@@ -54,6 +148,3 @@ test('a module that imports the package', async () => {
     assert.equal(imported.formula('x'), answerOf('x'));
 });
 
-for (const { why, formula: latex, names, replaced } of namesCases) {
-    test(`names: ${why}`, () => assert.equal(replaceNames(latex, namesOf(names)), replaced));
-}

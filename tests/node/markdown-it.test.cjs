@@ -4,13 +4,16 @@ const assert = require('node:assert/strict');
 const { readFileSync } = require('node:fs');
 const test = require('node:test');
 const markdownIt = require('markdown-it');
-const { formula, document, Refused, ...others } = require('latex2mathml-proved');
+const { tex, definitionsOf, formula, document, Refused, ...others } = require('latex2mathml-proved');
 const latex2mathml = require('latex2mathml-proved/markdown-it');
-const { UNCLOSED, answerOf, folder } = require('./shared.cjs');
+const rehypeLatex2mathml = require('latex2mathml-proved/rehype');
+const remarkLatex2mathml = require('latex2mathml-proved/remark');
+const { answerOf, texAnswerOf, folder } = require('./shared.cjs');
 
 const readme = readFileSync(`${folder}/README.md`, 'utf8');
 const WORDS = { i: 'inline', b: 'block' };
-const UNDEFINED = '\\foo: marked as an error: Undefined("Command(\\"foo\\")")';
+const UNKNOWN = '\\foo: unknown command \\foo at 0';
+const UNCLOSED = '{ is not closed at 0';
 
 // A page and its warnings.
 function rendered(source, options = {}, env = {}) {
@@ -23,8 +26,8 @@ function rendered(source, options = {}, env = {}) {
 function testPages(pages, options) {
     for (const [source, page] of pages) {
         test(source, () => {
-            const wanted = page.replace(/<([ib])>(.*?)<\/\1>/gs, (_, tag, latex) => answerOf(latex, WORDS[tag]));
-            assert.deepEqual(rendered(source, { page: false, ...options }), [wanted, []]);
+            const wanted = page.replace(/<([ib])>(.*?)<\/\1>/gs, (_, tag, latex) => texAnswerOf(latex, WORDS[tag]));
+            assert.deepEqual(rendered(source, options), [wanted, []]);
         });
     }
 }
@@ -35,6 +38,7 @@ testPages([
     ['a $$x$$ b', 'a <b>x</b> b'],
     ['$a$$b$', '<i>a</i><i>b</i>'],
     ['$a\nb$', '<i>a\nb</i>'],
+    ['$x_i^2$ $\\frac12$', '<i>x_i^2</i> <i>\\frac12</i>'],
     ['$\\$$ $a\\$b$ $\\backslash\\\\ $ $\\,$', '<i>\\$</i> <i>a\\$b</i> $\\backslash\\ $ <i>\\,</i>'],
     ['\\$5, \\$x$ and $6', '$5, $x$ and $6'],
     ['$5 and $6', '$5 and $6'],
@@ -48,7 +52,7 @@ testPages([
 // in blocks
 testPages([
     ['$$x$$', '<b>x</b>\n'],
-    ['$$\na\n- b\n+ c\n# d\n= e\n$$', '<b>\na\n- b\n+ c\n# d\n= e\n</b>\n'],
+    ['$$\na\n- b\n+ c\n> d\n= e\n$$', '<b>\na\n- b\n+ c\n> d\n= e\n</b>\n'],
     ['   $$ a\n  b $$  \ntext', '<b>a\nb</b>\n<p>text</p>\n'],
     ['text\n$$\na\n$$\ntext', '<p>text</p>\n<b>a</b>\n<p>text</p>\n'],
     ['> $$\n> a\n> $$', '<blockquote>\n<b>a</b>\n</blockquote>\n'],
@@ -56,7 +60,7 @@ testPages([
     ['- $$\n  a\nb\n$$', '<ul>\n<li><b>\na\nb\n</b></li>\n</ul>\n'],
     ['> a\n    $$\n    b\n    $$', '<blockquote>\n<p>a\n<b>\nb\n</b></p>\n</blockquote>\n'],
     ['$$a$$ and $$b$$', '<p><b>a</b> and <b>b</b></p>\n'],
-    ['$$a\\$$ b$$', '<b>a\\$$ b</b>\n'],
+    ['$$a\\$ b$$', '<b>a\\$ b</b>\n'],
     ['$$\na\n\nb\n$$', '<p>$$\na</p>\n<p>b\n$$</p>\n'],
     ['$$$$', '<p>$$$$</p>\n'],
     ['| a |\n|---|\n| $x$ |', '<table>\n<thead>\n<tr>\n<th>a</th>\n</tr>\n</thead>\n<tbody>\n<tr>\n<td><i>x</i></td>\n'
@@ -73,80 +77,121 @@ testPages([
     ["a <b title='$x$'>$y$</b>", "<p>a <b title='$x$'><i>y</i></b></p>\n"],
 ]);
 
-testPages([['$\\R \\le \\dots$', '<p><i>\\mathbb{R} \\leq \\ldots</i></p>\n']], { names: { '\\R': '\\mathbb{R}' } });
+// brackets, in lines and in blocks
+testPages([
+    ['\\(x_1\\) \\( *a* \\), \\(a\\\\\\)', '<p><i>x_1</i> <i>*a*</i>, <i>a\\\\</i></p>\n'],
+    ['a \\[x\\] b', '<p>a <b>x</b> b</p>\n'],
+    ['\\[x\\]', '<b>x</b>\n'],
+    ['\\[\na \\\\[2pt]\n- b\n\\]\ntext', '<b>a \\\\[2pt]\n- b</b>\n<p>text</p>\n'],
+    ['text\n\\[ a\n+ b \\]', '<p>text</p>\n<b>a\n+ b</b>\n'],
+    ['> \\[\n> a\n> \\]', '<blockquote>\n<b>a</b>\n</blockquote>\n'],
+    ['\\(\\) \\[ \\] \\(a', '<p>() [ ] (a</p>\n'],
+    ['\\\\(a\\\\)', '<p>\\(a\\)</p>\n'],
+    ['\\[\na\n\nb\n\\]', '<p>[\na</p>\n<p>b\n]</p>\n'],
+    ['`\\(x\\)` \\(a `\\)`', '<p><code>\\(x\\)</code> (a <code>\\)</code></p>\n'],
+    ['[a \\( b](u) \\[x', '<p><a href="u">a ( b</a> [x</p>\n'],
+    ['![a \\(x\\)](u)', '<p><img src="u" alt="a \\(x\\)"></p>\n'],
+]);
+testPages([
+    ['\\(x\\) \\[x\\] $x$', '<p>(x) [x] <i>x</i></p>\n'],
+    ['\\[\nx\n\\]', '<p>[\nx\n]</p>\n'],
+], { brackets: false });
 
-test('no names', () => {
-    const [, warnings] = rendered('$\\le$', { names: false });
-    assert.deepEqual(warnings, ['Markdown:1: \\le: marked as an error: Undefined("Command(\\"le\\")")']);
-});
+// fences
+testPages([
+    ['```math\nx\n\ny\n```', '<b>x\n\ny</b>\n'],
+    ['~~~ math numbered\nx\n~~~', '<b>x</b>\n'],
+    ['- ```math\n  x\n  ```', '<ul>\n<li>\n<b>x</b>\n</li>\n</ul>\n'],
+    ['```mathematica\nx\n```', '<pre><code class="language-mathematica">x\n</code></pre>\n'],
+    ['    ```math\n', '<pre><code>```math\n</code></pre>\n'],
+]);
 
-for (const [names, fault] of [[{ R: 'x' }, '"R" is no name of a command'], [{ '\\R': 1 }, '\\R stands for no string']]) {
-    test(fault, () => assert.throws(() => rendered('x', { names }), { name: 'TypeError', message: `latex2mathml: ${fault}` }));
+testPages([
+    ['$\\R \\le \\dots$', '<p><i>\\mathbb{R} \\le \\dots</i></p>\n'],
+    ['$\\half{x}$', '<p><i>\\frac{x}{2}</i></p>\n'],
+    ['$$\\def\\a{x} \\a$$', '<b>x</b>\n'],
+], { macros: { '\\R': '\\mathbb{R}', half: ['\\frac{#1}{2}', 1] } });
+testPages([['$\\R$', '<p><i>\\mathbb{R}</i></p>\n']], { macros: '\\newcommand{\\R}{\\mathbb{R}}' });
+
+for (const [macros, message] of [
+    [{ R2: 'x' }, 'latex2mathml: "R2" is no name of a macro'],
+    [{ '\\R': 1 }, 'latex2mathml: the macro \\R stands for no string'],
+    [{ '\\R': '{' }, 'the macro \\R is refused: { is not closed'],
+]) {
+    test(message, () => assert.throws(() => markdownIt().use(latex2mathml, { macros }), { message }));
 }
 
+for (const name of ['names', 'page', 'Strict']) {
+    test(`no option ${name}`, () => {
+        assert.throws(() => markdownIt().use(latex2mathml, { [name]: true }), {
+            name: 'TypeError', message: `latex2mathml: there is no option "${name}"`,
+        });
+    });
+}
+
+test('no definition of one formula holds in another', () => {
+    const [, warnings] = rendered('$\\def\\foo{x}\\foo$ $\\foo$');
+    assert.deepEqual(warnings, [`Markdown:1: ${UNKNOWN}`]);
+});
+
 test('refused formulas', () => {
-    const title = UNCLOSED.replaceAll('"', '&quot;');
-    const code = latex => `<code class="latex2mathml-refused" title="${title}">${latex}</code>`;
-    const [page, warnings] = rendered('$x$ ${<b title="\\$">&$ and\n\n$$\n{y\n$$', { page: false });
-    assert.equal(page, `<p>${answerOf('x')} ${code('{&lt;b title=&quot;\\&#x24;&quot;&gt;&amp;')} and</p>\n${code('{y')}\n`);
-    assert.deepEqual(warnings, [`Markdown:1: {<b title="\\$">&: ${UNCLOSED}`, `Markdown:3: {y: ${UNCLOSED}`]);
+    const code = latex => `<code class="latex2mathml-refused" title="${UNCLOSED}">${latex}</code>`;
+    const [page, warnings] = rendered('$x$ ${<b title="\\$">\\&$ and\n\n$$\n{y\n+ z\n$$');
+    assert.equal(page, `<p>${texAnswerOf('x')} ${code('{&lt;b title=&quot;\\&#x24;&quot;&gt;\\&amp;')} and</p>\n${code('{y\n+ z')}\n`);
+    assert.deepEqual(warnings, [`Markdown:1: {<b title="\\$">\\&: ${UNCLOSED}`, `Markdown:3: {y + z: ${UNCLOSED}`]);
+});
+
+test('a title is escaped', () => {
+    const [page] = rendered('$\\"$');
+    assert.equal(page, '<p><code class="latex2mathml-refused" title="unknown command \\&quot; at 0">\\&quot;</code></p>\n');
 });
 
 for (const [env, file] of [[{ path: 'a.md' }, 'a.md'], [{ page: { inputPath: './b.md' } }, './b.md'], [{}, 'Markdown']]) {
     test(`lines of ${file}`, () => {
-        const source = '# A ${h$\n\ntext `a\nb` ${x$\nmore $\\foo$\n\n- one\n- two\n  $$\n  {z\n  $$\n\n| a |\n|---|\n| ${t$ |\n';
+        const source = '# A ${h$\n\ntext `a\nb` ${x$\nmore \\(\\foo\\)\n\n- one\n- two\n  $$\n  {z\n  $$\n\n'
+            + '| a |\n|---|\n| ${t$ |\n\n```math\n{f\n```\n';
         const [, warnings] = rendered(source, {}, env);
-        assert.deepEqual(warnings, [`${file}:1: {h: ${UNCLOSED}`, `${file}:4: {x: ${UNCLOSED}`, `${file}:5: ${UNDEFINED}`,
-                                    `${file}:9: {z: ${UNCLOSED}`, `${file}: {t: ${UNCLOSED}`]);
+        assert.deepEqual(warnings, [`${file}:1: {h: ${UNCLOSED}`, `${file}:4: {x: ${UNCLOSED}`, `${file}:5: ${UNKNOWN}`,
+                                    `${file}:9: {z: ${UNCLOSED}`, `${file}: {t: ${UNCLOSED}`, `${file}:17: {f: ${UNCLOSED}`]);
     });
 }
 
-test('a warning of a mark is text', () => {
-    const [, warnings] = rendered('$\\<$ $\\"$');
-    assert.deepEqual(warnings, ['Markdown:1: \\<: marked as an error: Undefined("Command(\\"<\\")")',
-                                'Markdown:1: \\": marked as an error: Undefined("Command(\\"\\\\\\"\\")")']);
-});
-
-for (const [source, fault] of [['${x$', `{x: ${UNCLOSED}`], ['$\\foo$', UNDEFINED]]) {
+for (const [source, fault] of [['${x$', `{x: ${UNCLOSED}`], ['$\\foo$', UNKNOWN]]) {
     test(`strict: ${source}`, () => {
         assert.throws(() => rendered(source, { strict: true }, { path: 'a.md' }), { name: 'Error', message: `a.md:1: ${fault}` });
     });
 }
 
-const links = folder => `<link rel="stylesheet" href="${folder}/latex2mathml.css">
-<script src="${folder}/latex2mathml.js" defer></script>
-<p>`;
-for (const [source, options, start] of [
-    ['$x$', {}, links('page')], ['a $x$ $y$', { page: '../a&b' }, links('../a&amp;b')],
-    ['$x$', { page: false }, '<p>'], ['x', {}, '<p>'],
-]) {
-    test(`links: ${source} ${JSON.stringify(options)}`, () => {
-        const [page] = rendered(source, options);
-        assert.ok(page.startsWith(start), page);
-        assert.equal(page.split('<link').length, start.split('<link').length);
-    });
-}
+test('an annotation', () => {
+    const [page] = rendered('$x<y$\n\n$$\nx<y\n$$', { annotation: true });
+    assert.equal(page, `<p>${texAnswerOf('x<y', 'inline', '--annotation')}</p>\n${texAnswerOf('x<y', 'block', '--annotation')}\n`);
+});
 
-test('a line alone is part of a page that has the links', () => {
-    assert.equal(markdownIt().use(latex2mathml).renderInline('a $x<y$'), `a ${answerOf('x<y')}`);
+test('a page needs no script and no style sheet', () => {
+    assert.doesNotMatch(rendered('$x$\n\n$$y$$')[0], /<(script|link|style)/);
+});
+
+test('a line alone', () => {
+    assert.equal(markdownIt().use(latex2mathml).renderInline('a $x<y$'), `a ${texAnswerOf('x<y')}`);
 });
 
 test('the README', () => {
-    const [calls, plugin, ...more] = Array.from(readme.matchAll(/^```js\n(.*?)^```$/gms), ([, script]) => eval(script));
+    const [calls, plugin] = Array.from(readme.matchAll(/^```js\n(.*?)^```$/gms), ([, script]) => eval(script));
     assert.ok(calls.endsWith(`Let ${answerOf('x<y')} be.`), calls);
-    assert.ok(plugin.endsWith(`<p>Let ${answerOf('x \\leq y')} be.</p>\n`), plugin);
-    assert.deepEqual(more, []);
+    assert.ok(plugin.endsWith(`<p>Let ${texAnswerOf('x_i^2 \\in \\mathbb{R}')} be.</p>\n`), plugin);
 });
 
 test('what calls.ts says that the package exports', () => assert.deepEqual(others, {}));
 
 test('what calls.ts says that the options are', () => {
-    assert.deepEqual(Array.from(readme.matchAll(/^\| `(\w+)` \|/gm), ([, name]) => name), ['names', 'strict', 'page', 'warn']);
+    const names = Array.from(readme.matchAll(/^\| `(\w+)` \|/gm), ([, name]) => name);
+    assert.deepEqual(names, ['macros', 'annotation', 'strict', 'brackets', 'warn']);
 });
 
 // The calls of calls.ts use these.
 const md = markdownIt();
 const render = options => rendered('$\\R$ $\\foo$', { warn: () => {}, ...options });
+const file = { message() {}, fail() {} };
 
 const [, calls] = readFileSync(`${__dirname}/calls.ts`, 'utf8').split('\n\n');
 for (const [, call, comment] of calls.matchAll(/^(.*;)(?: \/\/ (.*))?$/gm)) {

@@ -1,10 +1,10 @@
 'use strict';
 // Prints how many bytes the process grows between a few calls and many, for each kind of call. MOST bytes are few enough.
-const { formula, document } = require('latex2mathml-proved');
+const { tex, formula, document } = require('latex2mathml-proved');
 const MOST = Number(process.argv[2]);
 const call = (convert, text) => { try { convert(text); } catch { } };
 const long = 'x'.repeat(300_000);
-const texts = [[formula, long], [formula, '{' + long], [document, long], [document, '$' + long]];
+const texts = [[formula, long], [formula, '{' + long], [document, long], [document, '$' + long], [tex, long], [tex, '{' + long]];
 // The engine gives memory back in threads of its own, which a busy machine delays: so the least of some readings counts.
 const clock = new Int32Array(new SharedArrayBuffer(4));
 

@@ -1,8 +1,8 @@
 /* latex2mathml for Node: formula(latex, block) is the `math` element, and document(text) the document with the `math`
  * element of each formula in the formula's place. Where there is none, an error is thrown: its message is the reason, and
- * its `code` is LATEX2MATHML_REFUSED. tex(formula, block, definitions) is the `math` element of a formula in LaTeX as authors
- * write it. Its errors have a `place`, the byte of the formula where what is refused begins, or of the definitions if their
- * `code` is LATEX2MATHML_DEFINITION_REFUSED.
+ * its `code` is LATEX2MATHML_REFUSED. tex(formula, block, definitions, annotation) is the `math` element of a formula in LaTeX
+ * as authors write it, with the formula as an annotation if that is true. Its errors have a `place`, the byte of the formula where
+ * what is refused begins, or of the definitions if their `code` is LATEX2MATHML_DEFINITION_REFUSED.
  *     cc -shared -fPIC -I .. -I /usr/include/node addon.c ../liblatex2mathml.a -o latex2mathml.node
  *     node -p "require('./latex2mathml.node').formula('x<y', false)" */
 #include "latex2mathml.h"
@@ -28,10 +28,11 @@ static struct text text_of(napi_env env, napi_value word) {
 
 enum kind { INLINE, BLOCK, DOCUMENT, TEX_INLINE, TEX_BLOCK };
 
-/* What is to be converted. Only TeX has definitions. */
+/* What is to be converted. Only TeX has definitions and flags. */
 struct job {
     enum kind kind;
     struct text text, definitions;
+    uint32_t flags;
 };
 
 static bool is_tex(enum kind kind) {
@@ -43,8 +44,8 @@ static uint32_t call(const struct job *job, char *room, size_t length, size_t *n
     if (job->kind == DOCUMENT)
         return latex2mathml_document(text.bytes, text.length, room, length, needed);
     if (is_tex(job->kind))
-        return latex2mathml_tex(definitions.bytes, definitions.length, text.bytes, text.length, job->kind == TEX_BLOCK, 0, room, length,
-                                needed, place);
+        return latex2mathml_tex(definitions.bytes, definitions.length, text.bytes, text.length, job->kind == TEX_BLOCK, job->flags,
+                                room, length, needed, place);
     return latex2mathml_formula(text.bytes, text.length, job->kind == BLOCK, room, length, needed);
 }
 
@@ -101,9 +102,9 @@ static napi_value result_of(napi_env env, const struct answer *answer, bool has_
 }
 
 /* The words are the text and, for TeX, the definitions. */
-static napi_value convert_values(napi_env env, enum kind kind, napi_value word, napi_value definitions) {
+static napi_value convert_values(napi_env env, enum kind kind, napi_value word, napi_value definitions, uint32_t flags) {
     napi_value value = NULL;
-    struct job job = {kind, text_of(env, word), {NULL, 0}};
+    struct job job = {kind, text_of(env, word), {NULL, 0}, flags};
     struct answer answer = {LATEX2MATHML_OUT_OF_MEMORY, {NULL, 0}, 0};
     if (is_tex(kind))
         job.definitions = text_of(env, definitions);
@@ -134,7 +135,7 @@ static napi_value formula(napi_env env, napi_callback_info info) {
         napi_throw_type_error(env, NULL, "formula(latex, block) takes a string and a boolean");
         return NULL;
     }
-    return convert_values(env, block ? BLOCK : INLINE, words[0], NULL);
+    return convert_values(env, block ? BLOCK : INLINE, words[0], NULL, 0);
 }
 
 static napi_value document(napi_env env, napi_callback_info info) {
@@ -145,22 +146,23 @@ static napi_value document(napi_env env, napi_callback_info info) {
         napi_throw_type_error(env, NULL, "document(text) takes a string");
         return NULL;
     }
-    return convert_values(env, DOCUMENT, word, NULL);
+    return convert_values(env, DOCUMENT, word, NULL, 0);
 }
 
 static napi_value tex(napi_env env, napi_callback_info info) {
-    size_t count = 3;
-    napi_value words[3];
-    bool block = false;
+    size_t count = 4;
+    napi_value words[4];
+    bool block = false, annotation = false;
     napi_get_cb_info(env, info, &count, words, NULL, NULL);
     if (count < 1 || !is_string(env, words[0]) || (count > 1 && napi_get_value_bool(env, words[1], &block) != napi_ok) ||
-        (count > 2 && !is_string(env, words[2]))) {
-        napi_throw_type_error(env, NULL, "tex(formula, block, definitions) takes a string, a boolean and a string");
+        (count > 2 && !is_string(env, words[2])) || (count > 3 && napi_get_value_bool(env, words[3], &annotation) != napi_ok)) {
+        napi_throw_type_error(env, NULL,
+                              "tex(formula, block, definitions, annotation) takes a string, a boolean, a string and a boolean");
         return NULL;
     }
     if (count < 3 && napi_create_string_utf8(env, "", 0, &words[2]) != napi_ok)
         return NULL;
-    return convert_values(env, block ? TEX_BLOCK : TEX_INLINE, words[0], words[2]);
+    return convert_values(env, block ? TEX_BLOCK : TEX_INLINE, words[0], words[2], annotation ? LATEX2MATHML_ANNOTATION : 0);
 }
 
 static void define(napi_env env, napi_value exports, const char *name, napi_callback callback) {

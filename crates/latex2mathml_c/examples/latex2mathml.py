@@ -4,6 +4,7 @@ r"""LaTeX to MathML, by liblatex2mathml.so: the one that LATEX2MATHML names, or 
     latex2mathml.formula("x<y")
     latex2mathml.document("Let $x<y$ be.")
     latex2mathml.tex(r"x_i^2 \in \R", definitions=r"\newcommand{\R}{\mathbb{R}}")
+    latex2mathml.tex("x<y", annotation=True)
 """
 import ctypes
 import os
@@ -11,6 +12,7 @@ import pathlib
 import sys
 
 DONE, REFUSED, NOT_UTF8, TOO_SMALL, OUT_OF_MEMORY, DEFINITION_REFUSED, UNKNOWN_FLAGS = range(7)
+ANNOTATION = 1
 
 _above = pathlib.Path(__file__).resolve().parent.parent
 _library = ctypes.CDLL(os.environ.get("LATEX2MATHML", str(_above / "liblatex2mathml.so")))
@@ -69,10 +71,12 @@ def document(text):
     return _answer(_library.latex2mathml_document, text)
 
 
-def tex(formula, block=False, definitions=""):
-    """The `math` element of a formula in LaTeX as authors write it, which may use macros of these definitions."""
+def tex(formula, block=False, definitions="", annotation=False):
+    """The `math` element of a formula in LaTeX as authors write it, which may use macros of these definitions.
+
+    With `annotation` it has the formula itself too, so that a copy of it takes its LaTeX along."""
     formula, definitions = _bytes(formula), _bytes(definitions)
-    given = definitions, len(definitions), formula, len(formula), block, 0
+    given = definitions, len(definitions), formula, len(formula), block, ANNOTATION if annotation else 0
     place = ctypes.c_size_t()
     code, answer = _call(lambda *room: _library.latex2mathml_tex(*given, *room), len(formula), ctypes.byref(place))
     if code != DONE:

@@ -43,6 +43,14 @@ enum latex2mathml_code {
     LATEX2MATHML_UNKNOWN_FLAGS = 6
 };
 
+/* The flags of latex2mathml_tex. */
+enum latex2mathml_flags {
+    /* The markup has the text of the formula too: the `math` element holds one `semantics` element, with what is shown and an
+     * `annotation` of the encoding `application/x-tex`. Its text is the formula as it was given, and so is the `alttext` of the
+     * `math` element. In comments it may hold characters that XML forbids; U+FFFD stands for each of them. */
+    LATEX2MATHML_ANNOTATION = 1
+};
+
 /* The size of a buffer that is large enough for nearly every formula of so many bytes, so that one call is enough. It is a
  * guess: LATEX2MATHML_TOO_SMALL says whether it was too small. */
 #define LATEX2MATHML_ROOM(latex_len) (256 + 64 * (size_t)(latex_len))
@@ -84,7 +92,8 @@ uint32_t latex2mathml_document(const char *document, size_t document_len, char *
  * `definitions`, such as `\newcommand{\R}{\mathbb{R}}`. With no bytes there, the usual ones hold alone. What a formula defines
  * itself holds to its end.
  *
- * `flags` must be 0. Later versions may give flags a meaning.
+ * `flags` is 0 or LATEX2MATHML_ANNOTATION. Any other flag is refused with LATEX2MATHML_UNKNOWN_FLAGS. Later versions may give
+ * more flags a meaning.
  *
  * `*place` is the byte where what is refused begins: of the formula with LATEX2MATHML_REFUSED, and of the definitions with
  * LATEX2MATHML_DEFINITION_REFUSED. With LATEX2MATHML_TOO_SMALL it is what it will be if the buffer is large enough. Otherwise it

@@ -1,32 +1,38 @@
 -- The text that a formula in LaTeX as authors write it comes to, behind definitions of macros. The input is lists of bytes.
-use Rattle.std.specs.Prelude.{◌≡◌, ◌≢◌, ◌⊎◌, ℕ, List, IsUtf8, codes}
+use Rattle.std.specs.Prelude.{◌≡◌, ◌==◌, ◌<◌, ◌≤◌, ◌⊎◌, ℕ, Bool, true, false, List, IsUtf8, codes}
 use Rattle.std.specs.Str.{chars}
 use Rattle.latex2mathml.specs.{Elements.IsMathElement, Formulas.DisplayStyle}
-use Rattle.latex2mathml_elements.specs.{Characters.IsAllowed, Dollars.IsDollarFree}
-use Rattle.latex2mathml_tex.specs.{Answers.IsAnswer, Answers.IsRefusal, Answers.style_in, ErrorTexts.refusal_text}
+use Rattle.latex2mathml_elements.specs.{Annotated.IsAnnotatedMathElement, Characters.IsAllowed, Dollars.IsDollarFree}
+use Rattle.latex2mathml_tex.specs.{Answers.IsAnswer, Answers.IsAnswerWithSource, Answers.IsRefusal, Answers.style_in, ErrorTexts.refusal_text}
 use Rattle.latex2mathml_tex_grammar.specs.{DefinitionTexts.AreRefused, DefinitionTexts.Defines, Macros.Table, Refusal.Refusal}
 use Rattle.latex2mathml_c.specs.declared.{Request.Request, Status.Status}
 use Rattle.latex2mathml_c.specs.declared.Status.TheVariants.{Done, Refused, NotUtf8, DefinitionRefused, UnknownFlags}
 
--- the text is the markup of the formula where these macros hold: one `math` element, without a character that XML forbids and
--- without a dollar sign
-abbrev pub IsMarkup : Table → List ℕ → DisplayStyle → List ℕ → Type 0
-IsMarkup macros tex display text = IsAnswer macros tex (style_in display) text × IsMathElement text × IsAllowed text × IsDollarFree text
+-- the text is the markup of the formula where these macros hold, which is one `math` element. It has the text of the formula
+-- where an annotation is asked for.
+abbrev pub IsElementOf : Bool → Table → List ℕ → DisplayStyle → List ℕ → Type 0
+IsElementOf false macros tex display text = IsAnswer macros tex (style_in display) text × IsMathElement text
+IsElementOf true macros tex display text = IsAnswerWithSource macros tex (style_in display) text × IsAnnotatedMathElement text
+
+-- .. without a character that XML forbids and without a dollar sign
+abbrev pub IsMarkup : Bool → Table → List ℕ → DisplayStyle → List ℕ → Type 0
+IsMarkup is_annotated macros tex display text = IsElementOf is_annotated macros tex display text × IsAllowed text × IsDollarFree text
 
 -- a refusal is told: its place, and its text
 abbrev pub IsTold : Refusal → ℕ → List ℕ → Type 0
 IsTold refusal place text = (place ≡ refusal.place) × (text ≡ refusal_text refusal)
 
--- the text that a formula comes to behind definitions, what it is, and the place of what is refused, or else 0
-abbrev pub IsRead : List ℕ → List ℕ → DisplayStyle → ℕ → Status → List ℕ → Type 0
-IsRead definitions tex display place Done text =
-    (place ≡ 0) × ((macros : Table) × Defines (chars definitions) macros × IsMarkup macros tex display text)
-IsRead definitions tex display place Refused text =
+-- The text that a formula comes to behind definitions, what it is, and the place of what is refused, or else 0. An annotation is
+-- asked for or not.
+abbrev pub IsRead : Bool → List ℕ → List ℕ → DisplayStyle → ℕ → Status → List ℕ → Type 0
+IsRead is_annotated definitions tex display place Done text =
+    (place ≡ 0) × ((macros : Table) × Defines (chars definitions) macros × IsMarkup is_annotated macros tex display text)
+IsRead is_annotated definitions tex display place Refused text =
     (macros : Table) × Defines (chars definitions) macros
     × ((refusal : Refusal) × IsRefusal macros tex (style_in display) refusal × IsTold refusal place text)
-IsRead definitions tex display place DefinitionRefused text =
+IsRead is_annotated definitions tex display place DefinitionRefused text =
     (refusal : Refusal) × AreRefused (chars definitions) refusal × IsTold refusal place text
-IsRead definitions tex display place status text = ⊥
+IsRead is_annotated definitions tex display place status text = ⊥
 
 -- what a call is given
 pub record Given : Type 0 where
@@ -43,9 +49,13 @@ given_by request = record {
   flags = request.flags;
 }
 
--- no flag is set, and both texts are UTF-8
+-- the flag that asks for an annotation, the only one that there is
+abbrev pub annotation : ℕ
+annotation = 1
+
+-- no other flag is set, and both texts are UTF-8
 pub record IsReadable (given : Given) : Type 0 where
-  pub no_flags : given.flags ≡ 0
+  pub known_flags : given.flags ≤ annotation
   pub definitions : IsUtf8 given.definitions
   pub tex : IsUtf8 given.tex
 
@@ -57,10 +67,11 @@ IsNoText given text =
 
 -- the text that a call comes to, what it is, and the place of what is refused, or else 0
 abbrev pub IsTexText : Given → ℕ → Status → List ℕ → Type 0
-IsTexText given place UnknownFlags text = (place ≡ 0) × (given.flags ≢ 0) × (text ≡ codes "The flags must be 0.")
-IsTexText given place NotUtf8 text = (place ≡ 0) × (given.flags ≡ 0) × IsNoText given text
+IsTexText given place UnknownFlags text =
+    (place ≡ 0) × (annotation < given.flags) × (text ≡ codes "The flags must be 0 or LATEX2MATHML_ANNOTATION.")
+IsTexText given place NotUtf8 text = (place ≡ 0) × (given.flags ≤ annotation) × IsNoText given text
 IsTexText given place status text =
-    IsReadable given × IsRead given.definitions given.tex given.display place status text
+    IsReadable given × IsRead (given.flags == annotation) given.definitions given.tex given.display place status text
 
 -- .. whatever the place is
 abbrev pub HasTexText : Given → Status → List ℕ → Type 0

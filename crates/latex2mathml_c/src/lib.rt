@@ -28,6 +28,9 @@ enum Job {
     Document,
 }
 
+/// The flag that asks for the text of a formula as an annotation of its markup.
+const ANNOTATION: u32 = 1;
+
 /// A formula in LaTeX as authors write it, with definitions of macros that it may use.
 #[derive(Clone, Copy)]
 struct Request<'a> {
@@ -119,7 +122,7 @@ pub extern "C" fn latex2mathml_document(
 }
 
 /// Converts one formula in LaTeX as authors write it, and returns a code of the header. `definitions` are those of macros that
-/// the formula may use, beside the usual ones. There are no flags yet, so `flags` must be 0.
+/// the formula may use, beside the usual ones. `flags` is 0, or 1 for the text of the formula as an annotation of its markup.
 ///
 /// `out` and `needed` are as in [`latex2mathml_formula`]. `place` is the byte of the formula or of the definitions where what is
 /// refused begins, also if the reason does not fit, and otherwise 0.
@@ -202,9 +205,15 @@ fn call_tex(
 {
     *needed = 0;
     *place = 0;
-    if request.flags != 0 {
-        return put(Status::UnknownFlags, "The flags must be 0.", out, needed);
+    if request.flags > ANNOTATION {
+        return put(
+            Status::UnknownFlags,
+            "The flags must be 0 or LATEX2MATHML_ANNOTATION.",
+            out,
+            needed,
+        );
     }
+    let is_annotated = request.flags == ANNOTATION;
     let Ok(definitions) = str::from_utf8(request.definitions) else {
         return put(
             Status::NotUtf8,
@@ -216,7 +225,7 @@ fn call_tex(
     let Ok(tex) = str::from_utf8(request.tex) else {
         return put(Status::NotUtf8, "The input is not UTF-8 text.", out, needed);
     };
-    match read(alloc, definitions, tex, request.display) {
+    match read(alloc, definitions, tex, request.display, is_annotated) {
         Ok(told) => {
             *place = told.place;
             put(told.status, told.text.as_str(), out, needed)

@@ -1,11 +1,13 @@
 //! What a formula in LaTeX as authors write it comes to.
 ghost use Rattle.std.specs.Prelude.{◌≡◌, IfOk, Some, string_bytes};
-ghost use Rattle.latex2mathml_c.specs.TexTexts.{IsRead, IsTold};
-ghost use Rattle.latex2mathml_tex.specs.Errors.{refusal_of};
+ghost use Rattle.latex2mathml_c.specs.TexTexts.{IsMarkup, IsRead, IsTold};
+ghost use Rattle.latex2mathml_tex.specs.{Answers.IsRefusal, Answers.style_in, Errors.IfRefused, Errors.refusal_of, MacroTables.AreDefined, MacroTables.Holding};
 ghost use Rattle.latex2mathml_tex_grammar.specs.Refusal.{Refusal};
 
 use crate::Status;
-use latex2mathml_tex::{DisplayStyle, Macros, TexError, TexErrorKind, tex_to_mathml};
+use latex2mathml_tex::{
+    DisplayStyle, Macros, TexError, TexErrorKind, tex_to_mathml, tex_to_mathml_with_source,
+};
 use std::alloc::{AllocError, Global};
 
 /// A text, what it is, and the place of what is refused, or else 0.
@@ -17,27 +19,48 @@ pub(crate) struct Told {
 }
 
 /// Returns the markup of a formula that may use macros of these definitions, or the reason why it or a definition is refused.
-/// The only `Err` is out of memory.
+/// Where an annotation is asked for, the markup has the text of the formula. The only `Err` is out of memory.
 pub(crate) fn read<'a>(
     alloc: Global,
     definitions: &'a str,
     tex: &'a str,
     display: DisplayStyle,
+    is_annotated: bool,
 ) -> Result<Told, AllocError>
-    ensures { IfOk result (λ told.
-        IsRead definitions.now tex.now display told.place told.status (string_bytes told.text)) }
+    ensures { IfOk result (λ told. IsRead is_annotated definitions.now tex.now display
+        told.place told.status (string_bytes told.text)) }
 {
     let macros = match Macros::read(alloc, definitions) {
         Ok(macros) => macros,
         Err(error) => return refusal(alloc, Status::DefinitionRefused, &error),
     };
-    match tex_to_mathml(alloc, &macros, tex, display) {
+    match markup(alloc, &macros, tex, display, is_annotated) {
         Ok(text) => Ok(Told {
             status: Status::Done,
             text,
             place: 0,
         }),
         Err(error) => refusal(alloc, Status::Refused, &error),
+    }
+}
+
+/// Returns the markup of a formula, with the text of the formula where an annotation is asked for.
+fn markup<'a>(
+    alloc: Global,
+    macros: &Macros<'a>,
+    tex: &'a str,
+    display: DisplayStyle,
+    is_annotated: bool,
+) -> Result<String, TexError>
+    ensures markup { AreDefined macros.now → Holding macros.now (λ table. IfOk result (λ markup.
+        IsMarkup is_annotated table tex.now display (string_bytes markup))) }
+    ensures refusal { Holding macros.now (λ table.
+        IfRefused result (IsRefusal table tex.now (style_in display))) }
+{
+    if is_annotated {
+        tex_to_mathml_with_source(alloc, macros, tex, display)
+    } else {
+        tex_to_mathml(alloc, macros, tex, display)
     }
 }
 

@@ -3,12 +3,14 @@ use Rattle.std.proofs.Common.{◌≡◌, inl, inr, ℕ, ◌<◌, Bool, true, fal
 use Rattle.std.proofs.{lemmas.Bool.and_parts, lemmas.Bool.Decides.nat_tests, lemmas.Bool.Decides.eqb_tells, lemmas.List.Folds.list_all-append}
 use Rattle.std.proofs.lemmas.Str.{NoCharPasses-nil, NoCharPasses-append, encode_ascii}
 use Rattle.std.specs.{Bool.⊤, Char.encode_utf8, List.list_all, Str.byte, Str.NonePass, Str.encode_utf8_all}
+use Rattle.latex2mathml_elements.specs.Annotated.{alternative, alternative_byte, annotated_print}
 use Rattle.latex2mathml_elements.specs.Characters.{is_forbidden, IsAllowed, EachText, EachTextOf, EachTextOfCells, EachTextOfRows}
 use Rattle.latex2mathml_elements.specs.Dollars.{IsDollarFree}
 use Rattle.latex2mathml_elements.specs.Element.{Element, Elements, Rows, Cells, token, space, rectangle, container, pair, triple, table, none, more, one_row, more_rows, one_cell, more_cells}
 use Rattle.latex2mathml_elements.specs.Print.{formula_print}
-use Rattle.latex2mathml_elements.proofs.Plain.{IsPlain, is_plain, formula_holds}
+use Rattle.latex2mathml_elements.proofs.Plain.{IsPlain, is_plain, annotated_holds, formula_holds}
 use Rattle.latex2mathml_tokens.specs.Escape.{content, content_byte}
+use Rattle.latex2mathml_elements.proofs.Alternatives.{alternative-append, alternative_char-other}
 use Rattle.latex2mathml_tokens.proofs.Escapes.{content-append, content_char-other}
 
 -- No dollar sign
@@ -34,6 +36,13 @@ free_content_byte b = grind arith
 free_content : (bs : List ℕ) → IsDollarFree (content bs)
 free_content [] = refl
 free_content (b ∷ bs) = free_both (content_byte b) (content bs) (free_content_byte b) (free_content bs)
+
+free_alternative_byte : (b : ℕ) → IsDollarFree (alternative_byte b)
+free_alternative_byte b = grind arith
+
+free_alternative : (bs : List ℕ) → IsDollarFree (alternative bs)
+free_alternative [] = refl
+free_alternative (b ∷ bs) = free_both (alternative_byte b) (alternative bs) (free_alternative_byte b) (free_alternative bs)
 
 -- whatever the texts of the elements are
 mutual
@@ -61,6 +70,10 @@ mutual
 pub dollar_free : (is_display : Bool) (xs : Elements) → IsDollarFree (formula_print is_display xs)
 dollar_free is_display xs =
     formula_holds IsDollarFree (λ text. ⊤) free_both free_plain (λ text h. free_content text) is_display xs (any_text_of xs)
+
+pub annotated_dollar_free : (is_display : Bool) (x : Element) (tex : List ℕ) → IsDollarFree (annotated_print is_display x tex)
+annotated_dollar_free is_display x tex =
+    annotated_holds IsDollarFree (λ text. ⊤) free_both free_plain (λ text h. free_content text) (λ text h. free_alternative text) is_display x tex (any_text x) tt
 
 -- No character that XML forbids
 
@@ -109,5 +122,24 @@ allowed_content_of (c ∷ cs) h =
 allowed_content : (text : List ℕ) → IsAllowed text → IsAllowed (content text)
 allowed_content text h = subst (λ t. IsAllowed (content t)) h.1 (allowed_content_of h.0 h.2)
 
+-- so it is of alternative texts
+allowed_alternative_char : (c : ℕ) → is_forbidden c ≡ false → IsAllowed (alternative (encode_utf8 c))
+unfolding encode_utf8
+allowed_alternative_char c h = elim (eqb_tells c 34) [
+  | inl is ↦ subst (λ k. IsAllowed (alternative (encode_utf8 k))) (sym is.1) (allowed_plain (codes "&quot;") refl)
+  | inr not_quote ↦ subst IsAllowed (sym (alternative_char-other c not_quote.1)) (allowed_content_char c h)
+]
+
+allowed_alternative_of : (cs : List ℕ) → NonePass is_forbidden cs → IsAllowed (alternative (encode_utf8_all cs))
+allowed_alternative_of [] h = NoCharPasses-nil is_forbidden
+allowed_alternative_of (c ∷ cs) h =
+    subst IsAllowed (sym (alternative-append (encode_utf8 c) (encode_utf8_all cs))) (allowed_both _ _ (allowed_alternative_char c h.0) (allowed_alternative_of cs h.1))
+
+allowed_alternative : (text : List ℕ) → IsAllowed text → IsAllowed (alternative text)
+allowed_alternative text h = subst (λ t. IsAllowed (alternative t)) h.1 (allowed_alternative_of h.0 h.2)
+
 pub allowed_print : (is_display : Bool) (xs : Elements) → EachTextOf IsAllowed xs → IsAllowed (formula_print is_display xs)
 allowed_print = formula_holds IsAllowed IsAllowed allowed_both allowed_plain allowed_content
+
+pub annotated_allowed_print : (is_display : Bool) (x : Element) (tex : List ℕ) → EachText IsAllowed x → IsAllowed tex → IsAllowed (annotated_print is_display x tex)
+annotated_allowed_print = annotated_holds IsAllowed IsAllowed allowed_both allowed_plain allowed_content allowed_alternative

@@ -1,3 +1,5 @@
+pub mod Alternatives
+pub mod Annotated
 pub mod Characters
 pub mod Colors
 pub mod Ems

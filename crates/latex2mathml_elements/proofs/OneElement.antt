@@ -11,7 +11,7 @@ use Rattle.latex2mathml_trees.specs.Markup.{Name, attribute, plain, open_tag, em
 use Rattle.latex2mathml_trees.proofs.Runs.{closed, content_leads, ending_as, joined, more, more-above, more-append, obeying, opened, single, spelled_as, staying}
 use Rattle.latex2mathml_trees.proofs.ValueTexts.{beside, no_text, plain_before, plain_width}
 
-abbrev called : Element → Name
+abbrev pub called : Element → Name
 called (token t a text) = token_name t
 called (space width) = codes "mspace"
 called (rectangle e) = codes "mspace"
@@ -114,7 +114,7 @@ rectangle_runs e s =
     (single child_table (empty_tag (codes "mspace") some.list) s (add (codes "mspace") s) some.valid refl)
 
 mutual
-  element_runs : (x : Element) (s : OpenElements) → Runs child_table (print x) s (add (called x) s)
+  pub element_runs : (x : Element) (s : OpenElements) → Runs child_table (print x) s (add (called x) s)
   element_runs (token t a text) s =
       let inner = content_leads child_table (token_name t) [] false (add (token_name t) s) text in
       joined (starts (token_name t) a s (token_named t)) (joined inner.1 (obeying child_table (token_name t) [] inner.0 (add (token_name t) s) (token_named t) (token_fits t (name_of (add (token_name t) s)) inner.0)))

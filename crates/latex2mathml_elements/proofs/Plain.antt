@@ -2,6 +2,7 @@
 use Rattle.std.proofs.Common.{ℕ, zero, suc, ℤ, pos, negsuc, ◌+◌, ◌<◌, Bool, true, false, ◌&&◌, ◌==◌, not, IsTrue, List, [], ◌++◌, Option, Some, None, refl, arith, codes, nat_lt}
 use Rattle.std.proofs.lemmas.Bool.Decides.{nat_tests}
 use Rattle.std.specs.{List.list_all, Str.byte}
+use Rattle.latex2mathml_elements.specs.Annotated.{alternative, alternative_start, annotated_print}
 use Rattle.latex2mathml_elements.specs.Attributes.{Attributes, Side, Above, Below, Form, Prefix, Postfix, Stretch, Stretching, Rigid, Space, NoSpace, Narrow, Size, Big, Bigger, VeryBig, Biggest, MathStyle, DisplayStyle, TextStyle, ScriptStyle, Boxing, NoWidth, Flat, NoHeight, NoDepth, ByItsWidth, ByHalfItsWidth, Framed, StruckUp, StruckDown, StruckTwice}
 use Rattle.latex2mathml_elements.specs.Columns.{Column, Centered, LeftAligned, RightAligned, FirstOfPair, SecondOfPair, Dense}
 use Rattle.latex2mathml_elements.specs.Characters.{EachText, EachTextOf, EachTextOfCells, EachTextOfRows}
@@ -208,3 +209,15 @@ module _ (Holds Asked : List ℕ → Type 0) (append : (a b : List ℕ) → Hold
 
   pub formula_holds : (is_display : Bool) (xs : Elements) → EachTextOf Asked xs → Holds (formula_print is_display xs)
   formula_holds is_display xs h = both (math_holds is_display) (both (prints_hold xs h) (plain (codes "</math>") refl))
+
+  alternative_starts : (is_display : Bool) → Holds (alternative_start is_display)
+  alternative_starts true = plain _ refl
+  alternative_starts false = plain _ refl
+
+  pub annotated_holds : ((text : List ℕ) → Asked text → Holds (alternative text)) → (is_display : Bool) (x : Element) (tex : List ℕ) → EachText Asked x → Asked tex → Holds (annotated_print is_display x tex)
+  annotated_holds alternatives is_display x tex h asked =
+      both (both (alternative_starts is_display) (both (alternatives tex asked) (plain (codes "\">") refl)))
+      (both (plain (codes "<semantics>") refl)
+      (both (print_holds x h)
+      (both (both (plain (codes "<annotation encoding=\"application/x-tex\">") refl) (both (contents tex asked) (plain (codes "</annotation>") refl)))
+      (plain (codes "</semantics></math>") refl))))

@@ -1,3 +1,4 @@
+pub mod Annotated
 pub mod Attributes
 pub mod Characters
 pub mod Colors

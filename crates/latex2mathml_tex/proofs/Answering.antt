@@ -1,16 +1,16 @@
 -- From the parser's last state to the answer.
-use Rattle.std.proofs.Common.{◌≡◌, ◌∙◌, ℕ, Bool, true, false, List, [], ◌++◌, Option, Some, None, Result, Ok, Err, IfSome, OnOk, ap, option_map, refl, reverse, subst, sym, take}
+use Rattle.std.proofs.Common.{◌≡◌, ◌≤◌, ◌∙◌, ℕ, Bool, true, false, List, [], ◌∷◌, ◌++◌, Option, Some, None, Result, Ok, Err, IfOk, IfSome, ap, drop, length, option_map, refl, reverse, subst, sym, take}
 use Rattle.std.specs.Str.{chars}
-use Rattle.latex2mathml_elements.specs.{Characters.IsAllowed, Dollars.IsDollarFree, Element.children, Print.formula_print}
-use Rattle.latex2mathml_elements.proofs.{Characters.dollar_free, OneElement.print_as_elements}
+use Rattle.latex2mathml_elements.specs.{Annotated.IsAnnotatedMathElement, Annotated.annotated_print, Characters.IsAllowed, Dollars.IsDollarFree, Element.Element, Element.children, Print.formula_print}
+use Rattle.latex2mathml_elements.proofs.{Annotated.annotated_print_as_elements, Characters.annotated_dollar_free, Characters.dollar_free, OneElement.print_as_elements}
 use Rattle.latex2mathml_trees.specs.MathSchema.{IsMathElement}
-use Rattle.latex2mathml_tex_grammar.specs.{Atoms.Atom, DefinitionTexts.Defines, Macros.SameMacros, Macros.Table, Makes.Core, Makes.is_display, Makes.no_scripts, Meaning.Beside, Refusal.Kind, Refusal.Refusal, Refusal.refusal_at, Rests.finished, Rows.Row, Rows.empty_row, Rows.with_atom, Symbols.Style}
-use Rattle.latex2mathml_tex_grammar.specs.Formulas.{IsExpansion, IsReading, ReadsFormula, as_atoms, as_rows, formula_context, is_outside, row_print}
+use Rattle.latex2mathml_tex_grammar.specs.{Atoms.Atom, DefinitionTexts.Defines, Macros.SameMacros, Macros.Table, Makes.Core, Makes.is_display, Makes.no_scripts, Meaning.Beside, Refusal.Kind, Refusal.Refusal, Refusal.refusal_at, Rests.finished, Rows.Row, Rows.empty_row, Rows.row_element, Rows.with_atom, Symbols.Style}
+use Rattle.latex2mathml_tex_grammar.specs.Formulas.{IsExpansion, IsReading, ReadsFormula, as_atoms, as_rows, formula_context, is_outside, row_print, row_print_with_source, source_text}
 use Rattle.latex2mathml_tex_grammar.specs.Formulas as formula
 use Rattle.latex2mathml_tex_grammar.specs.Reading.{Outcome, Read, Refused, ReadsAtoms, text_ends, never_ended, atoms_stopped, atoms_end, atom_read, atom_refused, rest_read, change_refused, ReadsRule, rule_gives, rows_read, rows_to_end, ReadsScripts, scripts_end, mark_taken, script_read, script_refused, mark_refused}
 use Rattle.latex2mathml_tex_grammar.specs.{Rules.WholeText, Rules.rows_of_text, Units.End, Units.Units}
-use Rattle.latex2mathml_tex_grammar.proofs.{AllowedReadings.markup_allowed, Readings.expanded, Readings.has_expansion, Readings.rows_end_text, Readings.same_expansion}
-use Rattle.latex2mathml_tex.specs.{Answers.IsAnswer, Answers.IsRefusal, Levels.CoreMade, Levels.RuleLeads, MacroTables.macros_in, Meanings.style_of}
+use Rattle.latex2mathml_tex_grammar.proofs.{AllowedReadings.markup_allowed, AllowedReadings.markup_with_source_allowed, Readings.expanded, Readings.has_expansion, Readings.rows_end_text, Readings.same_expansion}
+use Rattle.latex2mathml_tex.specs.{Answers.IsAnswer, Answers.IsAnswerWithSource, Answers.IsRefusal, Levels.CoreMade, Levels.RuleLeads, MacroTables.macros_in, Meanings.style_of, Models.top, ReadRows.AreUppermost, ReadRows.HasRead}
 use Rattle.latex2mathml_tex.specs.Errors.{IfRefused, is_outside_error, is_outside_kind, kind_of_error, refusal_of}
 use Rattle.latex2mathml_tex.specs.Frames.{ReadsAs, Start, Whole, context_at, inside, whole_level}
 use Rattle.latex2mathml_tex.specs.Steps.{Begins, Holds, elements_of, left_of, level, start_of}
@@ -59,12 +59,9 @@ begins_rows p e =
     }
 
 module _ (read : Form) (p : Parser) where
-  -- the formula is read, and its markup was appended
-  pub written : (q : Parser) (count : ℕ) (old new : List ℕ) → Holds (start_of read p) q (state.End count) → new ≡ old ++ formula_print (is_display (style_of q.style)) (children (reverse (take count (elements_of q)))) → (row : Row) × ((at : ℕ) × ReadsAs read (style_of p.style) (left_of p) (Read row (End at)) × (new ≡ old ++ row_print (style_of p.style) row))
-  written q count old new h w =
-      let (row, at, same, d) = h.claims in
-      let markup : new ≡ old ++ formula_print (is_display (style_of p.style)) (children (reverse row.elements)) = rw (h.style, same) w in
-      (row, (at, d, markup))
+  -- the formula is read
+  pub read_row : (q : Parser) (count : ℕ) → Holds (start_of read p) q (state.End count) → count ≤ length (elements_of q) → HasRead (ReadsAs read (style_of p.style) (left_of p)) count (elements_of q)
+  read_row q count h all = let (row, at, same, d) = h.claims in (row, (at, d, record { elements = same; all = all }))
 
   -- the formula is refused
   pub refused : (o : Option Refusal) → IfSome o (λ r. Whole (start_of read p) (Refused r)) → IfSome o (λ r. ReadsAs read (style_of p.style) (left_of p) (Refused r))
@@ -95,9 +92,9 @@ others_so : (P Q : Refusal → Type 0) (found : Option Kind) (place : ℕ) → i
 others_so P Q None place s f h = tt
 others_so P Q (Some k) place s f h = f (refusal_at k place) s h
 
-pub read_as_atoms : {A : Type 0} (result : Result A TexError) (style : Style) (l : Units) (old new : List ℕ) → OnOk result ((row : Row) × ((at : ℕ) × ReadsAs form.Atoms style l (Read row (End at)) × (new ≡ old ++ row_print style row))) → OnOk result ((row : Row) × ((at : ℕ) × ReadsFormula style l (Read row (End at)) × (new ≡ old ++ row_print style row)))
-read_as_atoms (Ok x) style l old new (row, (at, d, is)) = (row, (at, as_atoms d refl, is))
-read_as_atoms (Err error) style l old new h = tt
+pub read_as_atoms : (result : Result ℕ TexError) (style : Style) (l : Units) (xs : List Element) → IfOk result (λ n. HasRead (ReadsAs form.Atoms style l) n xs) → IfOk result (λ n. HasRead (ReadsFormula style l) n xs)
+read_as_atoms (Ok n) style l xs (row, (at, d, upper)) = (row, (at, as_atoms d refl, upper))
+read_as_atoms (Err error) style l xs h = tt
 
 pub refused_as_atoms : {A : Type 0} (result : Result A TexError) (style : Style) (l : Units) → is_outside_error result ≡ false → IfRefused result (λ r. ReadsAs form.Atoms style l (Refused r)) → IfRefused result (λ r. ReadsFormula style l (Refused r))
 refused_as_atoms (Ok x) style l s h = tt
@@ -105,9 +102,9 @@ refused_as_atoms (Err error) style l s h =
     others_so (λ r. ReadsAs form.Atoms style l (Refused r)) (λ r. ReadsFormula style l (Refused r)) (kind_of_error error.kind) error.place (sym (found_outside error.kind) ∙ s) (λ r t d. as_atoms d t) h
 
 module _ (style : Style) (l : Units) (r : Refusal) (asked : ReadsAs form.Atoms style l (Refused r)) (s : is_outside r.kind ≡ true) where
-  pub read_as_rows : {A : Type 0} (result : Result A TexError) (old before new : List ℕ) → before ≡ old → OnOk result ((row : Row) × ((at : ℕ) × ReadsAs form.Rows style l (Read row (End at)) × (new ≡ before ++ row_print style row))) → OnOk result ((row : Row) × ((at : ℕ) × ReadsFormula style l (Read row (End at)) × (new ≡ old ++ row_print style row)))
-  read_as_rows (Ok x) old before new same (row, (at, (p, t, e), is)) = (row, (at, subst (ReadsFormula style l) (sym e) (as_rows asked s t), rw same at is))
-  read_as_rows (Err error) old before new same h = tt
+  pub read_as_rows : (result : Result ℕ TexError) (xs : List Element) → IfOk result (λ n. HasRead (ReadsAs form.Rows style l) n xs) → IfOk result (λ n. HasRead (ReadsFormula style l) n xs)
+  read_as_rows (Ok n) xs (row, (at, (p, t, e), upper)) = (row, (at, subst (ReadsFormula style l) (sym e) (as_rows asked s t), upper))
+  read_as_rows (Err error) xs h = tt
 
   rows_refuse : (o : Option Refusal) → IfSome o (λ q. ReadsAs form.Rows style l (Refused q)) → IfSome o (λ q. ReadsFormula style l (Refused q))
   rows_refuse None h = tt
@@ -121,11 +118,24 @@ module _ (style : Style) (l : Units) (r : Refusal) (asked : ReadsAs form.Atoms s
 pub expands_so : (m : Macros) (table : Table) (text : List ℕ) (l : Units) → l ≡ expanded (macros_in m) text → SameMacros table (macros_in m) → IsExpansion table text l
 expands_so m table text l e same = same_expansion (λ name. sym (same name)) (rw e (has_expansion (macros_in m) text))
 
--- so what was appended is an answer
-pub answers : {A : Type 0} (result : Result A TexError) (table : Table) (tex : List ℕ) (l : Units) (read style : Style) (old new : List ℕ) → IsExpansion table (chars tex) l → read ≡ style → OnOk result ((row : Row) × ((at : ℕ) × ReadsFormula read l (Read row (End at)) × (new ≡ old ++ row_print read row))) → OnOk result ((markup : List ℕ) × IsAnswer table tex style markup × (new ≡ old ++ markup))
+-- so the row is a reading of the text
+pub reading_of : (result : Result ℕ TexError) (table : Table) (tex : List ℕ) (l : Units) (read style : Style) (xs : List Element) → IsExpansion table (chars tex) l → read ≡ style → IfOk result (λ n. HasRead (ReadsFormula read l) n xs) → IfOk result (λ n. (row : Row) × IsReading table (chars tex) style row × AreUppermost row n xs)
 unfolding IsReading
-answers (Ok a) table tex l read style old new units e (row, (at, d, is)) = (row_print read row, (row, (l, units, (at, subst (λ s. ReadsFormula s l (Read row (End at))) e d)), ap (λ s. row_print s row) e), is)
-answers (Err error) table tex l read style old new units e h = tt
+reading_of (Ok n) table tex l read style xs units e (row, (at, d, upper)) = (row, (l, units, (at, subst (λ s. ReadsFormula s l (Read row (End at))) e d)), upper)
+reading_of (Err error) table tex l read style xs units e h = tt
+
+-- and what was appended is an answer
+pub answered : (table : Table) (tex : List ℕ) (style : Style) (count : ℕ) (xs : List Element) (old new : List ℕ) → (row : Row) × IsReading table (chars tex) style row × AreUppermost row count xs → new ≡ old ++ formula_print (is_display style) (children (reverse (take count xs))) → (markup : List ℕ) × IsAnswer table tex style markup × (new ≡ old ++ markup)
+answered table tex style count xs old new (row, reading, upper) is =
+    let markup : new ≡ old ++ row_print style row = rw upper.elements is in
+    (row_print style row, (row, reading, refl), markup)
+
+-- .. with its source
+pub answered_with_source : (table : Table) (tex : List ℕ) (style : Style) (count : ℕ) (xs ys : List Element) (old new : List ℕ) → (row : Row) × IsReading table (chars tex) style row × AreUppermost row count xs → ys ≡ row_element (take count xs) ∷ drop count xs → new ≡ old ++ annotated_print (is_display style) (top ys) (source_text (chars tex)) → (markup : List ℕ) × IsAnswerWithSource table tex style markup × (new ≡ old ++ markup)
+answered_with_source table tex style count xs ys old new (row, reading, upper) one is =
+    let shown : top ys ≡ row_element row.elements = rw upper.elements (ap top one) in
+    let markup : new ≡ old ++ row_print_with_source style (chars tex) row = is ∙ ap (λ x. old ++ annotated_print (is_display style) x (source_text (chars tex))) shown in
+    (row_print_with_source style (chars tex) row, (row, reading, refl), markup)
 
 refusal_is : (o : Option Refusal) (table : Table) (tex : List ℕ) (l : Units) (style : Style) → IsExpansion table (chars tex) l → IfSome o (λ r. ReadsFormula style l (Refused r)) → IfSome o (IsRefusal table tex style)
 unfolding formula.IsRefusal
@@ -148,6 +158,17 @@ sound_text definitions macros tex style markup h (row, reading, is) = rw is (mar
 pub no_dollar : (macros : Table) (tex : List ℕ) (style : Style) (markup : List ℕ) → IsAnswer macros tex style markup → IsDollarFree markup
 no_dollar macros tex style markup (row, reading, is) = rw is (dollar_free (is_display style) (children (reverse row.elements)))
 
+-- .. also with its source
+
+pub one_element_with_source : (macros : Table) (tex : List ℕ) (style : Style) (markup : List ℕ) → IsAnswerWithSource macros tex style markup → IsAnnotatedMathElement markup
+one_element_with_source macros tex style markup (row, reading, is) = rw is (annotated_print_as_elements.formulas (is_display style) (row_element row.elements) (source_text (chars tex)))
+
+pub sound_text_with_source : (definitions : List ℕ) (macros : Table) (tex : List ℕ) (style : Style) (markup : List ℕ) → Defines definitions macros → IsAnswerWithSource macros tex style markup → IsAllowed markup
+sound_text_with_source definitions macros tex style markup h (row, reading, is) = rw is (markup_with_source_allowed definitions macros (chars tex) style row h reading).0
+
+pub no_dollar_with_source : (macros : Table) (tex : List ℕ) (style : Style) (markup : List ℕ) → IsAnswerWithSource macros tex style markup → IsDollarFree markup
+no_dollar_with_source macros tex style markup (row, reading, is) = rw is (annotated_dollar_free (is_display style) (row_element row.elements) (source_text (chars tex)))
+
 -- what was appended to nothing is all
-pub appended : (macros : Table) (tex : List ℕ) (style : Style) (old new : List ℕ) → old ≡ [] → (markup : List ℕ) × IsAnswer macros tex style markup × (new ≡ old ++ markup) → IsAnswer macros tex style new
-appended macros tex style old new e (markup, answer, is) = rw (is, e) answer
+pub appended : (P : List ℕ → Type 0) (old new : List ℕ) → old ≡ [] → (markup : List ℕ) × P markup × (new ≡ old ++ markup) → P new
+appended P old new e (markup, answer, is) = rw (is, e) answer

@@ -125,12 +125,12 @@ module _ {ending : Ending} {c : Context} {xs : Row} {K : Outcome Row → Type 0}
   base_due p e s k = record { to = λ o d. base_made p e s k o d }
 
   -- what stands after a change is due
-  going_on : {u : Unit} {m : Units} {change : Change} → past_space l ≡ Next u m → IsFalse (ends ending u.piece) → atom_start ending u.piece ≡ ChangeStart change → Leads (row ending c xs K) l → (rest : Rest) → rest_of change c xs ≡ rest → FollowsChange ending K u.place rest m
-  going_on p e s k (GoesOnIn d ys) r = λ o reads. k o (rest_read p e s r reads)
-  going_on p e s k (NoRest kind) r = k _ (change_refused p e s r)
+  going_on : {u : Unit} {m : Units} {change : Change} → past_space l ≡ Next u m → IsFalse (ends ending u.piece) → atom_start ending u.piece ≡ ChangeStart change → Leads (row ending c xs K) l → (rest : Rest) → rest_of change c xs u.place m ≡ rest → FollowsChange ending K rest
+  going_on p e s k (GoesOnIn d ys n) r = λ o reads. k o (rest_read p e s r reads)
+  going_on p e s k (NoRest refusal) r = k _ (change_refused p e s r)
 
   pub rest_due : {u : Unit} {m : Units} {change : Change} → past_space l ≡ Next u m → IsFalse (ends ending u.piece) → atom_start ending u.piece ≡ ChangeStart change → Leads (row ending c xs K) l → RestLeads change u.place (row ending c xs K) m
-  rest_due {change = change} p e s k = going_on p e s k (rest_of change c xs) refl
+  rest_due {u = u} {m = m} {change = change} p e s k = going_on p e s k (rest_of change c xs u.place m) refl
 
 -- What stands after an atom
 

@@ -5,6 +5,7 @@ pub mod Beginnings
 pub mod Bodies
 pub mod Boxing
 pub mod Closing
+pub mod Colored
 pub mod DefinedTables
 pub mod DefinitionTexts
 pub mod Digits
@@ -46,6 +47,7 @@ pub mod Taken
 pub mod Telling
 pub mod Texts
 pub mod Turning
+pub mod Values
 pub mod Whole
 pub mod WordRules
 pub mod WordStarts

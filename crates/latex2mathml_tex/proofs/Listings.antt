@@ -13,8 +13,8 @@ entry_found [] name d some h = cc
 entry_found (e ∷ es) name d some h = rw h refl
 
 -- the units that end atoms are no operand
-pub one_of_eight : (a b c d e f g h : Bool) → a ≡ false → b ≡ false → c ≡ false → d ≡ false → e ≡ false → f ≡ false → g ≡ false → h ≡ false → (((((((a || b) || c) || d) || e) || f) || g) || h) ≡ false
-one_of_eight a b c d e f g h p q r s t u v w = rw (p, q, r, s, t, u, v, w) refl
+pub one_of_nine : (a b c d e f g h i : Bool) → a ≡ false → b ≡ false → c ≡ false → d ≡ false → e ≡ false → f ≡ false → g ≡ false → h ≡ false → i ≡ false → ((((((((a || b) || c) || d) || e) || f) || g) || h) || i) ≡ false
+one_of_nine a b c d e f g h i p q r s t u v w x = rw (p, q, r, s, t, u, v, w, x) refl
 
 -- Letters that say columns
 

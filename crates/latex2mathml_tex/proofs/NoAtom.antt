@@ -49,6 +49,7 @@ is_left ending.Text place u l m next = refl
 is_left ending.Group place u l m next = refl
 is_left ending.Operand place u l m next = refl
 is_left ending.Degree place u l m next = refl
+is_left ending.BelowArrow place u l m next = refl
 is_left (ending.Delimiters opening) place u l m next = refl
 is_left (ending.Formula ws) place u l m next = refl
 

@@ -5,14 +5,14 @@ use Rattle.latex2mathml_elements.specs.Element.{Element}
 use Rattle.latex2mathml_builder.specs.Built.{Built, elements_in}
 use Rattle.latex2mathml_builder.specs.declared.attributes.Side.{Side}
 use Rattle.latex2mathml_tex_grammar.specs.Atoms.{Atom, Blank, Kind, Nothing, is_parted}
-use Rattle.latex2mathml_tex_grammar.specs.{Makes.Core, Makes.no_scripts, Makes.takes_limits, Reading.Read, Symbols.Style, Units.Units}
+use Rattle.latex2mathml_tex_grammar.specs.{Rules.gives, Makes.Core, Makes.no_scripts, Makes.takes_limits, Reading.Read, Symbols.Style, Units.Units}
 use Rattle.latex2mathml_tex_grammar.specs.Rows.{empty_row, operand_of, row_element, single, with_atom}
-use Rattle.latex2mathml_tex.specs.Frames.{ScriptMade, Start, inside, primes_put, within}
+use Rattle.latex2mathml_tex.specs.Frames.{ScriptMade, Start, inside, last_count, made_of, primes_put, within}
 use Rattle.latex2mathml_tex.specs.Innermost.{IsInnermost, none_begun, on_top}
-use Rattle.latex2mathml_tex.specs.Levels.{CoreMade, OperandMade, ScriptsLead}
+use Rattle.latex2mathml_tex.specs.Levels.{CoreMade, OperandMade, RuleLeads, ScriptsLead}
 use Rattle.latex2mathml_tex.specs.Meanings.{style_of}
 use Rattle.latex2mathml_tex.specs.Models.{core_with, kind_of, operand_with, row_with, script_count, top}
-use Rattle.latex2mathml_tex.specs.Steps.{Follows, Holds, InnermostIs, Ready, TookScript, accepts, elements_of, first_accepts, left_of, operand_made, to_do}
+use Rattle.latex2mathml_tex.specs.Steps.{Begins, Follows, Holds, InnermostIs, Ready, TookScript, accepts, elements_of, first_accepts, left_of, operand_made, to_do}
 use Rattle.latex2mathml_tex.specs.declared.{atoms.Context.Context, atoms.Core.Core as CodeCore, atoms.Operand.Operand as CodeOperand, atoms.Row.Row as CodeRow, atoms.Scripts.Scripts, meaning.Style.Style as CodeStyle, parse.Parser.Parser}
 use Rattle.latex2mathml_tex.specs.declared.parse.State.TheVariants as state
 use Rattle.latex2mathml_tex.specs.Innermost.{frame_context}
@@ -34,6 +34,19 @@ script_taken s p fr c scripts on place context operand i g =
     record {
       style = g.style;
       leads = λ class high. subst (λ ys. ScriptMade (inside s fr.stack.items ys) c scripts on (drop 1 xs) read) others k;
+    }
+
+-- .. and the last operand of a command
+pub last_taken : (s : Start) (p : Parser) (fr : Frames) (last : Last) (place : ℕ) (context : Context) (operand : CodeOperand) → IsInnermost p.style p.frames.stack.items (frame.Last last place context) fr.stack.items → Holds s p (state.Operand operand) → Begins (gives (made_of last (drop 1 (elements_of p)) (operand_with operand (top (elements_of p))))) (last_count last + 1) s (record p { frames = fr })
+last_taken s p fr last place context operand i g =
+    let xs = elements_of p in
+    let y = operand_with operand (top xs) in
+    let k = into_frame (λ l. OperandMade l (Read y (left_of p))) s p.style g.style p.frames.stack.items fr.stack.items (frame.Last last place context) (drop 1 xs) i g.claims in
+    let count : 1 + last_count last ≡ last_count last + 1 = omega arith in
+    let others : drop (last_count last) (drop 1 xs) ≡ drop (last_count last + 1) xs = drop-drop (last_count last) 1 xs ∙ ap (λ n. drop n xs) count in
+    record {
+      style = g.style;
+      leads = subst (λ ys. RuleLeads (gives (made_of last (drop 1 xs) y)) (CoreMade (inside s fr.stack.items ys)) (left_of p)) others k;
     }
 
 -- Within a row scripts may follow the atom

@@ -12,11 +12,11 @@ ascending-commands_from_m : ascending commands_from_m ≡ true
 unfolding commands_from_m ascending
 ascending-commands_from_m = refl
 
-length-commands_up_to_l : length commands_up_to_l ≡ 408
+length-commands_up_to_l : length commands_up_to_l ≡ 410
 unfolding commands_up_to_l
 length-commands_up_to_l = refl
 
-length-commands_from_m : length commands_from_m ≡ 329
+length-commands_from_m : length commands_from_m ≡ 352
 unfolding commands_from_m
 length-commands_from_m = refl
 

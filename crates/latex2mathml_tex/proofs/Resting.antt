@@ -5,15 +5,18 @@ use Rattle.latex2mathml_elements.specs.Element.{Element}
 use Rattle.latex2mathml_builder.specs.Built.{Built, elements_in}
 use Rattle.latex2mathml_tex_grammar.specs.{Meaning.Change, Rows.Row}
 use Rattle.latex2mathml_tex_grammar.specs.Reading.{Outcome, Read, Refused, ReadsAtoms}
-use Rattle.latex2mathml_tex_grammar.specs.Refusal.{Kind, refusal_at}
-use Rattle.latex2mathml_tex_grammar.specs.Rests.{Rest, GoesOnIn, NoRest, finished, rest_of}
+use Rattle.latex2mathml_elements.specs.Colors.{Color}
+use Rattle.latex2mathml_tex_grammar.specs.{Colors.color_of, Meaning.ToColor}
+use Rattle.latex2mathml_tex_grammar.specs.Refusal.{Refusal, UnknownColor, refusal_at}
+use Rattle.latex2mathml_tex_grammar.specs.Scanning.{BeforeArgument, ColorName}
+use Rattle.latex2mathml_tex_grammar.specs.Rests.{Rest, GoesOnIn, NoRest, finished, recolored, rest_behind_name, rest_in, rest_of}
 use Rattle.latex2mathml_tex_grammar.specs.Rules.{Context as RuleContext}
 use Rattle.latex2mathml_tex_grammar.specs.Units.{Units}
 use Rattle.latex2mathml_tex.specs.Frames.{RowMade, Start, Whole, ending_count, ending_of, inside, within}
 use Rattle.latex2mathml_tex.specs.{Errors.refusal_of, Innermost.IsInnermost, Meanings.style_of}
 use Rattle.latex2mathml_tex.specs.Levels.{FollowsChange, Leads, Refuses, RestLeads}
 use Rattle.latex2mathml_tex.specs.Models.{context_of, row_count, row_with}
-use Rattle.latex2mathml_tex.specs.Steps.{BeginsRest, CanBegin, CanMake, Closes, EndsRow, IsLeft, Follows, HasElements, Holds, elements_of, left_of, level, row_makes, to_do}
+use Rattle.latex2mathml_tex.specs.Steps.{BeginsRest, CanBegin, CanMake, Closes, EndsRow, IsLeft, Follows, HasElements, Holds, NoValue, TookValue, has_none, is_missing, elements_of, left_of, level, row_makes, to_do}
 use Rattle.latex2mathml_tex.specs.declared.{atoms.Context.Context, atoms.Row.Row as CodeRow, meaning.Style.Style as CodeStyle, parse.Parser.Parser, unit.Unit.Unit as CodeUnit}
 use Rattle.latex2mathml_tex.specs.declared.parse.State.TheVariants as state
 use Rattle.latex2mathml_tex.specs.declared.parse.frames.{Ending.Ending, Frame.Frame, Frames.Frames}
@@ -57,6 +60,7 @@ closes_by s p ending.Text place xs u rest left style leads = record { style = st
 closes_by s p ending.Group place xs u rest left style leads = record { style = style; leads = rw left at leads }
 closes_by s p ending.Operand place xs u rest left style leads = record { style = style; leads = rw left at leads }
 closes_by s p ending.Degree place xs u rest left style leads = record { style = style; leads = rw left at leads }
+closes_by s p ending.BelowArrow place xs u rest left style leads = record { style = style; leads = rw left at leads }
 closes_by s p (ending.Delimiters opening) place xs u rest left style leads = record { style = style; leads = rw left at leads }
 closes_by s p (ending.Formula ws) place xs u rest left style leads = record { style = style; leads = rw left at leads }
 
@@ -65,6 +69,18 @@ row_finished s p b style row whole is below e place u g =
     closes_by s (record p { builder = b }) e place whole u g.rest g.left g.same_style (made_finished s p b style row whole is below e place g.rest g.leads)
 
 -- What follows a change
+
+-- a change of color, where there is none or where it was taken
+
+abbrev no_color : ℕ → List ℕ → Refusal
+no_color place name = refusal_at (UnknownColor name) place
+
+pub no_color_rest : (c : RuleContext) (row : Row) (place : ℕ) (l : Units) (r : Refusal) → NoValue place (BeforeArgument ColorName) color_of (no_color place) l r → rest_of ToColor c row place l ≡ NoRest r
+no_color_rest c row place l r (is_missing e) = ap (rest_behind_name c row place) e
+no_color_rest c row place l r (has_none {text = name} {m = m} e none) = ap (rest_behind_name c row place) e ∙ ap (rest_in name c row place m) none
+
+pub color_rest : (c : RuleContext) (row : Row) (place : ℕ) (p q : Parser) (color : Color) → TookValue place (BeforeArgument ColorName) color_of (no_color place) p q (Some color) → rest_of ToColor c row place (left_of p) ≡ GoesOnIn c (recolored color c.style row) (left_of q)
+color_rest c row place p q color (same, (name, (is, known))) = ap (rest_behind_name c row place) is ∙ ap (rest_in name c row place (left_of q)) known
 
 module _ (p : Parser) (fr : Frames) (f : Frame) (e : Ending) (at : ℕ) (context : Context) (row : CodeRow) (inner : IsInnermost p.style p.frames.stack.items f fr.stack.items) (is : f ≡ frame.Row e at context row) where
   abbrev others : List Frame
@@ -84,34 +100,45 @@ module _ (p : Parser) (fr : Frames) (f : Frame) (e : Ending) (at : ℕ) (context
         awaits = record { accepted = awaits.0; nested = awaits.1 };
       }
 
+  -- .. also behind units that were taken
+  pub rest_can_behind : (q : Parser) (b : Built) (other : CodeRow) → q ≡ record p { frames = fr; input = q.input } → CanBegin 0 p → drop (row_count other) (elements_in b) ≡ drop (row_count row) (elements_of q) → row_count other ≤ length (elements_in b) → CanMake (row_makes e) (row_count other + ending_count e) (record q { builder = b })
+  rest_can_behind q b other same can own there =
+      let made = rest_can b other can (own ∙ ap (λ (x : Parser). drop (row_count row) (elements_of x)) same) there in
+      subst (λ (x : Parser). CanMake (row_makes e) (row_count other + ending_count e) (record x { builder = b })) (sym same) (record {
+        elements = made.elements;
+        awaits = record { accepted = made.awaits.accepted; nested = made.awaits.nested };
+      })
+
   module _ (s : Start) (change : Change) (place : ℕ) (g : BeginsRest change place s p) where
     -- where the outcome of the row leads
     abbrev RowLeads : Outcome Row → Type 0
     RowLeads = RowMade s e at (drop (row_count row) (elements_of p)) (inside s others (drop (row_count row + ending_count e) (elements_of p)))
 
-    follows : FollowsChange (ending_of e at) RowLeads place (rest_of change (context_of context) (row_with row (elements_of p))) (left_of p)
+    abbrev rest : Rest
+    rest = rest_of change (context_of context) (row_with row (elements_of p)) place (left_of p)
+
+    follows : FollowsChange (ending_of e at) RowLeads rest
     follows = into_frame (λ l. RestLeads change place l (left_of p)) s p.style g.style p.frames.stack.items others (frame.Row e at context row) (elements_of p) at_row g.leads
 
-    abbrev AllLead : RuleContext → Row → List Element → List Element → Type 0
-    AllLead c r own below = (o : Outcome Row) → ReadsAtoms (ending_of e at) c r (left_of p) o → RowMade s e at own (inside s others below) o
+    abbrev AllLead : RuleContext → Row → Units → List Element → List Element → Type 0
+    AllLead c r m own below = (o : Outcome Row) → ReadsAtoms (ending_of e at) c r m o → RowMade s e at own (inside s others below) o
 
     -- it is due within the row's frame
-    pub rest_begins : (new_context : Context) (c : RuleContext) (other : CodeRow) (ys : List Element) (r : Row) → context_of new_context ≡ c → row_with other ys ≡ r → drop (row_count other) ys ≡ drop (row_count row) (elements_of p) → rest_of change (context_of context) (row_with row (elements_of p)) ≡ GoesOnIn c r → Leads (within s others (frame.Row e at new_context other) ys) (left_of p)
-    rest_begins new_context c other ys r same_context same_row own rest =
+    pub rest_begins : (new_context : Context) (c : RuleContext) (other : CodeRow) (ys : List Element) (r : Row) (m : Units) → context_of new_context ≡ c → row_with other ys ≡ r → drop (row_count other) ys ≡ drop (row_count row) (elements_of p) → rest ≡ GoesOnIn c r m → Leads (within s others (frame.Row e at new_context other) ys) m
+    rest_begins new_context c other ys r m same_context same_row own is =
         let xs = elements_of p in
-        let due : AllLead c r (drop (row_count row) xs) (drop (row_count row + ending_count e) xs) = subst (λ (x : Rest). FollowsChange (ending_of e at) RowLeads place x (left_of p)) rest follows in
+        let due : AllLead c r m (drop (row_count row) xs) (drop (row_count row + ending_count e) xs) = subst (λ (x : Rest). FollowsChange (ending_of e at) RowLeads x) is follows in
         let below : drop (row_count other + ending_count e) ys ≡ drop (row_count row + ending_count e) xs =
         sym (drop-drop (ending_count e) (row_count other) ys) ∙ ap (drop (ending_count e)) own ∙ drop-drop (ending_count e) (row_count row) xs in
-        subst (λ d. AllLead d (row_with other ys) (drop (row_count other) ys) (drop (row_count other + ending_count e) ys)) (sym same_context)
-        (subst (λ t. AllLead c t (drop (row_count other) ys) (drop (row_count other + ending_count e) ys)) (sym same_row)
-        (subst (λ zs. AllLead c r zs (drop (row_count other + ending_count e) ys)) (sym own)
-        (subst (λ zs. AllLead c r (drop (row_count row) xs) zs) (sym below) due)))
+        subst (λ d. AllLead d (row_with other ys) m (drop (row_count other) ys) (drop (row_count other + ending_count e) ys)) (sym same_context)
+        (subst (λ t. AllLead c t m (drop (row_count other) ys) (drop (row_count other + ending_count e) ys)) (sym same_row)
+        (subst (λ zs. AllLead c r m zs (drop (row_count other + ending_count e) ys)) (sym own)
+        (subst (λ zs. AllLead c r m (drop (row_count row) xs) zs) (sym below) due)))
 
     -- it is refused
-    pub no_rest : (q : Parser) (kind : Kind) → rest_of change (context_of context) (row_with row (elements_of p)) ≡ NoRest kind → q.style ≡ p.style → refusal_of q.refusal ≡ Some (refusal_at kind place) → Holds s q state.Refused
-    no_rest q kind rest same told =
-        let r = refusal_at kind place in
-        let led : RowLeads (Refused r) = subst (λ (x : Rest). FollowsChange (ending_of e at) RowLeads place x (left_of p)) rest follows in
+    pub no_rest : (q : Parser) (r : Refusal) → rest ≡ NoRest r → q.style ≡ p.style → refusal_of q.refusal ≡ Some r → Holds s q state.Refused
+    no_rest q r is same told =
+        let led : RowLeads (Refused r) = subst (λ (x : Rest). FollowsChange (ending_of e at) RowLeads x) is follows in
         let here : Refuses (level 0 s p) r = out_of_frame (λ l. Refuses l r) s p.style g.style p.frames.stack.items others (frame.Row e at context row) (elements_of p) at_row led in
         record {
           style = g.style ∙ ap style_of (sym same);

@@ -27,6 +27,7 @@ kind_text kind.SecondSubscript = codes "a second subscript"
 kind_text kind.SecondSuperscript = codes "a second superscript"
 kind_text kind.MissingLength = codes "a length is missing"
 kind_text kind.LengthTooLarge = codes "a length of more than 16384 points"
+kind_text (kind.UnknownColor name) = codes "unknown color " ++ name
 kind_text kind.ChangeAsArgument = codes "a command for the rest of a group is no argument"
 kind_text kind.SecondInfix = codes "a second \\over or the like in one group"
 kind_text kind.MissingDelimiter = codes "a delimiter is missing"

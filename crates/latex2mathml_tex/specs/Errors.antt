@@ -24,6 +24,7 @@ kind_of_error kind.SecondSubscript = Some refusal.SecondSubscript
 kind_of_error kind.SecondSuperscript = Some refusal.SecondSuperscript
 kind_of_error kind.MissingLength = Some refusal.MissingLength
 kind_of_error kind.LengthTooLarge = Some refusal.LengthTooLarge
+kind_of_error (kind.UnknownColor name) = Some (refusal.UnknownColor (string_bytes name))
 kind_of_error kind.ChangeAsArgument = Some refusal.ChangeAsArgument
 kind_of_error kind.SecondInfix = Some refusal.SecondInfix
 kind_of_error kind.MissingDelimiter = Some refusal.MissingDelimiter

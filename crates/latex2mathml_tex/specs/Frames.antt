@@ -1,12 +1,12 @@
 -- What the parser's frames stand for: each is a level that was entered. A frame holds no element: what was read for it are
 -- the first of the elements that stand beside it, the uppermost first.
-use Rattle.std.specs.Prelude.{◌≡◌, ℕ, zero, suc, ◌+◌, Bool, IsFalse, List, [], ◌∷◌, drop, reverse, option_map, Some}
-use Rattle.latex2mathml_elements.specs.{Attributes.Above, Element.Element}
+use Rattle.std.specs.Prelude.{◌≡◌, ℕ, zero, suc, ◌+◌, Bool, true, IsFalse, List, [], ◌∷◌, drop, reverse, option_map, Some}
+use Rattle.latex2mathml_elements.specs.{Attributes.Above, Attributes.plain, Element.Element, Element.Mover, Element.Munderover, Element.pair, Element.triple}
 use Rattle.latex2mathml_builder.specs.Names.{side_of, stretch_of}
 use Rattle.latex2mathml_tex_grammar.specs.Makes as makes
 use Rattle.latex2mathml_tex_grammar.specs.Makes.{Core, core, group, classed, operator_name, accent, brace, stack, fraction, square_root, root, between_delimiters, struck, boxed_atom}
 use Rattle.latex2mathml_tex_grammar.specs.Reading.{Outcome, Read, Refused, ReadsAtoms, ReadsRule}
-use Rattle.latex2mathml_tex_grammar.specs.{Formulas.alone, Formulas.formula_context, Symbols.Style, Symbols.InText, Symbols.Relation, Units.Units, Symbols.Ordinary}
+use Rattle.latex2mathml_tex_grammar.specs.{Formulas.alone, Formulas.formula_context, Atoms.Plain, Atoms.atom, Symbols.Style, Symbols.InScript, Symbols.InText, Symbols.Relation, Units.Units, Symbols.Ordinary}
 use Rattle.latex2mathml_tex_grammar.specs.Rows.{Operand, Row, as_base, empty_row, operand_of, row_element}
 use Rattle.latex2mathml_tex_grammar.specs.Rules as rules
 use Rattle.latex2mathml_tex_grammar.specs.Rules.{Context, Rule, gives, of_one, rows_of_text, slashed, struck_atom, takes_delimiter, WholeText, InBraces, InBrackets, InDollars, InDelimiters, InCell}
@@ -53,6 +53,7 @@ ending_of ending.Text place = WholeText
 ending_of ending.Group place = InBraces place
 ending_of ending.Operand place = InBraces place
 ending_of ending.Degree place = InBrackets place
+ending_of ending.BelowArrow place = InBrackets place
 ending_of (ending.Delimiters opening) place = InDelimiters place
 ending_of (ending.Formula ws) place = InDollars place
 ending_of (ending.Cell t) place = InCell (table_end t) place
@@ -69,12 +70,17 @@ context_at (level.words place a K) = formula_context (InText)
 abbrev pub after_delimiters : List ℕ → Row → Rule
 after_delimiters opening row = takes_delimiter (λ closing. gives (between_delimiters opening closing row))
 
+-- an atom of an arrow, what stands below it, and what stands above it
+abbrev pub labeled_arrow : Element → Element → Element → Core
+labeled_arrow sign label above = core (atom (Plain Relation) true (triple Munderover plain sign label above))
+
 -- where the outcome of a row leads, within this level; these elements stand below the row's own
 abbrev pub RowMade : Start → Ending → ℕ → List Element → Level → Outcome Row → Type 0
 RowMade s ending.Text place xs l = Whole s
 RowMade s ending.Group place xs l = Then (λ row. gives (core (group (operand_of row)))) (CoreMade l)
 RowMade s ending.Operand place xs l = λ o. OperandMade l (as_operand o)
 RowMade s ending.Degree place xs l = Then (λ row. of_one place (context_at l) (λ x. root (row_element row.elements) x.element)) (CoreMade l)
+RowMade s ending.BelowArrow place xs l = Then (λ row. of_one place (rules.styled (context_at l) InScript) (λ x. labeled_arrow (top xs) (row_element row.elements) x.element)) (CoreMade l)
 RowMade s (ending.Delimiters opening) place xs l = Then (after_delimiters (delimiter_text opening)) (CoreMade l)
 RowMade s (ending.Formula ws) place xs l = λ o. PartMade l (as_words (words_with ws xs) o)
 RowMade s (ending.Cell t) place xs l = TableMade t place xs (context_at l) (CoreMade l)
@@ -95,6 +101,8 @@ made_of (last.Boxed b style) xs y = core (boxed_atom (box_of b) (as_base (style_
 made_of (last.Fraction rule own) xs y = fraction (fraction_rule_of rule) (option_map style_of own) (top xs) y.element
 made_of (last.Stack s style) xs y = stack (side_of s) y.class (top xs) (as_base (style_of style) y.class y).element
 made_of (last.StackedRelation style) xs y = stack Above Relation (top xs) (as_base (style_of style) Relation y).element
+made_of last.OverArrow xs y = core (atom (Plain Relation) true (pair Mover plain (top xs) y.element))
+made_of last.OverAndUnderArrow xs y = labeled_arrow (top (drop 1 xs)) (top xs) y.element
 
 -- what follows the first of two operands, which stands at a place, in this context, at a level of that context
 abbrev pub after_first : First → ℕ → Context → Context → Operand → Rule
@@ -153,6 +161,7 @@ enter s (frame.Words place a) xs l = level.words place (option_map alphabet_of a
 
 -- how many of the elements beside it belong to a frame
 abbrev pub ending_count : Ending → ℕ
+ending_count ending.BelowArrow = 1
 ending_count (ending.Formula ws) = ws.count
 ending_count (ending.Cell t) = t.cells + t.rows
 ending_count e = 0
@@ -162,6 +171,8 @@ last_count last.Root = 1
 last_count (last.Fraction rule own) = 1
 last_count (last.Stack s style) = 1
 last_count (last.StackedRelation style) = 1
+last_count last.OverArrow = 1
+last_count last.OverAndUnderArrow = 2
 last_count l = 0
 
 abbrev pub element_count : Frame → ℕ

@@ -5,7 +5,7 @@ use Rattle.latex2mathml_tex_grammar.specs.Atoms.{Atom}
 use Rattle.latex2mathml_tex_grammar.specs.Makes.{Core, Scripts, no_scripts}
 use Rattle.latex2mathml_tex_grammar.specs.Meaning.{Change}
 use Rattle.latex2mathml_tex_grammar.specs.Reading.{Outcome, Read, Refused, ReadsAtoms, ReadsOperand, ReadsRule, ReadsScripts, ReadsWord, ReadsWords}
-use Rattle.latex2mathml_tex_grammar.specs.Refusal.{Refusal, refusal_at}
+use Rattle.latex2mathml_tex_grammar.specs.Refusal.{Refusal}
 use Rattle.latex2mathml_tex_grammar.specs.Rests.{Rest, GoesOnIn, NoRest, rest_of}
 use Rattle.latex2mathml_tex_grammar.specs.Rows.{Operand, Row, operand_of, row_element, single, with_atom}
 use Rattle.latex2mathml_tex_grammar.specs.Rules.{Context, Ending, Rule, gives, reads_core}
@@ -86,13 +86,13 @@ Leads (core place c K) l = RuleLeads (reads_core place c (λ x. gives x)) K l
 Leads (part K) l = ⊥
 Leads (words place a K) l = ⊥
 
--- whatever follows a change comes to, it leads to K; the change stands at this place
-abbrev pub FollowsChange : Ending → (Outcome Row → Type 0) → ℕ → Rest → Units → Type 0
-FollowsChange ending K place (GoesOnIn c xs) l = (o : Outcome Row) → ReadsAtoms ending c xs l o → K o
-FollowsChange ending K place (NoRest kind) l = K (Refused (refusal_at kind place))
+-- whatever follows a change comes to, it leads to K
+abbrev pub FollowsChange : Ending → (Outcome Row → Type 0) → Rest → Type 0
+FollowsChange ending K (GoesOnIn c xs l) = (o : Outcome Row) → ReadsAtoms ending c xs l o → K o
+FollowsChange ending K (NoRest r) = K (Refused r)
 
 abbrev pub RestLeads : Change → ℕ → Level → Units → Type 0
-RestLeads change place (row ending c xs K) l = FollowsChange ending K place (rest_of change c xs) l
+RestLeads change place (row ending c xs K) l = FollowsChange ending K (rest_of change c xs place l)
 RestLeads change place level l = ⊥
 
 -- whatever one part of words behind these comes to, it leads on

@@ -1,6 +1,7 @@
 pub mod Alphabets
 pub mod Answers
 pub mod Bodies
+pub mod Colors
 pub mod Defined
 pub mod Delimiters
 pub mod ErrorTexts
@@ -18,6 +19,7 @@ pub mod Numbers
 pub mod Pending
 pub mod Positions
 pub mod Putting
+pub mod ReadRows
 pub mod Runs
 pub mod Scans
 pub mod Shapes

@@ -1,5 +1,6 @@
 -- The meanings of the code's table, as the definitions have them.
 use Rattle.std.specs.Prelude.{ℕ, List, option_map}
+use Rattle.latex2mathml_builder.specs.Arounds.{color_of}
 use Rattle.latex2mathml_builder.specs.Names.{side_of, size_of, stretch_of}
 use Rattle.latex2mathml_tex_grammar.specs.Meaning as meant
 use Rattle.latex2mathml_tex_grammar.specs.Symbols as symbol
@@ -73,6 +74,7 @@ abbrev pub change_of : Change → meant.Change
 change_of (code_change.ToAlphabet x) = meant.ToAlphabet (alphabet_of x)
 change_of (code_change.ToStyle x) = meant.ToStyle (style_of x)
 change_of (code_change.Divides x) = meant.Divides (fraction_rule_of x)
+change_of code_change.ToColor = meant.ToColor
 
 abbrev pub box_of : OperandBox → meant.Box
 box_of code_box.Phantom = meant.Phantom
@@ -88,6 +90,9 @@ box_of code_box.Frame = meant.Frame
 box_of code_box.StrikeUp = meant.StrikeUp
 box_of code_box.StrikeDown = meant.StrikeDown
 box_of code_box.StrikeTwice = meant.StrikeTwice
+box_of (code_box.Raised x) = meant.Raised x
+box_of (code_box.Colored x) = meant.Colored (color_of x)
+box_of (code_box.OnColor x) = meant.OnColor (color_of x)
 
 abbrev pub meaning_of : Meaning → meant.Meaning
 meaning_of (code_meaning.Shows x) = meant.Shows (symbol_of x)
@@ -98,6 +103,12 @@ meaning_of code_meaning.Skip = meant.Skip
 meaning_of code_meaning.SkipInBraces = meant.SkipInBraces
 meaning_of (code_meaning.Boxed x) = meant.Boxed (box_of x)
 meaning_of code_meaning.Smash = meant.Smash
+meaning_of code_meaning.ContinuedFraction = meant.ContinuedFraction
+meaning_of code_meaning.Raise = meant.Raise
+meaning_of code_meaning.InColor = meant.InColor
+meaning_of code_meaning.Highlight = meant.Highlight
+meaning_of code_meaning.Rectangle = meant.Rectangle
+meaning_of (code_meaning.Arrow x) = meant.Arrow x
 meaning_of (code_meaning.Styled x) = meant.Styled (alphabet_of x)
 meaning_of (code_meaning.Words x) = meant.Words (option_map alphabet_of x)
 meaning_of (code_meaning.Fraction x y) = meant.Fraction (fraction_rule_of x) (option_map style_of y)

@@ -2,15 +2,15 @@
 -- beside it, the uppermost first.
 use Rattle.std.specs.Prelude.{ℕ, ◌+◌, Bool, true, false, List, [], ◌∷◌, drop, option_map, Option, Some, None, take}
 use Rattle.latex2mathml_elements.specs.Element.{Element}
-use Rattle.latex2mathml_builder.specs.Stacks.{no_element}
+use Rattle.latex2mathml_builder.specs.{Arounds.color_of, Stacks.no_element}
 use Rattle.latex2mathml_tex_grammar.specs.Atoms as atoms
 use Rattle.latex2mathml_tex_grammar.specs.Makes as makes
 use Rattle.latex2mathml_tex_grammar.specs.Rows as rows
 use Rattle.latex2mathml_tex_grammar.specs.Rules as rules
 use Rattle.latex2mathml_tex_grammar.specs.Words as words
 use Rattle.latex2mathml_tex.specs.Meanings.{alphabet_of, class_of, fraction_rule_of, limit_place_of, style_of}
-use Rattle.latex2mathml_tex.specs.declared.{meaning.FractionRule.FractionRule, meaning.Style.Style}
-use Rattle.latex2mathml_tex.specs.declared.atoms.{Before.Before, Context.Context, Core.Core, Kind.Kind, Operand.Operand, Row.Row, Scripts.Scripts, Words.Words}
+use Rattle.latex2mathml_tex.specs.declared.meaning.FractionRule.{FractionRule}
+use Rattle.latex2mathml_tex.specs.declared.atoms.{Before.Before, Context.Context, Core.Core, Kind.Kind, Operand.Operand, Restyled.Restyled, Row.Row, Scripts.Scripts, Words.Words}
 use Rattle.latex2mathml_tex.specs.declared.atoms.Before.TheVariants as before
 use Rattle.latex2mathml_tex.specs.declared.atoms.Kind.TheVariants as kind
 
@@ -43,26 +43,31 @@ core_with core x = record { atom = atoms.atom (kind_of core.kind) core.high x; l
 abbrev pub operand_with : Operand → Element → rows.Operand
 operand_with operand x = record { element = x; class = class_of operand.class; high = operand.high }
 
--- the change of style in a row, with the elements before it
-abbrev pub restyled_with : Option Style → ℕ → List Element → Option rows.Restyled
+-- the change of style or color in a row, with the elements before it
+abbrev pub restyled_with : Option Restyled → ℕ → List Element → Option rows.Restyled
 restyled_with None settled xs = None
-restyled_with (Some group) settled xs = Some (record { before = take settled xs; group = style_of group })
+restyled_with (Some change) settled xs = Some (record {
+  before = take settled xs;
+  group = style_of change.group;
+  has_own_style = change.has_own_style;
+  color = option_map color_of change.color;
+})
 
 -- what a row stands below
 abbrev pub under_with : Option FractionRule → List Element → Option rows.Upper
 under_with None xs = None
 under_with (Some rule) xs = Some (record { rule = fraction_rule_of rule; element = top xs })
 
--- how many elements stand before a change of style, where there was one
-abbrev pub settled_count : Option Style → ℕ → ℕ
+-- how many elements stand before a change, where there was one
+abbrev pub settled_count : Option Restyled → ℕ → ℕ
 settled_count None settled = 0
-settled_count (Some group) settled = settled
+settled_count (Some change) settled = settled
 
 abbrev pub under_count : Option FractionRule → ℕ
 under_count None = 0
 under_count (Some rule) = 1
 
--- how many elements of a row are below those since the last change of style
+-- how many elements of a row are below those since the last change
 abbrev pub row_rest : Row → ℕ
 row_rest row = settled_count row.restyled row.settled + under_count row.under
 

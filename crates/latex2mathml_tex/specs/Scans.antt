@@ -15,6 +15,7 @@ abbrev pub argument_of : Argument → scanning.Argument
 argument_of argument.Name = scanning.Name
 argument_of argument.ColumnList = scanning.ColumnList
 argument_of argument.Number = scanning.Number
+argument_of argument.ColorName = scanning.ColorName
 
 abbrev pub length_end_of : LengthEnd → scanning.LengthEnd
 length_end_of length_end.AtBracket = scanning.AtBracket

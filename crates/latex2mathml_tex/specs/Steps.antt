@@ -339,6 +339,20 @@ abbrev pub TookText : ℕ → Spot → Parser → Parser → Option (List ℕ) �
 TookText place spot old new (Some text) = (new ≡ record old { input = new.input }) × (scan place (left_of old) spot ≡ Given text (left_of new))
 TookText place spot old new None = (r : Refusal) × ((new ≡ record old { refusal = new.refusal }) × ((refusal_of new.refusal ≡ Some r) × (scan place (left_of old) spot ≡ Missing r)))
 
+-- why nothing is taken: what is to be taken does not stand here, or its text has no value
+pub data NoValue {A : Type 0} (place : ℕ) (spot : Spot) (value : List ℕ → Option A) (no_value : List ℕ → Refusal) (l : Units) : Refusal → Type 0 where
+  is_missing : {r : Refusal} → scan place l spot ≡ Missing r → NoValue place spot value no_value l r
+  has_none : {text : List ℕ} {m : Units} → scan place l spot ≡ Given text m → value text ≡ None → NoValue place spot value no_value l (no_value text)
+
+-- The value of the text that is found from this spot on was taken, or the formula is refused.
+abbrev pub TookValue : {A : Type 0} → ℕ → Spot → (List ℕ → Option A) → (List ℕ → Refusal) → Parser → Parser → Option A → Type 0
+TookValue place spot value no_value old new (Some x) =
+    (new ≡ record old { input = new.input }) × ((text : List ℕ) × ((scan place (left_of old) spot ≡ Given text (left_of new)) × (value text ≡ Some x)))
+TookValue place spot value no_value old new None =
+    (r : Refusal)
+    × ((new ≡ record old { input = new.input; refusal = new.refusal })
+    × ((refusal_of new.refusal ≡ Some r) × ((unit_count (left_of new) ≤ unit_count (left_of old)) × NoValue place spot value no_value (left_of old) r)))
+
 -- what a row leaves that ends with this unit, which was taken: a cell leaves what ends it
 abbrev pub IsLeft : Ending → Unit → Units → Units → Type 0
 IsLeft (ending.Cell t) u rest left = past_space rest ≡ Next (unit_of u) left

@@ -9,6 +9,7 @@ ghost use Rattle.latex2mathml_tex.specs.Meanings.{class_of, limit_place_of, styl
 ghost use Rattle.latex2mathml_tex.specs.{Frames.has_script, Innermost.empty_row, Models.before_of, Models.kind_of};
 
 use crate::meaning::{Alphabet, Class, FractionRule, LimitPlace, Style};
+use latex2mathml_builder::around::Color;
 use latex2mathml_builder::attributes::{MathStyle, Side};
 
 impl Style {
@@ -250,10 +251,21 @@ pub(crate) struct Operand {
     pub(crate) high: bool,
 }
 
+/// A change of style or color in a row.
+#[derive(Clone, Copy)]
+pub(crate) struct Restyled {
+    /// The style of the group.
+    pub(crate) group: Style,
+    /// Whether the style was changed.
+    pub(crate) has_own_style: bool,
+    /// The color of what stands after the change, if there is one.
+    pub(crate) color: Option<Color>,
+}
+
 /// Atoms side by side. Their elements are the uppermost ones.
 #[derive(Clone, Copy)]
 pub(crate) struct Row {
-    /// How many elements there are since the last change of style.
+    /// How many elements there are since the last change of style or color.
     pub(crate) count: usize,
     /// What the next atom stands behind.
     pub(crate) before: Before,
@@ -263,8 +275,8 @@ pub(crate) struct Row {
     pub(crate) high: bool,
     /// The class of the row as the base of a mark.
     pub(crate) class: Class,
-    /// The style of its group, if the style was changed in it.
-    pub(crate) restyled: Option<Style>,
+    /// That change, if there was one.
+    pub(crate) restyled: Option<Restyled>,
     /// How many elements stand before that change, below the others.
     pub(crate) settled: usize,
     /// The rule of the fraction whose lower part it is, if it is one. The upper part is below the others.

@@ -1,14 +1,16 @@
 //! From the text of a formula to its markup.
 ghost use Rattle.std.specs.Prelude.{◌≡◌, ℕ, ◌++◌, ◌≤◌, [], IfOk, List, OnOk, length, reverse, string_bytes, take};
 ghost use Rattle.std.specs.Str.{chars};
-ghost use Rattle.latex2mathml_elements.specs.{Characters.IsAllowed, Dollars.IsDollarFree, Element.children, Print.formula_print, Print.math_tag};
+ghost use Rattle.latex2mathml_elements.specs.{Characters.IsAllowed, Dollars.IsDollarFree, Element.children};
+ghost use Rattle.latex2mathml_elements.specs.Annotated.{IsAnnotatedMathElement, alternative_start, annotated_print};
+ghost use Rattle.latex2mathml_elements.specs.Print.{formula_print, math_tag};
 ghost use Rattle.latex2mathml_builder.specs.Built.{elements_in, nothing};
 ghost use Rattle.latex2mathml_trees.specs.MathSchema.{IsMathElement};
-ghost use Rattle.latex2mathml_tex.specs.{Answers.IsAnswer, Answers.IsRefusal, Answers.style_in, Errors.IfRefused, Errors.is_outside_error, MacroTables.AreDefined, MacroTables.Holding};
-ghost use Rattle.latex2mathml_tex.specs.{Frames.ReadsAs, Left.units_at, Meanings.style_of, Steps.left_of, Whole.whole_units};
-ghost use Rattle.latex2mathml_tex_grammar.specs.{Formulas.ReadsFormula, Formulas.row_print, Makes.is_display, Rows.Row};
-ghost use Rattle.latex2mathml_tex_grammar.specs.{Reading.Read, Reading.Refused, Units.End};
+ghost use Rattle.latex2mathml_tex.specs.{Answers.IsAnswer, Answers.IsAnswerWithSource, Answers.IsRefusal, Answers.style_in, Errors.IfRefused, Errors.is_outside_error, MacroTables.AreDefined, MacroTables.Holding};
+ghost use Rattle.latex2mathml_tex.specs.{Frames.ReadsAs, Left.units_at, Meanings.style_of, Models.top, ReadRows.AreUppermost, ReadRows.HasRead, Steps.left_of, Whole.whole_units};
+ghost use Rattle.latex2mathml_tex_grammar.specs.{Formulas.IsReading, Formulas.ReadsFormula, Formulas.source_text, Makes.is_display, Reading.Refused, Rows.Row};
 
+use crate::annotation::{append_alternative, append_annotation};
 use crate::error::{TexError, TexErrorKind};
 use crate::macros::expander::Expander;
 use crate::macros::table::Macros;
@@ -16,6 +18,7 @@ use crate::macros::whole::Whole;
 use crate::meaning::Style;
 use crate::parse::frames::Frames;
 use crate::parse::{Form, Parser};
+use crate::shapes::put_row;
 use crate::unit::Unit;
 use latex2mathml_builder::builder::Builder;
 use latex2mathml_builder::works::Works;
@@ -66,6 +69,42 @@ pub fn tex_to_mathml<'a>(
     Ok(markup)
 }
 
+/// The same, with the formula itself beside it: the `math` element holds one `semantics` element, and this the element that is
+/// shown and an `annotation` with the text of the formula. So a formula that is copied from a page takes its LaTeX along. The text
+/// is the `alttext` of the `math` element as well, for what cannot show it.
+///
+/// What is shown stands in one element, which is an `mrow` if the answer of [`tex_to_mathml`] has none or several. The text is
+/// escaped as every text is. In comments it may hold characters that XML forbids; for each of them stands U+FFFD.
+///
+/// # Errors
+///
+/// As those of [`tex_to_mathml`].
+///
+/// An answer is one `math` element with the children that MathML allows. It holds no character that XML forbids, and no dollar
+/// sign.
+///
+/// `x<y`, inline, is `<math xmlns="http://www.w3.org/1998/Math/MathML"
+/// display="inline" alttext="x&lt;y"><semantics><mrow><mi>x</mi><mo>&lt;</mo><mi>y</mi></mrow><annotation
+/// encoding="application/x-tex">x&lt;y</annotation></semantics></math>`.
+pub fn tex_to_mathml_with_source<'a>(
+    alloc: Global,
+    macros: &Macros<'a>,
+    tex: &'a str,
+    display: DisplayStyle,
+) -> Result<String, TexError>
+    ensures answer { Holding macros.now (λ table. IfOk result (λ markup.
+        IsAnswerWithSource table tex.now (style_in display) (string_bytes markup))) }
+    ensures refusal { Holding macros.now (λ table.
+        IfRefused result (IsRefusal table tex.now (style_in display))) }
+    ensures element { IfOk result (λ markup. IsAnnotatedMathElement (string_bytes markup)) }
+    ensures characters { AreDefined macros.now → IfOk result (λ markup. IsAllowed (string_bytes markup)) }
+    ensures dollars { IfOk result (λ markup. IsDollarFree (string_bytes markup)) }
+{
+    let mut markup = String::new(alloc);
+    Converter::new(alloc).append_with_source(&mut markup, macros, tex, display)?;
+    Ok(markup)
+}
+
 /// Converts formulas, one after another. It keeps the room that it works in from each to the next, and borrows all of them for
 /// one lifetime.
 #[derive(Drop)]
@@ -105,52 +144,76 @@ impl<'a> Converter<'a> {
             IfRefused result (IsRefusal table tex.now (style_in display))) }
         ensures unchanged { IfRefused result (λ r. string_bytes text.new ≡ string_bytes text.old) }
     {
+        let count = self.read(macros, tex, display)?;
+        write_math(&self.builder, count, display, &mut self.works, text)?;
+        Ok(())
+    }
+
+    /// The same for what [`tex_to_mathml_with_source`] answers.
+    pub fn append_with_source(
+        &mut self,
+        text: &mut String,
+        macros: &Macros<'a>,
+        tex: &'a str,
+        display: DisplayStyle,
+    ) -> Result<(), TexError>
+        ensures answer { Holding macros.now (λ table. OnOk result ((markup : List ℕ)
+            × IsAnswerWithSource table tex.now (style_in display) markup
+            × (string_bytes text.new ≡ string_bytes text.old ++ markup))) }
+        ensures refusal { Holding macros.now (λ table.
+            IfRefused result (IsRefusal table tex.now (style_in display))) }
+        ensures unchanged { IfRefused result (λ r. string_bytes text.new ≡ string_bytes text.old) }
+    {
+        let count = self.read(macros, tex, display)?;
+        put_row(&mut self.builder, count)?;
+        write_annotated_math(&self.builder, tex, display, &mut self.works, text)?;
+        Ok(())
+    }
+
+    /// Reads a formula. Its elements are then the uppermost ones of the builder. Returns how many there are.
+    fn read(
+        &mut self,
+        macros: &Macros<'a>,
+        tex: &'a str,
+        display: DisplayStyle,
+    ) -> Result<usize, TexError>
+        ensures reading { Holding macros.now (λ table. IfOk result (λ count. (row : Row)
+            × IsReading table (chars tex.now) (style_in display) row
+            × AreUppermost row count (elements_in self.new.builder))) }
+        ensures refusal { Holding macros.now (λ table.
+            IfRefused result (IsRefusal table tex.now (style_in display))) }
+    {
         let room = mem::replace(&mut self.units, Vec::new(self.alloc));
         let whole = Expander::new(self.alloc, macros, tex).take_all(room)?;
-        let result = self.append_units(text, &whole, style_for(display));
+        let result = self.read_units(&whole, style_for(display));
         self.units = whole.units;
         result
     }
 
-    /// Appends the markup of a formula that expands to these units. Where `&` or `\\` stands outside of all tables, it is read
-    /// once more, as rows.
-    fn append_units(
-        &mut self,
-        text: &mut String,
-        whole: &Whole,
-        style: Style,
-    ) -> Result<(), TexError>
-        ensures answer { OnOk result ((row : Row) × ((at : ℕ)
-            × ReadsFormula (style_of style) (whole_units whole.now) (Read row (End at))
-            × (string_bytes text.new ≡ string_bytes text.old ++ row_print (style_of style) row))) }
+    /// Reads a formula that expands to these units. Where `&` or `\\` stands outside of all tables, it is read once more, as
+    /// rows.
+    fn read_units(&mut self, whole: &Whole, style: Style) -> Result<usize, TexError>
+        ensures reading { IfOk result (λ count.
+            HasRead (ReadsFormula (style_of style) (whole_units whole.now)) count (elements_in self.new.builder)) }
         ensures refusal { IfRefused result (λ r.
             ReadsFormula (style_of style) (whole_units whole.now) (Refused r)) }
-        ensures unchanged { IfRefused result (λ r. string_bytes text.new ≡ string_bytes text.old) }
     {
-        let result = self.append_as(Form::Atoms, text, whole, style);
+        let result = self.read_as(Form::Atoms, whole, style);
         if is_outside_table(&result) {
-            return self.append_as(Form::Rows, text, whole, style);
+            return self.read_as(Form::Rows, whole, style);
         }
         result
     }
 
-    /// Appends the markup of a formula that expands to these units and is read in this form.
-    fn append_as(
-        &mut self,
-        form: Form,
-        text: &mut String,
-        whole: &Whole,
-        style: Style,
-    ) -> Result<(), TexError>
-        ensures answer { OnOk result ((row : Row) × ((at : ℕ)
-            × ReadsAs form (style_of style) (whole_units whole.now) (Read row (End at))
-            × (string_bytes text.new ≡ string_bytes text.old ++ row_print (style_of style) row))) }
+    /// Reads a formula that expands to these units in this form.
+    fn read_as(&mut self, form: Form, whole: &Whole, style: Style) -> Result<usize, TexError>
+        ensures reading { IfOk result (λ count.
+            HasRead (ReadsAs form (style_of style) (whole_units whole.now)) count (elements_in self.new.builder)) }
         ensures refusal { IfRefused result (λ r.
             ReadsAs form (style_of style) (whole_units whole.now) (Refused r)) }
-        ensures unchanged { IfRefused result (λ r. string_bytes text.new ≡ string_bytes text.old) }
     {
         let mut parser = self.parser(whole, style);
-        let result = render(&mut parser, form, &mut self.works, text);
+        let result = read_formula(&mut parser, form);
         self.frames = mem::replace(&mut parser.frames, Frames::new(self.alloc));
         self.builder = mem::replace(&mut parser.builder, Builder::new(self.alloc));
         result
@@ -172,7 +235,7 @@ impl<'a> Converter<'a> {
 }
 
 /// Whether a formula is refused because of `&` or `\\`.
-fn is_outside_table(answer: &Result<(), TexError>) -> bool
+fn is_outside_table(answer: &Result<usize, TexError>) -> bool
     ensures { result ≡ is_outside_error answer.now }
 {
     matches!(
@@ -184,54 +247,82 @@ fn is_outside_table(answer: &Result<(), TexError>) -> bool
     )
 }
 
-/// Appends the markup of the formula that a parser is to read in this form.
-fn render(
-    parser: &mut Parser,
-    form: Form,
-    works: &mut Works,
-    text: &mut String,
-) -> Result<(), TexError>
+/// Reads the formula that a parser is to read, in this form. Returns how many elements it has.
+fn read_formula(parser: &mut Parser, form: Form) -> Result<usize, TexError>
     requires { parser.old.frames.stack.items ≡ [] }
-    ensures answer { OnOk result ((row : Row) × ((at : ℕ)
-        × ReadsAs form (style_of parser.old.style) (left_of parser.old) (Read row (End at))
-        × (string_bytes text.new ≡ string_bytes text.old ++ row_print (style_of parser.old.style) row))) }
+    ensures reading { IfOk result (λ count.
+        HasRead (ReadsAs form (style_of parser.old.style) (left_of parser.old)) count (elements_in parser.new.builder)) }
     ensures refusal { IfRefused result (λ r.
         ReadsAs form (style_of parser.old.style) (left_of parser.old) (Refused r)) }
-    ensures unchanged { IfRefused result (λ r. string_bytes text.new ≡ string_bytes text.old) }
 {
-    let Some(count) = parser.finish(form)? else {
-        return Err(parser.refusal());
-    };
-    write_math(&parser.builder, count, parser.style, works, text)?;
-    Ok(())
+    match parser.finish(form)? {
+        Some(count) => Ok(count),
+        None => Err(parser.refusal()),
+    }
 }
 
 /// Appends a `math` element of so many of the uppermost elements.
 fn write_math(
     builder: &Builder,
     count: usize,
-    style: Style,
+    display: DisplayStyle,
     works: &mut Works,
     text: &mut String,
 ) -> Result<(), AllocError>
     requires { count ≤ length (elements_in builder.now) }
     ensures { OnOk result (string_bytes text.new ≡ string_bytes text.old
-        ++ formula_print (is_display (style_of style)) (children (reverse (take count (elements_in builder.now))))) }
+        ++ formula_print (is_display (style_in display)) (children (reverse (take count (elements_in builder.now))))) }
 {
-    text.push_str(opening_tag(style))?;
+    text.push_str(opening_tag(display))?;
     builder.write(count, works, text)?;
     text.push_str("</math>")?;
     Ok(())
 }
 
-fn opening_tag(style: Style) -> &'static str
-    ensures { result.now ≡ math_tag (is_display (style_of style)) }
+/// Appends a `math` element of the uppermost element, with the text of the formula as an annotation.
+fn write_annotated_math(
+    builder: &Builder,
+    tex: &str,
+    display: DisplayStyle,
+    works: &mut Works,
+    text: &mut String,
+) -> Result<(), AllocError>
+    requires { 1 ≤ length (elements_in builder.now) }
+    ensures { OnOk result (string_bytes text.new ≡ string_bytes text.old
+        ++ annotated_print (is_display (style_in display)) (top (elements_in builder.now)) (source_text (chars tex.now))) }
 {
-    match style {
-        Style::InDisplay => {
+    text.push_str(alternative_start(display))?;
+    append_alternative(tex, text)?;
+    text.push_str("\"><semantics>")?;
+    builder.write(1, works, text)?;
+    append_annotation(tex, text)?;
+    text.push_str("</semantics></math>")?;
+    Ok(())
+}
+
+fn opening_tag(display: DisplayStyle) -> &'static str
+    ensures { result.now ≡ math_tag (is_display (style_in display)) }
+{
+    match display {
+        DisplayStyle::Block => {
             "<math xmlns=\"http://www.w3.org/1998/Math/MathML\" display=\"block\">"
         }
-        _ => "<math xmlns=\"http://www.w3.org/1998/Math/MathML\" display=\"inline\">",
+        DisplayStyle::Inline => {
+            "<math xmlns=\"http://www.w3.org/1998/Math/MathML\" display=\"inline\">"
+        }
+    }
+}
+
+fn alternative_start(display: DisplayStyle) -> &'static str
+    ensures { result.now ≡ alternative_start (is_display (style_in display)) }
+{
+    match display {
+        DisplayStyle::Block => {
+            "<math xmlns=\"http://www.w3.org/1998/Math/MathML\" display=\"block\" alttext=\""
+        }
+        DisplayStyle::Inline => {
+            "<math xmlns=\"http://www.w3.org/1998/Math/MathML\" display=\"inline\" alttext=\""
+        }
     }
 }
 

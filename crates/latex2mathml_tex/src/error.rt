@@ -32,7 +32,7 @@ pub enum TexErrorKind {
     UnopenedBrace,
     RightWithoutLeft,
     MiddleWithoutLeft,
-    /// `\limits` or `\nolimits` that stands after no operator.
+    /// `\limits` or the like that stands after no operator.
     LimitsWithoutOperator,
     SecondSubscript,
     SecondSuperscript,
@@ -40,6 +40,8 @@ pub enum TexErrorKind {
     MissingLength,
     /// A length of more than 16384 points.
     LengthTooLarge,
+    /// No color has this name.
+    UnknownColor(String),
     /// A command for the rest of its group that stands where an argument is to stand.
     ChangeAsArgument,
     /// A second `\over` or the like in one group.
@@ -122,6 +124,7 @@ impl fmt::Display for TexErrorKind {
             TexErrorKind::SecondSuperscript => f.write_str("a second superscript"),
             TexErrorKind::MissingLength => f.write_str("a length is missing"),
             TexErrorKind::LengthTooLarge => f.write_str("a length of more than 16384 points"),
+            TexErrorKind::UnknownColor(name) => write!(f, "unknown color {name}"),
             TexErrorKind::ChangeAsArgument => f.write_str(
                 "a command for the rest of a group is no argument",
             ),

@@ -1,6 +1,7 @@
 //! LaTeX as authors write it, turned into MathML.
 //!
 //! - [`tex_to_mathml`] converts a formula to a `math` element.
+//! - [`tex_to_mathml_with_source`] also puts the text of the formula into it.
 //! - [`Macros`] are the macros that a formula may use.
 //! - [`Converter`] converts one formula after another, and keeps its memory.
 //! - [`TexError`] says why a formula is refused, and where.
@@ -9,7 +10,10 @@
 #![tactic(auto)]
 
 mod alphabets;
+mod annotation;
 mod atoms;
+mod boxes;
+mod colors;
 mod commands;
 mod convert;
 mod delimiters;
@@ -31,7 +35,7 @@ mod shapes;
 mod signs;
 mod unit;
 
-pub use convert::{Converter, tex_to_mathml};
+pub use convert::{Converter, tex_to_mathml, tex_to_mathml_with_source};
 pub use error::{TexError, TexErrorKind};
 pub use latex2mathml_tokens::DisplayStyle;
 pub use macros::table::Macros;

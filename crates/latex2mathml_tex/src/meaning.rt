@@ -1,4 +1,5 @@
 //! What the names of commands mean.
+use latex2mathml_builder::around::Color;
 use latex2mathml_builder::attributes::{Side, Size, Stretch};
 
 /// The class of an atom.
@@ -82,6 +83,8 @@ pub(crate) enum Change {
     ToStyle(Style),
     /// All is the lower part of a fraction, and what stands before it the upper one.
     Divides(FractionRule),
+    /// All is in the color that stands next.
+    ToColor,
 }
 
 /// What is made of the box of an operand.
@@ -111,6 +114,12 @@ pub(crate) enum OperandBox {
     StrikeDown,
     /// Both.
     StrikeTwice,
+    /// It stands so many thousandths of an em above its place.
+    Raised(i32),
+    /// It is in this color.
+    Colored(Color),
+    /// It lies on this color.
+    OnColor(Color),
 }
 
 /// What a command means.
@@ -132,12 +141,24 @@ pub(crate) enum Meaning {
     Boxed(OperandBox),
     /// Its operand in a box without height or depth.
     Smash,
+    /// Its operand, raised by the length that stands next in braces.
+    Raise,
+    /// Its operand in the color that stands next.
+    InColor,
+    /// Its operand on the color that stands next.
+    Highlight,
+    /// A black rectangle of two lengths in braces. A length in brackets before them raises it.
+    Rectangle,
+    /// An arrow that is as long as what stands above it, and below it in brackets.
+    Arrow(char),
     /// Its operand in an alphabet.
     Styled(Alphabet),
     /// Words, which may have an alphabet.
     Words(Option<Alphabet>),
     /// A fraction, which may have a style of its own.
     Fraction(FractionRule, Option<Style>),
+    /// A fraction in the style of a block, whose numerator may be pushed to a side.
+    ContinuedFraction,
     Root,
     /// A mark on one operand.
     Accent(Side, char, Stretch),

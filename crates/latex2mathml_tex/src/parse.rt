@@ -6,15 +6,18 @@ ghost use Rattle.latex2mathml_tex_grammar.specs.Refusal.{MissingDelimiter, refus
 ghost use Rattle.latex2mathml_tex.specs.{Errors.refusal_of, Frames.Start, Frames.element_count, Left.units_at, Levels.Leads, Meanings.style_of, Taking.kind_of, Whole.whole_units};
 ghost use Rattle.latex2mathml_tex.specs.Steps.{CanMake, Holds, HoldsIn, IsStep, LeadsOn, Ready, accepts, core_made, frame_weight, last_state, left_of, level_within, makes, start_of, state_weight};
 
+mod arrows;
 mod begin;
 mod boxes;
 mod deliver;
+mod fractions;
 pub(crate) mod frames;
 mod leaves;
 mod rows;
 pub(crate) mod scripts;
 mod symbols;
 mod tables;
+mod values;
 mod words;
 
 use crate::atoms::{Core, Operand, Scripts, Words};

@@ -4,7 +4,7 @@ ghost use Rattle.std.specs.Str.{chars};
 ghost use Rattle.latex2mathml_tex_grammar.specs.Cutting.{units_of};
 ghost use Rattle.latex2mathml_tex.specs.Taking.{Takes};
 
-mod characters;
+pub(crate) mod characters;
 mod slices;
 
 use crate::reader::slices::{Start, front};

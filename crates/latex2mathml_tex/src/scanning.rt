@@ -1,4 +1,4 @@
-//! What each unit does where the name of an environment, its columns or a length is taken unit by unit. A spot says where it
+//! What each unit does where the name of an environment, its columns, a color or a length is taken unit by unit. A spot says where it
 //! stands. White space is nothing.
 ghost use Rattle.std.specs.Prelude.{◌≡◌, ℕ, [], Some};
 ghost use Rattle.latex2mathml_tex_grammar.specs.Refusal.{refusal_at};
@@ -23,6 +23,8 @@ pub(crate) enum Argument {
     ColumnList,
     /// A number, which means nothing here.
     Number,
+    /// The name of a color.
+    ColorName,
 }
 
 /// What ends a length.
@@ -116,6 +118,10 @@ fn character_deed(argument: Argument, c: char) -> Deed
         Argument::Name => Deed::Adds(c, Spot::InArgument(Argument::Name)),
         Argument::ColumnList => column_deed(c),
         Argument::Number => passes_if(c.is_ascii_digit(), Spot::InArgument(Argument::Number)),
+        Argument::ColorName if c.is_ascii_alphanumeric() || c == '#' => {
+            Deed::Adds(c, Spot::InArgument(Argument::ColorName))
+        }
+        Argument::ColorName => Deed::Misses,
     }
 }
 
@@ -127,7 +133,7 @@ fn argument_deed(argument: Argument, piece: Piece) -> Deed
         Piece::Close => Deed::Ends,
         Piece::Open | Piece::Space | Piece::Command(_) => match argument {
             Argument::ColumnList => Deed::Refuses,
-            Argument::Name | Argument::Number => Deed::Misses,
+            Argument::Name | Argument::Number | Argument::ColorName => Deed::Misses,
         },
     }
 }

@@ -2,20 +2,19 @@
 ghost use Rattle.std.specs.Prelude.{◌≡◌, ◌+◌, ◌≤◌, ◌&&◌, ◌∷◌, [], false, true, IfOk, OnOk, drop, length, option_map, take};
 ghost use Rattle.latex2mathml_elements.specs.{Attributes.plain, Element.Element, Element.pair};
 ghost use Rattle.latex2mathml_elements.specs.Attributes as attributes;
-ghost use Rattle.latex2mathml_builder.specs.{Arounds.element_around, Built.elements_in};
+ghost use Rattle.latex2mathml_builder.specs.Built.{elements_in};
 ghost use Rattle.latex2mathml_builder.specs.Names.{attributes_of, pair_of, side_of, size_of, space_of, stretch_of};
 ghost use Rattle.latex2mathml_tex_grammar.specs.Atoms;
 ghost use Rattle.latex2mathml_tex_grammar.specs.Makes;
 ghost use Rattle.latex2mathml_tex_grammar.specs.Meaning;
 ghost use Rattle.latex2mathml_tex_grammar.specs.Rows;
-ghost use Rattle.latex2mathml_tex.specs.Meanings.{box_of, class_of, style_of};
+ghost use Rattle.latex2mathml_tex.specs.Meanings.{class_of, style_of};
 ghost use Rattle.latex2mathml_tex.specs.Models.{before_of, core_with, kind_of, row_rest, row_with, top};
-ghost use Rattle.latex2mathml_tex.specs.Shapes.{changed_at, delimiter_element, mapped_first, mark_element, within_any};
+ghost use Rattle.latex2mathml_tex.specs.Shapes.{changed_at, delimiter_element, mapped_first, mark_element};
 ghost use Rattle.latex2mathml_tex.specs.Delimiters.{delimiter_text};
 
 use crate::atoms::{Before, Core, Kind, Row};
-use crate::meaning::{Class, OperandBox, Style};
-use latex2mathml_builder::around::{Around, Boxing};
+use crate::meaning::{Class, Style};
 use latex2mathml_builder::attributes::{Attributes, Form, Side, Size, Space, Stretch};
 use latex2mathml_builder::builder::Builder;
 use latex2mathml_builder::tag::{Container, Pair, Token};
@@ -409,45 +408,15 @@ fn put_mark(
     builder.pair(pair_on(side), attributes, false)
 }
 
-/// The uppermost element in a box.
-pub(crate) fn put_in_box(builder: &mut Builder, operand_box: OperandBox) -> Result<(), AllocError>
-    requires { 1 ≤ length (elements_in builder.old) }
-    ensures { OnOk result (elements_in builder.new
-        ≡ Makes.in_box (box_of operand_box) (top (elements_in builder.old)) ∷ drop 1 (elements_in builder.old)) }
+/// Puts an arrow that is as long as what stands above and below it.
+pub(crate) fn put_arrow(builder: &mut Builder, sign: char) -> Result<(), AllocError>
+    ensures { OnOk result (elements_in builder.new ≡ Makes.arrow_sign sign ∷ elements_in builder.old) }
 {
-    let (inner, outer) = boxes(operand_box);
-    if let Some(around) = inner {
-        builder.surround(around)?;
-    }
-    builder.surround(outer)
-}
-
-/// What is put around an element in a box: first the one, if there is one, and then the other.
-fn boxes(operand_box: OperandBox) -> (Option<Around>, Around)
-    ensures { (x : Element) → Makes.in_box (box_of operand_box) x
-        ≡ element_around result.1 (within_any result.0 x) }
-{
-    match operand_box {
-        OperandBox::Phantom => (None, Around::Unseen),
-        OperandBox::PhantomWidth => (Some(Around::Unseen), Around::Boxed(Boxing::Flat)),
-        OperandBox::PhantomHeight => (Some(Around::Unseen), Around::Boxed(Boxing::NoWidth)),
-        OperandBox::Smashed => (None, Around::Boxed(Boxing::Flat)),
-        OperandBox::WithoutHeight => (None, Around::Boxed(Boxing::NoHeight)),
-        OperandBox::WithoutDepth => (None, Around::Boxed(Boxing::NoDepth)),
-        OperandBox::OverRight => (None, Around::Boxed(Boxing::NoWidth)),
-        OperandBox::OverLeft => (
-            Some(Around::Boxed(Boxing::ByItsWidth)),
-            Around::Boxed(Boxing::NoWidth),
-        ),
-        OperandBox::OverBoth => (
-            Some(Around::Boxed(Boxing::ByHalfItsWidth)),
-            Around::Boxed(Boxing::NoWidth),
-        ),
-        OperandBox::Frame => (None, Around::Boxed(Boxing::Framed)),
-        OperandBox::StrikeUp => (None, Around::Boxed(Boxing::StruckUp)),
-        OperandBox::StrikeDown => (None, Around::Boxed(Boxing::StruckDown)),
-        OperandBox::StrikeTwice => (None, Around::Boxed(Boxing::StruckTwice)),
-    }
+    let attributes = Attributes {
+        stretch: Some(Stretch::Stretching),
+        ..Attributes::plain()
+    };
+    builder.character(Token::Mo, attributes, sign)
 }
 
 /// The element below the uppermost one as a mark on it.

@@ -5,12 +5,13 @@ use Rattle.std.specs.{Char.is_ascii_alphabetic, Char.is_ascii_digit, Str.byte, S
 use Rattle.latex2mathml_elements.specs.Element.{Element}
 use Rattle.latex2mathml_elements.specs.Columns.{Columns}
 use Rattle.latex2mathml_tex_grammar.specs.Environments.{Environment, environment_of}
-use Rattle.latex2mathml_tex_grammar.specs.Scanning.{Spot, Argument, Name, ColumnList, Number}
+use Rattle.latex2mathml_tex_grammar.specs.Scanning.{Spot, Argument, Name, ColumnList, Number, ColorName, InLength, AtBracket, AtUnit, BeforeLengthInBraces}
 use Rattle.latex2mathml_tex_grammar.specs.Tables.{Lines}
 use Rattle.latex2mathml_tex_grammar.specs.{Commands.meaning_of, Commands.symbol_of, Delimiters.delimiter_of, Makes.Core, Refusal.Refusal, Rows.Row, Rows.Operand, Symbols.Alphabet, Symbols.Symbol, Words.Words}
-use Rattle.latex2mathml_tex_grammar.specs.Meaning.{Meaning, Shows, FunctionName, Dots, Spacing, Styled, Words as TakesWordsIn, Fraction, Root, Accent, Brace, Stack, StackedRelation, OperatorName, Negation, Slash, Sized, Left, Middle, Right, Limits, NoLimits, Classed, Changes, BeginTable, EndTable, LineBreak, Substack, Skip, SkipInBraces, Boxed, Smash}
-use Rattle.latex2mathml_tex_grammar.specs.Rules.{Context, Ending, WholeText, InBraces, InBrackets, InDollars, InDelimiters, Rule, gives, refuses, reads_operand, reads_core, reads_atoms, reads_words, takes_if, if_follows, takes_digits, takes_delimiter, of_one, of_two, decimal, after_digits, a_number, a_symbol, begins_none, character_rule, struck_atom, command_rule, rule, TableEnd, ByName, ByBrace, InCell, takes_found, passes_over, reads_rows, ended_table, rows_rule, listed_rule, argument_rule, position_rule, environment_rule, most_columns, ByText, wide_rule, in_brackets}
-use Rattle.latex2mathml_tex_grammar.specs.Lengths.{width_of}
+use Rattle.latex2mathml_tex_grammar.specs.Meaning.{Meaning, Shows, FunctionName, Dots, Spacing, Styled, Words as TakesWordsIn, Fraction, Root, Accent, Brace, Stack, StackedRelation, OperatorName, Negation, Slash, Sized, Left, Middle, Right, Limits, NoLimits, Classed, Changes, BeginTable, EndTable, LineBreak, Substack, Skip, SkipInBraces, Boxed, Smash, ContinuedFraction, Raise, InColor, Highlight, Rectangle, Arrow}
+use Rattle.latex2mathml_tex_grammar.specs.Rules.{Context, Ending, WholeText, InBraces, InBrackets, InDollars, InDelimiters, Rule, gives, refuses, reads_operand, reads_core, reads_atoms, reads_words, takes_if, if_follows, takes_digits, takes_delimiter, of_one, of_two, decimal, after_digits, a_number, a_symbol, begins_none, character_rule, struck_atom, command_rule, rule, TableEnd, ByName, ByBrace, InCell, takes_found, passes_over, reads_rows, ended_table, rows_rule, listed_rule, argument_rule, position_rule, environment_rule, most_columns, ByText, in_brackets, with_value, a_length, a_bar, a_color}
+use Rattle.latex2mathml_tex_grammar.specs.{Colors.color_of, Lengths.width_of}
+use Rattle.latex2mathml_elements.specs.Colors.{Color}
 use Rattle.latex2mathml_tex_grammar.specs.Spacing.{Standing, BeforeWords, InWords, BetweenDollars, standing_behind, behind_unit, takes_words, AreAlike, same_piece}
 use Rattle.latex2mathml_tex_grammar.specs.Starts.{atom_start, ends, unended, is_close, is_character, is_command, left_behind, is_break}
 use Rattle.latex2mathml_tex_grammar.specs.Units.{Piece, Space, Open, Close, Command, Character, Unit, Units}
@@ -234,6 +235,7 @@ argument_too p q c name e None = rows_of_too p q c name e _
 argument_too p q c name e (Some ColumnList) = scanned_too (λ letters. listed_too p q c name e letters)
 argument_too p q c name e (Some Number) = scanned_too (λ number. rows_of_too p q c name e _)
 argument_too p q c name e (Some Name) = rows_of_too p q c name e _
+argument_too p q c name e (Some ColorName) = rows_of_too p q c name e _
 
 position_too : {at : Standing} {r s : Rule} (b : Bool) → AlikeRules at at r s → AlikeRules at at (position_rule b r) (position_rule b s)
 position_too true h = passed_too h
@@ -243,11 +245,20 @@ environment_too : {at : Standing} (p q : ℕ) (c : Context) (name : List ℕ) (e
 environment_too p q c name None = refuses_too refl
 environment_too p q c name (Some e) = position_too e.may_have_position (argument_too p q c name e e.argument)
 
--- lengths
+-- lengths and colors
 
-wide_too : {at : Standing} (p q : ℕ) (width : Option ℤ) → AlikeRules at at (wide_rule p width) (wide_rule q width)
-wide_too p q None = refuses_too refl
-wide_too p q (Some width) = gives_too
+with_value_too : {A : Type 0} {at : Standing} (r q : Refusal) {f g : A → Rule} → r.kind ≡ q.kind → ((x : A) → AlikeRules at at (f x) (g x)) → (x : Option A) → AlikeRules at at (with_value r f x) (with_value q g x)
+with_value_too r q e h None = refuses_too e
+with_value_too r q e h (Some x) = h x
+
+length_too : {at : Standing} (p q : ℕ) (spot : Spot) {f g : ℤ → Rule} → ((length : ℤ) → AlikeRules at at (f length) (g length)) → AlikeRules at at (a_length p spot f) (a_length q spot g)
+length_too p q spot h = scanned_too (λ text. with_value_too _ _ refl h (width_of text))
+
+bar_too : {at : Standing} (p q : ℕ) (raise : Option ℤ) → AlikeRules at at (a_bar p raise) (a_bar q raise)
+bar_too p q raise = length_too p q BeforeLengthInBraces (λ width. length_too p q BeforeLengthInBraces (λ height. gives_too))
+
+color_too : {at : Standing} (p q : ℕ) {f g : Color → Rule} → ((color : Color) → AlikeRules at at (f color) (g color)) → AlikeRules at at (a_color p f) (a_color q g)
+color_too p q h = scanned_too (λ name. with_value_too _ _ refl h (color_of name))
 
 in_brackets_plain : (c : ℕ) → (byte "$" == c) ≡ false → AllPlain (in_brackets c)
 in_brackets_plain c h = (a_character_plain (byte "[") refl, (a_character_plain c h, (a_character_plain (byte "]") refl, tt)))
@@ -270,14 +281,23 @@ command_too p q c name (Some (Shows s)) calm = as_is calm gives_too
 command_too p q c name (Some (FunctionName limits own)) calm = as_is calm gives_too
 command_too p q c name (Some Dots) calm = as_is calm (follows_too gives_too gives_too)
 command_too p q c name (Some (Spacing width)) calm = as_is calm gives_too
-command_too p q c name (Some Skip) calm = as_is calm (scanned_too (λ text. wide_too p q (width_of text)))
-command_too p q c name (Some SkipInBraces) calm = as_is calm (passed_too (scanned_too (λ text. wide_too p q (width_of text))))
+command_too p q c name (Some Skip) calm = as_is calm (length_too p q (InLength AtUnit) (λ width. gives_too))
+command_too p q c name (Some SkipInBraces) calm = as_is calm (passed_too (length_too p q BeforeLengthInBraces (λ width. gives_too)))
 command_too p q c name (Some (Boxed box)) calm = as_is calm one_too
 command_too p q c name (Some Smash) calm =
     as_is calm (if_too (in_brackets_plain (byte "t") refl) (λ top. one_too) (if_too (in_brackets_plain (byte "b") refl) (λ bottom. one_too) one_too))
+command_too p q c name (Some Raise) calm = as_is calm (length_too p q BeforeLengthInBraces (λ height. one_too))
+command_too p q c name (Some InColor) calm = as_is calm (color_too p q (λ color. one_too))
+command_too p q c name (Some Highlight) calm = as_is calm (color_too p q (λ color. one_too))
+command_too p q c name (Some Rectangle) calm =
+    as_is calm (if_too (a_character_plain (byte "[") refl, tt) (λ bracket. length_too p q (InLength AtBracket) (λ height. bar_too p q (Some height))) (bar_too p q None))
+command_too p q c name (Some (Arrow sign_character)) calm =
+    as_is calm (if_too (a_character_plain (byte "[") refl, tt) (λ bracket. atoms_too both_brackets refl (λ below. one_too)) one_too)
 command_too p q c name (Some (Styled alphabet)) calm = as_is calm one_too
 command_too p q c name (Some (TakesWordsIn alphabet)) calm = words_follow calm (words_too (λ ws. gives_too))
 command_too p q c name (Some (Fraction bar own)) calm = as_is calm two_too
+command_too p q c name (Some ContinuedFraction) calm =
+    as_is calm (if_too (in_brackets_plain (byte "l") refl) (λ left. two_too) (if_too (in_brackets_plain (byte "r") refl) (λ right. two_too) two_too))
 command_too p q c name (Some Root) calm = as_is calm (if_too (a_character_plain (byte "[") refl, tt) (λ bracket. atoms_too both_brackets refl (λ degree. one_too)) one_too)
 command_too p q c name (Some (Accent side mark width)) calm = as_is calm one_too
 command_too p q c name (Some (Brace side mark)) calm = as_is calm one_too

@@ -60,8 +60,8 @@ pub record IsAllowedPart (row : Row) : Type 0 where
   pub upper : IsAllowedUpper row.under
 
 abbrev pub IsAllowedRest : Rest → Type 0
-IsAllowedRest (GoesOnIn c row) = IsAllowedPart row
-IsAllowedRest (NoRest kind) = ⊤
+IsAllowedRest (GoesOnIn c row l) = IsAllowedPart row × AreAllowedUnits l
+IsAllowedRest (NoRest r) = ⊤
 
 abbrev pub AreAllowedWords : Words → Type 0
 AreAllowedWords ws = AreAllowedElements ws.elements

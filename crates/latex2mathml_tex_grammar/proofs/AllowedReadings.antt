@@ -2,8 +2,8 @@
 use Rattle.std.proofs.Common.{ℕ, List, [], ◌∷◌, Option, subst, reverse}
 use Rattle.latex2mathml_elements.specs.{Characters.IsAllowed, Dollars.IsDollarFree, Element.Element, Element.children}
 use Rattle.latex2mathml_elements.specs.Columns.{Columns}
-use Rattle.latex2mathml_tex_grammar.specs.{Scanning.BeforeRow, Tables.Lines, Atoms.Atom, DefinitionTexts.Defines, Delimiters.delimiter_of, Formulas.IsReading, Formulas.row_print, Laws.ReadingsAreAllowed, Macros.Table, Rows.Row, Rows.Operand, Rows.empty_row, Rows.row_element, Symbols.Alphabet, Symbols.Style, Environments.pairs, Rows.with_atom}
-use Rattle.latex2mathml_elements.proofs.{Characters.allowed_print, Characters.dollar_free}
+use Rattle.latex2mathml_tex_grammar.specs.{Scanning.BeforeRow, Tables.Lines, Atoms.Atom, DefinitionTexts.Defines, Delimiters.delimiter_of, Formulas.IsReading, Formulas.row_print, Formulas.row_print_with_source, Formulas.source_text, Laws.ReadingsAreAllowed, Macros.Table, Rows.Row, Rows.Operand, Rows.empty_row, Rows.row_element, Symbols.Alphabet, Symbols.Style, Environments.pairs, Rows.with_atom}
+use Rattle.latex2mathml_elements.proofs.Characters.{allowed_print, annotated_allowed_print, annotated_dollar_free, dollar_free}
 use Rattle.latex2mathml_tex_grammar.specs.Makes.{Core, core, divider, is_display, number, Scripts}
 use Rattle.latex2mathml_tex_grammar.specs.Reading.{Outcome, ReadsRule, rule_gives, rule_refuses, operand_read, operand_refused, core_read, core_refused, core_missing, core_stopped, atoms_read, atoms_refused, words_read, words_refused, units_taken, units_missing, unit_follows, no_unit_follows, digits_taken, delimiter_taken, delimiter_missing, ReadsOperand, group_operand, group_refused, digit_operand, other_operand, other_refused, no_operand, operand_at_end, operand_stopped, ReadsScripts, scripts_end, mark_taken, script_read, script_refused, mark_refused, ReadsAtom, divider_read, divider_refused, on_empty_row, base_read, base_refused, ReadsAtoms, text_ends, never_ended, atoms_stopped, atoms_end, atom_read, atom_refused, rest_read, change_refused, ReadsWord, word_stands, group_of_words, formula_read, formula_refused, words_in_alphabet, no_word, word_missing, word_at_end, word_stopped, ReadsWords, words_end, words_never_ended, words_stopped, word_read, word_refused, found_taken, found_refused, passed_over, rows_read, rows_refused, ReadsRows, cell_read, cell_refused, ReadsBehindCell, next_cell, next_row, table_ends, rows_to_end, text_ends_table, Read, Refused}
 use Rattle.latex2mathml_tex_grammar.specs.Rules.{Context, Ending, Rule, gives, takes_delimiter, TableEnd, WholeText, InBraces, InBrackets, InDollars, InDelimiters, InCell}
@@ -18,7 +18,7 @@ use Rattle.latex2mathml_tex_grammar.proofs.AllowedRows.{given_allowed, past_spot
 use Rattle.latex2mathml_tex_grammar.proofs.AllowedRules.{IsPlainStart, start_plain, delimiter_given, rule_allowed, step_allowed, with_word_allowed, word_rule_allowed}
 use Rattle.latex2mathml_tex_grammar.proofs.AllowedUnits.{digits_taken as digits_next_allowed, next_allowed, next_taken, past_allowed, units_allowed}
 use Rattle.latex2mathml_tex_grammar.specs.Formulas.{ReadsFormula, as_atoms, as_rows, alone}
-use Rattle.latex2mathml_tex_grammar.proofs.{AllowedMakes.with_atom_allowed, AllowedRests.finished_allowed, AllowedRows.a_table_allowed}
+use Rattle.latex2mathml_tex_grammar.proofs.{AllowedMakes.with_atom_allowed, AllowedRests.finished_allowed, AllowedRows.a_table_allowed, Sources.source_allowed}
 
 divider_allowed : IsAllowedRule (takes_delimiter (λ sign_text. gives (core (divider sign_text))))
 divider_allowed = λ sign_text h. h
@@ -111,7 +111,8 @@ mutual
       let read = atoms d next.0 next.1 in
       rows ds (record { elements = with_atom_allowed c.style row x h.elements read.0; before = h.before; upper = h.upper }) read.1
   rows (atom_refused p s d) h k = tt
-  rows (rest_read {c = c} {row = row} {change = change} {l = l} p s t e d) h k = rows d (subst IsAllowedRest e (rest_allowed change c row h)) (next_allowed l p k).1
+  rows (rest_read {c = c} {row = row} {change = change} {l = l} {m = m} {u = u} p s t e d) h k =
+      let rest = subst IsAllowedRest e (rest_allowed change c row u.place m h (next_allowed l p k).1) in rows d rest.0 rest.1
   rows (change_refused p s t e) h k = tt
 
   tables : {end : TableEnd} {place : ℕ} {columns : Columns} {c : Context} {before cells : List Element} {l : Units} {o : Outcome Lines} → ReadsRows end place columns c before cells l o → AreAllowedElements before → AreAllowedElements cells → AreAllowedUnits l → IsAllowedOutcome AreAllowedLines o
@@ -170,6 +171,13 @@ markup_allowed definitions macros text style row h reading =
     let each = row_children_allowed row.elements (reading_allowed definitions macros text style row h reading) in
     (allowed_print (is_display style) xs each, dollar_free (is_display style) xs)
 
+-- .. nor does it with its source
+pub markup_with_source_allowed : (definitions : List ℕ) (macros : Table) (text : List ℕ) (style : Style) (row : Row) → Defines definitions macros → IsReading macros text style row → IsAllowed (row_print_with_source style text row) × IsDollarFree (row_print_with_source style text row)
+markup_with_source_allowed definitions macros text style row h reading =
+    let x = row_element row.elements in
+    let each = row_element_allowed row.elements (reading_allowed definitions macros text style row h reading) in
+    (annotated_allowed_print (is_display style) x (source_text text) each (source_allowed text), annotated_dollar_free (is_display style) x (source_text text))
+
 -- the law
 pub readings_are_allowed : ReadingsAreAllowed
-readings_are_allowed = record { elements = reading_allowed; markup = markup_allowed }
+readings_are_allowed = record { elements = reading_allowed; markup = markup_allowed; markup_with_source = markup_with_source_allowed }

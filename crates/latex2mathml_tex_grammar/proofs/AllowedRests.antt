@@ -1,14 +1,27 @@
 -- What a change makes of rows that hold no character that XML forbids holds none.
-use Rattle.std.proofs.Common.{Option, Some, None}
-use Rattle.latex2mathml_tex_grammar.specs.{Makes.fraction, Meaning.Change, Meaning.ToAlphabet, Meaning.ToStyle, Meaning.Divides, Meaning.FractionRule, Symbols.InText, Symbols.Style}
-use Rattle.latex2mathml_tex_grammar.specs.Rests.{below, finished, rest_below, rest_of, settled, settled_after}
+use Rattle.std.proofs.Common.{◌≡◌, ℕ, Bool, true, false, List, Option, Some, None, refl}
+use Rattle.latex2mathml_elements.specs.{Characters.HasAllowedTexts, Colors.Color, Element.Element}
+use Rattle.latex2mathml_tex_grammar.specs.{Colors.color_of, Makes.fraction, Meaning.Change, Meaning.ToAlphabet, Meaning.ToStyle, Meaning.ToColor, Meaning.Divides, Meaning.FractionRule, Symbols.InText, Symbols.Style}
+use Rattle.latex2mathml_tex_grammar.specs.Rests.{begun_anew, below, finished, in_color, in_own_style, rest_behind_name, rest_below, rest_in, rest_of, settled, settled_after}
+use Rattle.latex2mathml_tex_grammar.specs.Scanning.{BeforeArgument, ColorName, Found, Given, Missing, scan}
+use Rattle.latex2mathml_tex_grammar.specs.Units.{Units}
 use Rattle.latex2mathml_tex_grammar.specs.{Rows.Restyled, Rows.Row, Rows.Upper, Rows.empty_row, Rows.row_element, Rules.Context}
-use Rattle.latex2mathml_tex_grammar.proofs.Allowed.{IsAllowedBefore, IsAllowedPart, IsAllowedRest, IsAllowedRow, IsAllowedUpper}
+use Rattle.latex2mathml_tex_grammar.proofs.Allowed.{AreAllowedElements, AreAllowedUnits, IsAllowedBefore, IsAllowedPart, IsAllowedRest, IsAllowedRow, IsAllowedUpper}
 use Rattle.latex2mathml_tex_grammar.proofs.AllowedMakes.{fraction_allowed, row_children_allowed, row_element_allowed, with_atom_allowed}
+use Rattle.latex2mathml_tex_grammar.proofs.AllowedRows.{given_allowed}
+
+own_style_allowed : (has_own_style : Bool) (style : Style) (xs : List Element) → AreAllowedElements xs → HasAllowedTexts (in_own_style has_own_style style xs)
+own_style_allowed true style xs h = row_children_allowed xs h
+own_style_allowed false style xs h = row_element_allowed xs h
+
+in_color_allowed : (color : Option Color) (x : Element) → HasAllowedTexts x → HasAllowedTexts (in_color color x)
+in_color_allowed None x h = h
+in_color_allowed (Some color) x h = (h, tt)
 
 settled_allowed : (change : Option Restyled) (style : Style) (row : Row) → IsAllowedBefore change → IsAllowedRow row → IsAllowedRow (settled_after change style row)
 settled_allowed None style row h k = k
-settled_allowed (Some change) style row h k = (row_children_allowed row.elements k, h)
+settled_allowed (Some change) style row h k =
+    (in_color_allowed change.color _ (own_style_allowed change.has_own_style style row.elements k), h)
 
 below_allowed : (upper : Option Upper) (row : Row) → IsAllowedUpper upper → IsAllowedRow row → IsAllowedRow (below upper row)
 below_allowed None row h k = k
@@ -23,19 +36,35 @@ upper_kept (Some change) style row h = h
 pub finished_allowed : (style : Style) (row : Row) → IsAllowedPart row → IsAllowedRow (finished style row)
 finished_allowed style row h = below_allowed (settled style row).under (settled style row) (upper_kept row.restyled style row h.upper) (settled_allowed row.restyled style row h.before h.elements)
 
-rest_below_allowed : (rule : FractionRule) (c : Context) (row : Row) (upper : Option Upper) → IsAllowedPart row → IsAllowedRest (rest_below rule c row upper)
-rest_below_allowed rule c row None h = record {
-  elements = tt;
-  before = tt;
-  upper = row_element_allowed (settled c.style row).elements (settled_allowed row.restyled c.style row h.before h.elements);
-}
-rest_below_allowed rule c row (Some upper) h = tt
+rest_below_allowed : (rule : FractionRule) (c : Context) (row : Row) (place : ℕ) (l : Units) (upper : Option Upper) → IsAllowedPart row → AreAllowedUnits l → IsAllowedRest (rest_below rule c row place l upper)
+rest_below_allowed rule c row place l None h k = (
+  record {
+    elements = tt;
+    before = tt;
+    upper = row_element_allowed (settled c.style row).elements (settled_allowed row.restyled c.style row h.before h.elements);
+  },
+  k,
+)
+rest_below_allowed rule c row place l (Some upper) h k = tt
 
-pub rest_allowed : (change : Change) (c : Context) (row : Row) → IsAllowedPart row → IsAllowedRest (rest_of change c row)
-rest_allowed (ToAlphabet alphabet) c row h = h
-rest_allowed (ToStyle style) c row h = record {
+-- behind a change of style or color
+anew_allowed : (c : Context) (row : Row) (group : Style) (has_own_style : Bool) (color : Option Color) → IsAllowedPart row → IsAllowedPart (begun_anew group has_own_style color (settled c.style row))
+anew_allowed c row group has_own_style color h = record {
   elements = tt;
   before = settled_allowed row.restyled c.style row h.before h.elements;
   upper = upper_kept row.restyled c.style row h.upper;
 }
-rest_allowed (Divides rule) c row h = rest_below_allowed rule c row row.under h
+
+rest_in_allowed : (name : List ℕ) (c : Context) (row : Row) (place : ℕ) (l : Units) (color : Option Color) → IsAllowedPart row → AreAllowedUnits l → IsAllowedRest (rest_in name c row place l color)
+rest_in_allowed name c row place l None h k = tt
+rest_in_allowed name c row place l (Some color) h k = (anew_allowed c row _ _ (Some color) h, k)
+
+behind_name_allowed : (c : Context) (row : Row) (place : ℕ) (l : Units) (found : Found) → scan place l (BeforeArgument ColorName) ≡ found → IsAllowedPart row → AreAllowedUnits l → IsAllowedRest (rest_behind_name c row place found)
+behind_name_allowed c row place l (Given name m) e h k = rest_in_allowed name c row place m (color_of name) h (given_allowed place l m (BeforeArgument ColorName) name e k)
+behind_name_allowed c row place l (Missing r) e h k = tt
+
+pub rest_allowed : (change : Change) (c : Context) (row : Row) (place : ℕ) (l : Units) → IsAllowedPart row → AreAllowedUnits l → IsAllowedRest (rest_of change c row place l)
+rest_allowed (ToAlphabet alphabet) c row place l h k = (h, k)
+rest_allowed (ToStyle style) c row place l h k = (anew_allowed c row _ true _ h, k)
+rest_allowed ToColor c row place l h k = behind_name_allowed c row place l (scan place l (BeforeArgument ColorName)) refl h k
+rest_allowed (Divides rule) c row place l h k = rest_below_allowed rule c row place l row.under h k

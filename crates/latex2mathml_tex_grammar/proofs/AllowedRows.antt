@@ -8,7 +8,7 @@ use Rattle.latex2mathml_elements.specs.Element.{Mrow, Msqrt, Mstyle, Mpadded, Mp
 use Rattle.latex2mathml_tex_grammar.specs.Environments.{columns_of, Environment, environments, entry_environment, environment_of}
 use Rattle.latex2mathml_tex_grammar.specs.{Rows.row_element, Symbols.Style}
 use Rattle.latex2mathml_tex_grammar.specs.Rules.{Context, Rule, ended_table, rows_rule, most_columns, listed_rule, argument_rule, position_rule, environment_rule}
-use Rattle.latex2mathml_tex_grammar.specs.Scanning.{Argument, Name, ColumnList, Number, Deed, Passes, Adds, Ends, Leaves, Misses, Refuses, Spot, deed, done, may_end, found_at_end, with_character, Found, Given, Missing, scan, behind_found, past, past_break, BeforeStar, BeforeLength, BeforeRow}
+use Rattle.latex2mathml_tex_grammar.specs.Scanning.{Argument, Name, ColumnList, Number, ColorName, Deed, Passes, Adds, Ends, Leaves, Misses, Refuses, Spot, deed, done, may_end, found_at_end, with_character, Found, Given, Missing, scan, behind_found, past, past_break, BeforeStar, BeforeLength, BeforeRow}
 use Rattle.latex2mathml_tex_grammar.specs.Tables.{Lines, a_row, with_last, rows_onto, between_any, a_table}
 use Rattle.latex2mathml_tex_grammar.specs.Refusal.{Refusal}
 use Rattle.latex2mathml_tex_grammar.specs.Units.{Unit, Units, Next, End, Stop}
@@ -110,6 +110,7 @@ argument_allowed place c name e None h = rows_rule_allowed place c name e e.colu
 argument_allowed place c name e (Some ColumnList) h = λ letters. listed_allowed place c name e letters h
 argument_allowed place c name e (Some Number) h = λ number. rows_rule_allowed place c name e e.columns h
 argument_allowed place c name e (Some Name) h = rows_rule_allowed place c name e e.columns h
+argument_allowed place c name e (Some ColorName) h = rows_rule_allowed place c name e e.columns h
 
 pub environment_allowed : (place : ℕ) (c : Context) (name : List ℕ) (e : Option Environment) → PassesTest (λ e. are_allowed_delimiters e.delimiters) e → IsAllowedRule (environment_rule place c name e)
 environment_allowed place c name None h = tt

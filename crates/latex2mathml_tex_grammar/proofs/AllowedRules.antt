@@ -5,14 +5,14 @@ use Rattle.latex2mathml_elements.specs.{Element.Element, Element.token, Element.
 use Rattle.latex2mathml_elements.specs.Characters.{is_forbidden, IsAllowed, HasAllowedTexts}
 use Rattle.latex2mathml_elements.proofs.{Characters.allowed_both, Characters.allowed_char, Characters.allowed_plain, Plain.IsPlain}
 use Rattle.latex2mathml_tex_grammar.specs.{Commands.meaning_of, Commands.symbol_of, Delimiters.negated_of, Delimiters.delimiter_of, Dots.centered_dots, Dots.low_dots}
-use Rattle.latex2mathml_tex_grammar.specs.Makes.{Core, core, Scripts, letter, symbol, spacing, struck, text, in_box}
+use Rattle.latex2mathml_tex_grammar.specs.Makes.{Core, core, Scripts, letter, symbol, spacing, struck, text, in_box, raised_by, black, arrow}
 use Rattle.latex2mathml_tex_grammar.specs.Refusal.{Refusal, OutsideTable, MisplacedCharacter, CharacterInWords, refusal_at}
-use Rattle.latex2mathml_tex_grammar.specs.Meaning.{Meaning, Shows, FunctionName, Dots, Spacing, Styled, Words as TakesWordsIn, Fraction, Root, Accent, Brace, Stack, StackedRelation, OperatorName, Negation, Slash, Sized, Left, Middle, Right, Limits, NoLimits, Classed, Changes, BeginTable, EndTable, LineBreak, Substack, Skip, SkipInBraces, Boxed, Smash, Box, Phantom, PhantomWidth, PhantomHeight, Smashed, WithoutHeight, WithoutDepth, OverRight, OverLeft, OverBoth, Frame, StrikeUp, StrikeDown, StrikeTwice}
-use Rattle.latex2mathml_tex_grammar.specs.Lengths.{width_of}
-use Rattle.latex2mathml_tex_grammar.specs.Rows.{Operand}
-use Rattle.latex2mathml_tex_grammar.specs.Rules.{Context, Rule, gives, refuses, takes_if, a_character, a_digit, decimal, after_digits, a_number, a_symbol, begins_none, character_rule, struck_atom, slashed, a_box, wide_rule, meaning_rule, command_rule, rule}
+use Rattle.latex2mathml_tex_grammar.specs.Meaning.{Meaning, Shows, FunctionName, Dots, Spacing, Styled, Words as TakesWordsIn, Fraction, Root, Accent, Brace, Stack, StackedRelation, OperatorName, Negation, Slash, Sized, Left, Middle, Right, Limits, NoLimits, Classed, Changes, BeginTable, EndTable, LineBreak, Substack, Skip, SkipInBraces, Boxed, Smash, ContinuedFraction, Bar, FractionRule, Box, Phantom, PhantomWidth, PhantomHeight, Smashed, WithoutHeight, WithoutDepth, OverRight, OverLeft, OverBoth, Frame, StrikeUp, StrikeDown, StrikeTwice, Raise, InColor, Highlight, Rectangle, Arrow, Raised, Colored, OnColor}
+use Rattle.latex2mathml_tex_grammar.specs.{Colors.color_of, Lengths.width_of}
+use Rattle.latex2mathml_tex_grammar.specs.Rows.{Operand, row_element}
+use Rattle.latex2mathml_tex_grammar.specs.Rules.{Context, Rule, gives, refuses, takes_if, a_character, a_digit, decimal, after_digits, a_number, a_symbol, begins_none, character_rule, struck_atom, slashed, a_box, a_fraction, meaning_rule, command_rule, rule, with_value, a_bar}
 use Rattle.latex2mathml_tex_grammar.specs.Starts.{OperandStart, NoStart, GroupStart, DigitStart, operand_start, start_of_digit, Mark, Prime, Below, Above as AboveMark, LimitsAt, step_of, step_of_mark}
-use Rattle.latex2mathml_tex_grammar.specs.Symbols.{InText, InScript, Ordinary, Relation, Alphabet, Symbol}
+use Rattle.latex2mathml_tex_grammar.specs.Symbols.{InDisplay, InText, InScript, Ordinary, Relation, Alphabet, Style, Symbol}
 use Rattle.latex2mathml_tex_grammar.specs.Units.{Piece, Space, Open, Close, Command, Character}
 use Rattle.latex2mathml_tex_grammar.specs.Words.{Word, Shown, Formula, WordRule, IsWord, BeginsFormula, NoWord, Words, is_escape, word_space, word_character, with_text, with_word, words_element, word_rule, character_rule as word_of_character, meaning_rule as word_of_meaning}
 use Rattle.latex2mathml_tex_grammar.proofs.Allowed.{IsAllowedPiece, AreAllowedElements, IsAllowedElement, IsAllowedCore, IsAllowedOperand, AreAllowedScripts, AreAllowedWords, IsAllowedWord, IsAllowedWordRule, IsAllowedStep, IsAllowedRule, AreGiven}
@@ -98,9 +98,21 @@ words_element_allowed : (xs : List Element) → AreAllowedElements xs → HasAll
 words_element_allowed [] h = allowed_plain [] refl
 words_element_allowed (x ∷ xs) h = row_element_allowed (x ∷ xs) h
 
-wide_allowed : (place : ℕ) (width : Option ℤ) → IsAllowedRule (wide_rule place width)
-wide_allowed place None = tt
-wide_allowed place (Some width) = tt
+with_value_allowed : {A : Type 0} (r : Refusal) (more : A → Rule) → ((x : A) → IsAllowedRule (more x)) → (x : Option A) → IsAllowedRule (with_value r more x)
+with_value_allowed r more h None = tt
+with_value_allowed r more h (Some x) = h x
+
+raised_allowed : (raise : Option ℤ) (x : Element) → HasAllowedTexts x → HasAllowedTexts (raised_by raise x)
+raised_allowed None x h = h
+raised_allowed (Some height) x h = (h, tt)
+
+bar_allowed : (place : ℕ) (raise : Option ℤ) → IsAllowedRule (a_bar place raise)
+bar_allowed place raise text =
+    with_value_allowed _ _ (λ width other. with_value_allowed _ _ (λ height. raised_allowed raise (black width height) tt) (width_of other)) (width_of text)
+
+arrow_allowed : (sign_character : ℕ) (below : Option Element) (above : Element) → is_forbidden sign_character ≡ false → IsAllowedElement below → HasAllowedTexts above → IsAllowedCore (arrow sign_character below above)
+arrow_allowed sign_character None above h k i = (allowed_char sign_character h, i)
+arrow_allowed sign_character (Some below) above h k i = (allowed_char sign_character h, k, i)
 
 in_box_allowed : (box : Box) (x : Element) → HasAllowedTexts x → HasAllowedTexts (in_box box x)
 in_box_allowed Phantom x h = (h, tt)
@@ -116,23 +128,40 @@ in_box_allowed Frame x h = (h, tt)
 in_box_allowed StrikeUp x h = (h, tt)
 in_box_allowed StrikeDown x h = (h, tt)
 in_box_allowed StrikeTwice x h = (h, tt)
+in_box_allowed (Raised height) x h = (h, tt)
+in_box_allowed (Colored color) x h = (h, tt)
+in_box_allowed (OnColor color) x h = (h, tt)
 
 a_box_allowed : (place : ℕ) (c : Context) (box : Box) → IsAllowedRule (a_box place c box)
 a_box_allowed place c box = λ x k. in_box_allowed box _ (as_base_allowed c.style Ordinary x k)
+
+a_fraction_allowed : (place : ℕ) (c : Context) (rule : FractionRule) (own : Option Style) → IsAllowedRule (a_fraction place c rule own)
+a_fraction_allowed place c rule own = λ above k below i. fraction_allowed rule own above.element below.element k i
 
 meaning_rule_allowed : (place : ℕ) (c : Context) (meaning : Meaning) → is_allowed_meaning meaning ≡ true → IsAllowedRule (meaning_rule place c meaning)
 meaning_rule_allowed place c (Shows s) h = symbol_allowed c.alphabet s h
 meaning_rule_allowed place c (FunctionName limits name) h = allowed_text name h
 meaning_rule_allowed place c Dots h = (symbol_allowed c.alphabet centered_dots refl, symbol_allowed c.alphabet low_dots refl)
 meaning_rule_allowed place c (Spacing width) h = tt
-meaning_rule_allowed place c Skip h = λ text. wide_allowed place (width_of text)
-meaning_rule_allowed place c SkipInBraces h = λ text. wide_allowed place (width_of text)
+meaning_rule_allowed place c Skip h = λ text. with_value_allowed _ _ (λ width. tt) (width_of text)
+meaning_rule_allowed place c SkipInBraces h = λ text. with_value_allowed _ _ (λ width. tt) (width_of text)
+meaning_rule_allowed place c Raise h = λ text. with_value_allowed _ _ (λ height. a_box_allowed place c (Raised height)) (width_of text)
+meaning_rule_allowed place c InColor h = λ name. with_value_allowed _ _ (λ color. a_box_allowed place c (Colored color)) (color_of name)
+meaning_rule_allowed place c Highlight h = λ name. with_value_allowed _ _ (λ color. a_box_allowed place c (OnColor color)) (color_of name)
+meaning_rule_allowed place c Rectangle h =
+    (λ bracket given text. with_value_allowed _ _ (λ height. bar_allowed place (Some height)) (width_of text), bar_allowed place None)
+meaning_rule_allowed place c (Arrow sign_character) h = (
+  λ bracket given below k above i. arrow_allowed sign_character (Some (row_element below.elements)) above.element (not_forbidden sign_character h) (row_element_allowed below.elements k) i,
+  λ above i. arrow_allowed sign_character None above.element (not_forbidden sign_character h) tt i,
+)
 meaning_rule_allowed place c (Boxed box) h = a_box_allowed place c box
 meaning_rule_allowed place c Smash h =
     (λ top given. a_box_allowed place c WithoutHeight, (λ bottom given. a_box_allowed place c WithoutDepth, a_box_allowed place c Smashed))
 meaning_rule_allowed place c (Styled alphabet) h = λ x k. k
 meaning_rule_allowed place c (TakesWordsIn alphabet) h = λ ws k. words_element_allowed ws.elements k
-meaning_rule_allowed place c (Fraction rule own) h = λ above k below i. fraction_allowed rule own above.element below.element k i
+meaning_rule_allowed place c (Fraction rule own) h = a_fraction_allowed place c rule own
+meaning_rule_allowed place c ContinuedFraction h =
+    (λ left given. a_fraction_allowed place c Bar (Some InDisplay), (λ right given. a_fraction_allowed place c Bar (Some InDisplay), a_fraction_allowed place c Bar (Some InDisplay)))
 meaning_rule_allowed place c Root h =
     (λ bracket given degree k x i. (i, row_element_allowed degree.elements k), λ x k. (k, tt))
 meaning_rule_allowed place c (Accent side mark width) h = λ x k. accent_allowed side mark width x.element (not_forbidden mark h) k
@@ -249,6 +278,12 @@ word_of_meaning_allowed name (Some Skip) h = tt
 word_of_meaning_allowed name (Some SkipInBraces) h = tt
 word_of_meaning_allowed name (Some (Boxed box)) h = tt
 word_of_meaning_allowed name (Some Smash) h = tt
+word_of_meaning_allowed name (Some ContinuedFraction) h = tt
+word_of_meaning_allowed name (Some Raise) h = tt
+word_of_meaning_allowed name (Some InColor) h = tt
+word_of_meaning_allowed name (Some Highlight) h = tt
+word_of_meaning_allowed name (Some Rectangle) h = tt
+word_of_meaning_allowed name (Some (Arrow sign_character)) h = tt
 
 pub word_rule_allowed : (alphabet : Option Alphabet) (piece : Piece) → IsAllowedPiece piece → IsAllowedWordRule (word_rule alphabet piece)
 word_rule_allowed alphabet Space h = word_space_allowed

@@ -9,6 +9,7 @@ use Rattle.latex2mathml_tex_grammar.specs.Spacing.{Standing, InWords, standing_b
 use Rattle.latex2mathml_tex_grammar.specs.Starts.{is_close}
 use Rattle.latex2mathml_tex_grammar.specs.Units.{Piece, Space, Open, Close, Command, Character, Unit, unit, Units, End, Next}
 use Rattle.latex2mathml_tex_grammar.proofs.AlikeRules.{AlikeEndings, both_braces, both_dollars, same_ends, same_start, unended_too, never_ended_too, inside, WordsStand, before_words, within_words, AlikeRules, gives_too, refuses_too, operand_too, core_too, atoms_too, words_too, if_too, follows_too, digits_taken_too, delimiter_too, rules_too, delimiter_tests, both_cells, cell_ends, left_too, scanned_too, passed_too, rows_too}
+use Rattle.latex2mathml_tex_grammar.proofs.AlikeRests.{rest_too, no_rest_too}
 use Rattle.latex2mathml_tex_grammar.proofs.Plain.{change_start_plain, divider_plain, digit_start_plain, group_start_plain, step_plain}
 use Rattle.latex2mathml_tex_grammar.proofs.Spaces.{Front, next_stays, both_next, both_ended, both_stopped, fronts, fronts_of_words, looks_too, next_too, end_too, stop_too, refused_too, same_step, IsCalm, in_dollars, behind_plain, taken_too, missing_too, digits_too, IsPlain}
 use Rattle.latex2mathml_elements.specs.Element.{Element}
@@ -188,13 +189,15 @@ mutual
       let next = next_too h p in
       let (r, kind, x) = refused_is (carry_atom next.place d ending calm next.alike) in
       also_refused r kind (atom_refused next.is (sym (same_ends ending u.piece) ∙ s) x)
-  carry_atoms {e = e} at (rest_read {change = change} {u = u} p s t r d) ending calm h =
+  carry_atoms {e = e} at (rest_read {c = c} {row = row} {change = change} {u = u} p s t r d) ending calm h =
       let next = next_too h p in
-      also (carry_atoms at d ending calm (behind_plain u.piece (change_start_plain e u.piece change t) calm next.alike))
-      (λ p. rest_read next.is (sym (same_ends ending u.piece) ∙ s) (sym (same_start ending u.piece) ∙ t) r)
-  carry_atoms at (change_refused {u = u} p s t r) ending calm h =
+      let (n, alike, rest) = rest_too change c row u.place next.place calm (behind_plain u.piece (change_start_plain e u.piece change t) calm next.alike) r in
+      also (carry_atoms at d ending calm alike)
+      (λ p. rest_read next.is (sym (same_ends ending u.piece) ∙ s) (sym (same_start ending u.piece) ∙ t) rest)
+  carry_atoms {e = e} at (change_refused {c = c} {row = row} {change = change} {u = u} p s t r) ending calm h =
       let next = next_too h p in
-      also_refused _ refl (change_refused next.is (sym (same_ends ending u.piece) ∙ s) (sym (same_start ending u.piece) ∙ t) r)
+      let (q, kind, rest) = no_rest_too change c row u.place next.place calm (behind_plain u.piece (change_start_plain e u.piece change t) calm next.alike) r in
+      also_refused q kind (change_refused next.is (sym (same_ends ending u.piece) ∙ s) (sym (same_start ending u.piece) ∙ t) rest)
 
   carry_rows : {at : Standing} {end : TableEnd} {place : ℕ} {columns : Columns} {c : Context} {rows cells : List Element} {l m : Units} {o : Outcome Lines} (other : ℕ) → ReadsRows end place columns c rows cells l o → IsCalm at → AreAlike at l m → Carried at (ReadsRows end other columns c rows cells m) o
   carry_rows {at = at} {end = end} other (cell_read d ds) calm h =

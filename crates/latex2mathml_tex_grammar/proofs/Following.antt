@@ -6,7 +6,7 @@ use Rattle.latex2mathml_tex_grammar.specs.{Atoms.Atom, Makes.Core, Makes.Scripts
 use Rattle.latex2mathml_tex_grammar.specs.Reading.{Outcome, Read, ReadsRule, ReadsOperand, ReadsScripts, ReadsAtom, divider_read, divider_refused, on_empty_row, base_read, base_refused, ReadsAtoms, ReadsWord, ReadsWords, ReadsRows, ReadsBehindCell}
 use Rattle.latex2mathml_tex_grammar.specs.Rests.{Rest, GoesOnIn, NoRest, rest_of}
 use Rattle.latex2mathml_tex_grammar.specs.Rules.{Context, Ending, InBraces, Rule, rule, TableEnd}
-use Rattle.latex2mathml_tex_grammar.specs.{Meaning.Change, Starts.atom_start, Starts.ChangeStart, Starts.step_next, Starts.step_of_mark, Starts.mark_of, Starts.Step, Starts.GoesOn, Starts.TakesOperand, Starts.Forbidden, Refusal.Kind, Refusal.refusal_at, Symbols.Alphabet, Words.Words, Words.WordRule, Words.TakesWords, Scanning.Found, Scanning.Given, Starts.CellEnd, Next.past_space, Tables.Lines}
+use Rattle.latex2mathml_tex_grammar.specs.{Meaning.Change, Starts.atom_start, Starts.ChangeStart, Starts.step_next, Starts.step_of_mark, Starts.mark_of, Starts.Step, Starts.GoesOn, Starts.TakesOperand, Starts.Forbidden, Refusal.Kind, Refusal.Refusal, Refusal.refusal_at, Symbols.Alphabet, Words.Words, Words.WordRule, Words.TakesWords, Scanning.Found, Scanning.Given, Starts.CellEnd, Next.past_space, Tables.Lines}
 use Rattle.latex2mathml_tex_grammar.specs.Units.{Unit, Units, Next, End}
 
 -- what holds of the unit that stands next, and of the units after it, holds whichever way it was found
@@ -18,26 +18,22 @@ next_is P {w} {m} {n} {u} {v} p q e =
 
 -- and so it is of what follows a change
 
-pub one_rest : (ending : Ending) (c : Context) (row : Row) {w m n : Units} {u v : Unit} {a b : Change} {x y : Rest} → w ≡ Next u m → w ≡ Next v n → atom_start ending u.piece ≡ ChangeStart a → atom_start ending v.piece ≡ ChangeStart b → rest_of a c row ≡ x → rest_of b c row ≡ y → x ≡ y
-one_rest ending c row {u = u} {v = v} {a = a} {b = b} p q s t d e =
+pub one_rest : (ending : Ending) (c : Context) (row : Row) {w m n : Units} {u v : Unit} {a b : Change} {x y : Rest} → w ≡ Next u m → w ≡ Next v n → atom_start ending u.piece ≡ ChangeStart a → atom_start ending v.piece ≡ ChangeStart b → rest_of a c row u.place m ≡ x → rest_of b c row v.place n ≡ y → x ≡ y
+one_rest ending c row {m = m} {n = n} {u = u} {v = v} {a = a} {b = b} p q s t d e =
     let unit : u ≡ v = cc in
+    let left : m ≡ n = cc in
     let same : a ≡ b = cc in
     cc
 
-abbrev pub ReadsRest : Ending → Outcome Row → Rest → Units → Type 0
-ReadsRest ending o (GoesOnIn c row) l = ReadsAtoms ending c row l o
-ReadsRest ending o (NoRest kind) l = ⊥
+abbrev pub ReadsRest : Ending → Outcome Row → Rest → Type 0
+ReadsRest ending o (GoesOnIn c row l) = ReadsAtoms ending c row l o
+ReadsRest ending o (NoRest r) = ⊥
 
-pub rest_is : {ending : Ending} {w m n : Units} {u v : Unit} {c d : Context} {xs ys : Row} {o : Outcome Row} → w ≡ Next u m → w ≡ Next v n → GoesOnIn c xs ≡ GoesOnIn d ys → ReadsAtoms ending d ys n o → ReadsAtoms ending c xs m o
-rest_is {ending} {m = m} {n = n} {d = d} {ys = ys} {o = o} p q e r =
-    let rest : n ≡ m = cc in
-    subst (λ x. ReadsRest ending o x m) (sym e) (subst (λ k. ReadsAtoms ending d ys k o) rest r)
+pub rest_is : {ending : Ending} {m n : Units} {c d : Context} {xs ys : Row} {o : Outcome Row} → GoesOnIn c xs m ≡ GoesOnIn d ys n → ReadsAtoms ending d ys n o → ReadsAtoms ending c xs m o
+rest_is {ending} {o = o} e r = subst (ReadsRest ending o) (sym e) r
 
-pub refused_alike : {w m n : Units} {u v : Unit} {a b : Kind} → w ≡ Next u m → w ≡ Next v n → NoRest a ≡ NoRest b → refusal_at a u.place ≡ refusal_at b v.place
-refused_alike {u = u} {v = v} {a = a} {b = b} p q e =
-    let same : u ≡ v = cc in
-    let kind : a ≡ b = cc in
-    rw (same, kind) refl
+pub refused_alike : {r q : Refusal} → NoRest r ≡ NoRest q → r ≡ q
+refused_alike e = cc
 
 -- with which no atom begins
 

@@ -1,4 +1,5 @@
 pub mod Adding
+pub mod AlikeRests
 pub mod AlikeRules
 pub mod Allowed
 pub mod AllowedMacros
@@ -24,6 +25,7 @@ pub mod Runs
 pub mod SameTables
 pub mod Scans
 pub mod Shrinking
+pub mod Sources
 pub mod SpaceNothing
 pub mod Spaces
 pub mod SpacingExamples

@@ -62,6 +62,10 @@ nolimits_plain : TakesNone (codes "nolimits")
 unfolding meaning_of command_entries commands_up_to_l commands_from_m
 nolimits_plain = refl
 
+displaylimits_plain : TakesNone (codes "displaylimits")
+unfolding meaning_of command_entries commands_up_to_l commands_from_m
+displaylimits_plain = refl
+
 -- and of those of tables
 
 abbrev take_none : List (List ℕ × ℕ) → Bool
@@ -136,7 +140,10 @@ mark_plain (Command name) mark e = elim (cases_Bool (bytes_eq name (codes "limit
   | inl s ↦ takes_none name (is_named (codes "limits") name limits_plain s)
   | inr s ↦ elim (cases_Bool (bytes_eq name (codes "nolimits"))) [
     | inl t ↦ takes_none name (is_named (codes "nolimits") name nolimits_plain t)
-    | inr t ↦ absurd (cc (rw (s, t) at e))
+    | inr t ↦ elim (cases_Bool (bytes_eq name (codes "displaylimits"))) [
+      | inl d ↦ takes_none name (is_named (codes "displaylimits") name displaylimits_plain d)
+      | inr d ↦ absurd (cc (rw (s, t, d) at e))
+    ]
   ]
 ]
 

@@ -3,9 +3,9 @@ use Rattle.std.proofs.Common.{◌≡◌, ◌==◌, ◌||◌, ℕ, Bool, true, fa
 use Rattle.std.proofs.{lemmas.Bool.cases_Bool}
 use Rattle.std.specs.{Char.encode_utf8, Str.byte}
 use Rattle.latex2mathml_tex_grammar.specs.{Commands.command_entries, Commands.meaning_of, CommandsFromM.commands_from_m, CommandsUpToL.commands_up_to_l}
-use Rattle.latex2mathml_tex_grammar.specs.Meaning.{Meaning, Shows, FunctionName, Dots, Spacing, Styled, Words as TakesWordsIn, Fraction, Root, Accent, Brace, Stack, StackedRelation, OperatorName, Negation, Slash, Sized, Left, Middle, Right, Limits, NoLimits, Classed, Changes, BeginTable, EndTable, LineBreak, Substack, Skip, SkipInBraces, Boxed, Smash}
+use Rattle.latex2mathml_tex_grammar.specs.Meaning.{Meaning, Shows, FunctionName, Dots, Spacing, Styled, Words as TakesWordsIn, Fraction, Root, Accent, Brace, Stack, StackedRelation, OperatorName, Negation, Slash, Sized, Left, Middle, Right, Limits, NoLimits, Classed, Changes, BeginTable, EndTable, LineBreak, Substack, Skip, SkipInBraces, Boxed, Smash, ContinuedFraction, Raise, InColor, Highlight, Rectangle, Arrow}
 use Rattle.latex2mathml_tex_grammar.specs.Refusal.{UnknownColumn, Refusal}
-use Rattle.latex2mathml_tex_grammar.specs.Scanning.{Name, ColumnList, Number, Spot, BeforeArgument, InArgument, BeforeGap, InGap, BeforeWidth, InWidth, BeforeBrace, BeforePosition, InPosition, BehindPosition, BeforeStar, BehindStar, BeforeLength, BeforeLengthInBraces, InLength, BehindSign, InNumber, InDecimals, BehindLetter, BehindLength, AtBracket, AtBrace, AtUnit, BeforeRow, Deed, Passes, Adds, Ends, Leaves, Misses, Refuses, deed, done, is_spacing, is_line, may_end, found_at_end, with_character, Found, Given, Missing, scan, behind_found, past, past_break}
+use Rattle.latex2mathml_tex_grammar.specs.Scanning.{Name, ColumnList, Number, ColorName, Spot, BeforeArgument, InArgument, BeforeGap, InGap, BeforeWidth, InWidth, BeforeBrace, BeforePosition, InPosition, BehindPosition, BeforeStar, BehindStar, BeforeLength, BeforeLengthInBraces, InLength, BehindSign, InNumber, InDecimals, BehindLetter, BehindLength, AtBracket, AtBrace, AtUnit, BeforeRow, Deed, Passes, Adds, Ends, Leaves, Misses, Refuses, deed, done, is_spacing, is_line, may_end, found_at_end, with_character, Found, Given, Missing, scan, behind_found, past, past_break}
 use Rattle.latex2mathml_tex_grammar.specs.Spacing.{Standing, standing_behind, takes_words, AreAlike, both_end, both_stop, same_piece, space_before, space_behind}
 use Rattle.latex2mathml_tex_grammar.specs.Units.{Piece, Space, Open, Close, Command, Character, Unit, Units, Next}
 use Rattle.latex2mathml_tex_grammar.proofs.{OneList.is_byte, Plain.TakesNone, Plain.takes_none, Plain.open_plain, Plain.close_plain, Plain.is_named}
@@ -27,6 +27,7 @@ no_dollar_taken (BeforeArgument a) = refl
 no_dollar_taken (InArgument Name) = refl
 no_dollar_taken (InArgument ColumnList) = refl
 no_dollar_taken (InArgument Number) = refl
+no_dollar_taken (InArgument ColorName) = refl
 no_dollar_taken BeforeGap = refl
 no_dollar_taken InGap = refl
 no_dollar_taken BeforeWidth = refl
@@ -90,6 +91,12 @@ spaces_take_none (Some Skip) h = cc
 spaces_take_none (Some SkipInBraces) h = cc
 spaces_take_none (Some (Boxed box)) h = cc
 spaces_take_none (Some Smash) h = cc
+spaces_take_none (Some ContinuedFraction) h = cc
+spaces_take_none (Some Raise) h = cc
+spaces_take_none (Some InColor) h = cc
+spaces_take_none (Some Highlight) h = cc
+spaces_take_none (Some Rectangle) h = cc
+spaces_take_none (Some (Arrow sign_character)) h = cc
 
 hline_plain : TakesNone (codes "hline")
 unfolding meaning_of command_entries commands_up_to_l commands_from_m
@@ -137,6 +144,7 @@ command_taken (BeforeArgument a) name h = cc
 command_taken (InArgument Name) name h = cc
 command_taken (InArgument ColumnList) name h = cc
 command_taken (InArgument Number) name h = cc
+command_taken (InArgument ColorName) name h = cc
 command_taken BeforeGap name h = cc
 command_taken BeforeWidth name h = cc
 command_taken InWidth name h = cc
@@ -167,7 +175,7 @@ taken_plain spot (Character c) h = character_taken spot c h
 -- What is found
 
 -- the same is found, with alike units behind it, or it is refused for the same reason
-data FoundAlike (at : Standing) : Found → Found → Type 0 where
+pub data FoundAlike (at : Standing) : Found → Found → Type 0 where
   both_given : {l m : Units} (text : List ℕ) → AreAlike at l m → FoundAlike at (Given text l) (Given text m)
   both_missing : {r q : Refusal} → r.kind ≡ q.kind → FoundAlike at (Missing r) (Missing q)
 
@@ -187,7 +195,7 @@ done_alike p q spot u v e h calm more Leaves plain = both_given [] (same_piece e
 done_alike p q spot u v e h calm more Misses plain = both_missing refl
 done_alike p q spot u v e h calm more (Refuses kind) plain = both_missing refl
 
-scan_alike : {at : Standing} {l m : Units} (p q : ℕ) → IsCalm at → AreAlike at l m → (spot : Spot) → FoundAlike at (scan p l spot) (scan q m spot)
+pub scan_alike : {at : Standing} {l m : Units} (p q : ℕ) → IsCalm at → AreAlike at l m → (spot : Spot) → FoundAlike at (scan p l spot) (scan q m spot)
 scan_alike p q calm both_end spot = ended _ _ (may_end spot) both_end refl
 scan_alike p q calm (both_stop e) spot = ended _ _ (may_end spot) (both_stop e) e
 scan_alike {at = at} {m = m} p q calm (space_before {u = u} {l = l} w e h) spot =

@@ -8,7 +8,10 @@ use Rattle.latex2mathml_tex_grammar.specs.{Atoms.Atom, Rows.Row, Rows.Operand, R
 use Rattle.latex2mathml_tex_grammar.specs.Next.{follows, is_space_piece, past_space, next_are, digits_next, digits_here}
 use Rattle.latex2mathml_tex_grammar.specs.Reading.{Outcome, Read, Refused, ReadsRule, rule_gives, rule_refuses, operand_read, operand_refused, core_read, core_refused, core_missing, core_stopped, atoms_read, atoms_refused, words_read, words_refused, units_taken, units_missing, unit_follows, no_unit_follows, digits_taken, delimiter_taken, delimiter_missing, ReadsOperand, group_operand, group_refused, digit_operand, other_operand, other_refused, no_operand, operand_at_end, operand_stopped, ReadsScripts, scripts_end, mark_taken, script_read, script_refused, mark_refused, ReadsAtom, divider_read, divider_refused, on_empty_row, base_read, base_refused, ReadsAtoms, text_ends, never_ended, atoms_stopped, atoms_end, atom_read, atom_refused, rest_read, change_refused, ReadsWord, word_stands, group_of_words, formula_read, formula_refused, words_in_alphabet, no_word, word_missing, word_at_end, word_stopped, ReadsWords, words_end, words_never_ended, words_stopped, word_read, word_refused, found_taken, found_refused, passed_over, rows_read, rows_refused, ReadsRows, cell_read, cell_refused, ReadsBehindCell, next_cell, next_row, table_ends, rows_to_end, text_ends_table}
 use Rattle.latex2mathml_tex_grammar.specs.Refusal.{Refusal}
-use Rattle.latex2mathml_tex_grammar.specs.Rests.{Rest, GoesOnIn, NoRest, finished, rest_of}
+use Rattle.latex2mathml_tex_grammar.specs.Rests.{Rest, GoesOnIn, NoRest, finished, rest_behind_name, rest_below, rest_in, rest_of}
+use Rattle.latex2mathml_tex_grammar.specs.{Colors.color_of, Meaning.Change, Meaning.ToAlphabet, Meaning.ToStyle, Meaning.ToColor, Meaning.Divides, Meaning.FractionRule, Rows.Upper}
+use Rattle.latex2mathml_tex_grammar.specs.Scanning.{BeforeArgument, ColorName}
+use Rattle.latex2mathml_elements.specs.Colors.{Color}
 use Rattle.latex2mathml_tex_grammar.specs.Rules.{Context, in_context, styled, Ending, WholeText, InBraces, InBrackets, InDollars, InDelimiters, Rule, gives, refuses, reads_operand, reads_core, reads_atoms, reads_words, takes_if, if_follows, takes_digits, takes_delimiter, rule, a_digit, TableEnd, InCell, takes_found, passes_over, reads_rows}
 use Rattle.latex2mathml_tex_grammar.specs.Starts.{Mark, change_by, start_of_mark, is_command, step_of, AtomStart, DividerStart, ScriptStart, RuleStart, ChangeStart, OperandStart, NoStart, GroupStart, DigitStart, OtherStart, atom_start, operand_start, mark_of, Step, GoesOn, TakesOperand, Forbidden, step_of_mark, step_next, empty_base, ends, unended, is_close, left_behind, CellEnd, PartsCells, EndsRow, EndsTable, cell_end}
 use Rattle.latex2mathml_elements.specs.Columns.{Columns}
@@ -226,6 +229,30 @@ mark_no_space Close mark e = refl
 mark_no_space (Command name) mark e = refl
 mark_no_space (Character c) mark e = refl
 
+-- what follows a change is no more units than stood behind it
+
+abbrev RestFits : ℕ → Rest → Type 0
+RestFits k (GoesOnIn c row l) = size l ≤ k
+RestFits k (NoRest r) = ⊤
+
+below_fits : (rule : FractionRule) (c : Context) (row : Row) (place : ℕ) (l : Units) (upper : Option Upper) → RestFits (size l) (rest_below rule c row place l upper)
+below_fits rule c row place l None = omega arith
+below_fits rule c row place l (Some upper) = tt
+
+in_fits : (name : List ℕ) (c : Context) (row : Row) (place k : ℕ) (l : Units) (color : Option Color) → size l ≤ k → RestFits k (rest_in name c row place l color)
+in_fits name c row place k l None h = tt
+in_fits name c row place k l (Some color) h = h
+
+behind_name_fits : (c : Context) (row : Row) (place k : ℕ) (found : Found) → FoundFits k found → RestFits k (rest_behind_name c row place found)
+behind_name_fits c row place k (Given name l) h = in_fits name c row place k l (color_of name) h
+behind_name_fits c row place k (Missing r) h = tt
+
+rest_fits : (change : Change) (c : Context) (row : Row) (place : ℕ) (l : Units) → RestFits (size l) (rest_of change c row place l)
+rest_fits (ToAlphabet alphabet) c row place l = omega arith
+rest_fits (ToStyle style) c row place l = omega arith
+rest_fits ToColor c row place l = behind_name_fits c row place (size l) _ (scan_fits place l (BeforeArgument ColorName))
+rest_fits (Divides rule) c row place l = below_fits rule c row place l row.under
+
 -- no atom begins with a change
 abbrev BeginsAtom : AtomStart → Type 0
 BeginsAtom (ChangeStart change) = ⊥
@@ -254,11 +281,11 @@ atom_total k has ending c row l m u p less h s start some t = elim (begun_atom k
 
 -- .. or a change, and then what stands after it
 unit_total : (k : ℕ) → HasOutcomes k → (ending : Ending) (c : Context) (row : Row) (l m : Units) (u : Unit) → past_space l ≡ Next u m → size m < size l → size l < suc k → ends ending u.piece ≡ false → (start : AtomStart) → atom_start ending u.piece ≡ start → Comes Row (ReadsAtoms ending c row l) (size l)
-unit_total k has ending c row l m u p less h s (ChangeStart change) t = rest_total (rest_of change c row) refl
+unit_total k has ending c row l m u p less h s (ChangeStart change) t = rest_total (rest_of change c row u.place m) refl (rest_fits change c row u.place m)
   where
-    rest_total : (rest : Rest) → rest_of change c row ≡ rest → Comes Row (ReadsAtoms ending c row l) (size l)
-    rest_total (GoesOnIn d xs) e = with_outcome (has.of_atoms ending d xs m (omega arith)) (omega arith) (λ o. rest_read p s t e)
-    rest_total (NoRest kind) e = is_refused _ (change_refused p s t e)
+    rest_total : (rest : Rest) → rest_of change c row u.place m ≡ rest → RestFits (size m) rest → Comes Row (ReadsAtoms ending c row l) (size l)
+    rest_total (GoesOnIn d xs n) e fits = with_outcome (has.of_atoms ending d xs n (omega arith)) (omega arith) (λ o. rest_read p s t e)
+    rest_total (NoRest r) e fits = is_refused r (change_refused p s t e)
 unit_total k has ending c row l m u p less h s DividerStart t = atom_total k has ending c row l m u p less h s DividerStart tt t
 unit_total k has ending c row l m u p less h s ScriptStart t = atom_total k has ending c row l m u p less h s ScriptStart tt t
 unit_total k has ending c row l m u p less h s RuleStart t = atom_total k has ending c row l m u p less h s RuleStart tt t

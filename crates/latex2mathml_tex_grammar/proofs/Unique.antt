@@ -231,10 +231,10 @@ mutual
   one_atoms (atom_refused p s d) (never_ended q t) = cc
   one_atoms (atom_refused p s d) (atoms_stopped q) = cc
   one_atoms (atom_refused p s d) (atoms_end q t) = cc
-  one_atoms (rest_read {ending = ending} {c = c} {row = row} p s t r d) (rest_read q z k f e) = one_atoms d (rest_is p q (one_rest ending c row p q t k r f) e)
+  one_atoms (rest_read {ending = ending} {c = c} {row = row} p s t r d) (rest_read q z k f e) = one_atoms d (rest_is (one_rest ending c row p q t k r f) e)
   one_atoms (rest_read {ending = ending} {c = c} {row = row} p s t r d) (change_refused q z k f) = cc (one_rest ending c row p q t k r f)
   one_atoms (change_refused {ending = ending} {c = c} {row = row} p s t r) (rest_read q z k f e) = cc (one_rest ending c row p q t k r f)
-  one_atoms (change_refused {ending = ending} {c = c} {row = row} p s t r) (change_refused q z k f) = ap Refused (refused_alike p q (one_rest ending c row p q t k r f))
+  one_atoms (change_refused {ending = ending} {c = c} {row = row} p s t r) (change_refused q z k f) = ap Refused (refused_alike (one_rest ending c row p q t k r f))
   one_atoms (rest_read p s t r d) (text_ends q k) = cc
   one_atoms (rest_read p s t r d) (never_ended q k) = cc
   one_atoms (rest_read p s t r d) (atoms_stopped q) = cc

@@ -3,7 +3,7 @@ use Rattle.std.proofs.Common.{◌≡◌, ℕ, Bool, true, false, inl, inr, List,
 use Rattle.std.proofs.lemmas.Bool.{cases_Bool}
 use Rattle.std.specs.Str.{byte, bytes_eq}
 use Rattle.latex2mathml_tex_grammar.specs.{Commands.command_entries, Commands.meaning_of, CommandsFromM.commands_from_m, CommandsUpToL.commands_up_to_l}
-use Rattle.latex2mathml_tex_grammar.specs.Meaning.{Meaning, Shows, FunctionName, Dots, Spacing, Styled, Words as TakesWordsIn, Fraction, Root, Accent, Brace, Stack, StackedRelation, OperatorName, Negation, Slash, Sized, Left, Middle, Right, Limits, NoLimits, Classed, Changes, BeginTable, EndTable, LineBreak, Substack, Skip, SkipInBraces, Boxed, Smash}
+use Rattle.latex2mathml_tex_grammar.specs.Meaning.{Meaning, Shows, FunctionName, Dots, Spacing, Styled, Words as TakesWordsIn, Fraction, Root, Accent, Brace, Stack, StackedRelation, OperatorName, Negation, Slash, Sized, Left, Middle, Right, Limits, NoLimits, Classed, Changes, BeginTable, EndTable, LineBreak, Substack, Skip, SkipInBraces, Boxed, Smash, ContinuedFraction, Raise, InColor, Highlight, Rectangle, Arrow}
 use Rattle.latex2mathml_tex_grammar.specs.{Next.is_space_piece, Refusal.Kind, Symbols.Alphabet}
 use Rattle.latex2mathml_tex_grammar.specs.Spacing.{Standing, BeforeWords, InWords, BetweenDollars, standing_behind, is_in_words, takes_words}
 use Rattle.latex2mathml_tex_grammar.specs.Units.{Piece, Space, Open, Close, Command, Character}
@@ -99,6 +99,12 @@ by_meaning name (Some Skip) e = no_word_here
 by_meaning name (Some SkipInBraces) e = no_word_here
 by_meaning name (Some (Boxed box)) e = no_word_here
 by_meaning name (Some Smash) e = no_word_here
+by_meaning name (Some ContinuedFraction) e = no_word_here
+by_meaning name (Some Raise) e = no_word_here
+by_meaning name (Some InColor) e = no_word_here
+by_meaning name (Some Highlight) e = no_word_here
+by_meaning name (Some Rectangle) e = no_word_here
+by_meaning name (Some (Arrow sign_character)) e = no_word_here
 
 -- one or the other
 either : {piece : Piece} {r s : WordRule} (b : Bool) → (b ≡ true → InAWord piece r) → (b ≡ false → InAWord piece s) → InAWord piece (if b then r else s)

@@ -1,7 +1,7 @@
 -- The commands from those that begin with m, in the order of their names' bytes. A name is its bytes, without the
 -- backslash; a character is its code point, and stands after its line as well.
 use Rattle.std.specs.Prelude.{ℕ, pos, negsuc, List, [], ◌∷◌, Some, None, codes}
-use Rattle.latex2mathml_tex_grammar.specs.Meaning.{Meaning, Shows, FunctionName, Spacing, Skip, SkipInBraces, Boxed, Smash, Styled, Words, Fraction, Root, Accent, Brace, Stack, StackedRelation, OperatorName, Negation, Slash, Middle, Right, NoLimits, Classed, Changes, ToAlphabet, ToStyle, Divides, words_apart, LineBreak, Substack}
+use Rattle.latex2mathml_tex_grammar.specs.Meaning.{Meaning, Shows, FunctionName, Spacing, Skip, SkipInBraces, Boxed, Smash, Styled, Words, Fraction, Root, Accent, Brace, Stack, StackedRelation, OperatorName, Negation, Slash, Middle, Right, NoLimits, Classed, Changes, ToAlphabet, ToStyle, Divides, words_apart, LineBreak, Substack, Raise, InColor, Highlight, Rectangle, Arrow}
 use Rattle.latex2mathml_tex_grammar.specs.Symbols.{Letter, UprightLetter, Sign, BigOperator, Integral, Ordinary, Operator, Binary, Relation, Opening, Closing, Punctuation, Inner, Upright, Italic, Bold, BoldItalic, DoubleStruck, Fraktur, Calligraphic, SansSerif, Monospace, InText, InScript}
 use Rattle.latex2mathml_elements.specs.Attributes.{Above, Below, Stretching, Rigid}
 use Rattle.latex2mathml_tex_grammar.specs.Meaning.{Phantom, PhantomHeight, OverRight, OverLeft, OverBoth, StrikeTwice, Beside, ByStyle, Bar, NoBar}
@@ -18,6 +18,7 @@ commands_from_m =
     (codes "mathcal", Styled Calligraphic) ∷
     (codes "mathclap", Boxed OverBoth) ∷
     (codes "mathclose", Classed Closing) ∷
+    (codes "mathcolorbox", Highlight) ∷
     (codes "mathds", Styled DoubleStruck) ∷
     (codes "mathellipsis", Shows (Sign Inner 0x2026)) ∷  -- …
     (codes "mathfrak", Styled Fraktur) ∷
@@ -154,6 +155,7 @@ commands_from_m =
     (codes "qquad", Spacing (pos 36)) ∷
     (codes "quad", Spacing (pos 18)) ∷
     (codes "rVert", Shows (Sign Closing 0x2225)) ∷  -- ∥
+    (codes "raisemath", Raise) ∷
     (codes "rangle", Shows (Sign Closing 0x27E9)) ∷  -- ⟩
     (codes "rbrace", Shows (Sign Closing 0x7D)) ∷  -- }
     (codes "rbrack", Shows (Sign Closing 0x5D)) ∷  -- ]
@@ -179,6 +181,7 @@ commands_from_m =
     (codes "rparen", Shows (Sign Closing 0x29)) ∷  -- )
     (codes "rrbracket", Shows (Sign Closing 0x27E7)) ∷  -- ⟧
     (codes "rtimes", Shows (Sign Binary 0x22CA)) ∷  -- ⋊
+    (codes "rule", Rectangle) ∷
     (codes "rupee", Shows (Sign Ordinary 0x20B9)) ∷  -- ₹
     (codes "rvert", Shows (Sign Closing 0x2223)) ∷  -- ∣
     (codes "saturn", Shows (Sign Ordinary 0x2644)) ∷  -- ♄
@@ -250,6 +253,7 @@ commands_from_m =
     (codes "tbinom", Fraction NoBar (Some InText)) ∷
     (codes "text", Words None) ∷
     (codes "textbf", Words (Some Bold)) ∷
+    (codes "textcolor", InColor) ∷
     (codes "textit", Words (Some Italic)) ∷
     (codes "textmd", Words None) ∷
     (codes "textnormal", Words None) ∷
@@ -330,8 +334,27 @@ commands_from_m =
     (codes "widehat", Accent Above 0x0302 Stretching) ∷
     (codes "widetilde", Accent Above 0x7E Stretching) ∷  -- ~
     (codes "wr", Shows (Sign Binary 0x2240)) ∷  -- ≀
+    (codes "xLeftarrow", Arrow 0x21D0) ∷  -- ⇐
+    (codes "xLeftrightarrow", Arrow 0x21D4) ∷  -- ⇔
+    (codes "xRightarrow", Arrow 0x21D2) ∷  -- ⇒
     (codes "xcancel", Boxed StrikeTwice) ∷
+    (codes "xhookleftarrow", Arrow 0x21A9) ∷  -- ↩
+    (codes "xhookrightarrow", Arrow 0x21AA) ∷  -- ↪
     (codes "xi", Shows (Letter 0x03BE)) ∷  -- ξ
+    (codes "xleftarrow", Arrow 0x2190) ∷  -- ←
+    (codes "xleftharpoondown", Arrow 0x21BD) ∷  -- ↽
+    (codes "xleftharpoonup", Arrow 0x21BC) ∷  -- ↼
+    (codes "xleftrightarrow", Arrow 0x2194) ∷  -- ↔
+    (codes "xleftrightharpoons", Arrow 0x21CB) ∷  -- ⇋
+    (codes "xlongequal", Arrow 0x3D) ∷  -- =
+    (codes "xmapsto", Arrow 0x21A6) ∷  -- ↦
+    (codes "xrightarrow", Arrow 0x2192) ∷  -- →
+    (codes "xrightharpoondown", Arrow 0x21C1) ∷  -- ⇁
+    (codes "xrightharpoonup", Arrow 0x21C0) ∷  -- ⇀
+    (codes "xrightleftharpoons", Arrow 0x21CC) ∷  -- ⇌
+    (codes "xtofrom", Arrow 0x21C4) ∷  -- ⇄
+    (codes "xtwoheadleftarrow", Arrow 0x219E) ∷  -- ↞
+    (codes "xtwoheadrightarrow", Arrow 0x21A0) ∷  -- ↠
     (codes "yen", Shows (Sign Ordinary 0xA5)) ∷  -- ¥
     (codes "zeta", Shows (Letter 0x03B6)) ∷  -- ζ
     (codes "{", Shows (Sign Opening 0x7B)) ∷  -- {

@@ -1,7 +1,7 @@
 -- The commands up to those that begin with l, in the order of their names' bytes. A name is its bytes, without the
 -- backslash; a character is its code point, and stands after its line as well.
 use Rattle.std.specs.Prelude.{ℕ, pos, negsuc, List, [], ◌∷◌, Some, None, codes}
-use Rattle.latex2mathml_tex_grammar.specs.Meaning.{Meaning, Dots, Shows, FunctionName, Spacing, Styled, Words, Fraction, Accent, Sized, Left, Limits, Changes, ToAlphabet, ToStyle, Divides, words_apart, BeginTable, EndTable, LineBreak, Skip, SkipInBraces, Boxed, PhantomWidth, StrikeUp, StrikeDown, Beside, ByStyle, Bar, NoBar, Braced, Bracketed, Bare, Frame}
+use Rattle.latex2mathml_tex_grammar.specs.Meaning.{Meaning, Dots, Shows, FunctionName, Spacing, Styled, Words, Fraction, Accent, Sized, Left, Limits, Changes, ToAlphabet, ToStyle, Divides, words_apart, BeginTable, EndTable, LineBreak, Skip, SkipInBraces, ContinuedFraction, Boxed, PhantomWidth, StrikeUp, StrikeDown, Beside, ByStyle, Bar, NoBar, Braced, Bracketed, Bare, Frame, ToColor}
 use Rattle.latex2mathml_tex_grammar.specs.Symbols.{Letter, UprightLetter, Sign, BigOperator, Integral, Ordinary, Binary, Relation, Opening, Closing, Punctuation, Inner, Italic, Bold, BoldItalic, DoubleStruck, Fraktur, Calligraphic, InDisplay}
 use Rattle.latex2mathml_elements.specs.Attributes.{Above, Rigid, Big, Bigger, VeryBig, Biggest}
 
@@ -186,7 +186,7 @@ commands_up_to_l =
     (codes "cdotp", Shows (Sign Punctuation 0x22C5)) ∷  -- ⋅
     (codes "cdots", Shows (Sign Inner 0x22EF)) ∷  -- ⋯
     (codes "centerdot", Shows (Sign Binary 0x22C5)) ∷  -- ⋅
-    (codes "cfrac", Fraction Bar (Some InDisplay)) ∷
+    (codes "cfrac", ContinuedFraction) ∷
     (codes "ch", FunctionName Beside (codes "ch")) ∷
     (codes "check", Accent Above 0x02C7 Rigid) ∷  -- ˇ
     (codes "checkmark", Shows (Sign Ordinary 0x2713)) ∷  -- ✓
@@ -203,6 +203,7 @@ commands_up_to_l =
     (codes "circleddash", Shows (Sign Binary 0x229D)) ∷  -- ⊝
     (codes "clubsuit", Shows (Sign Ordinary 0x2663)) ∷  -- ♣
     (codes "colon", Shows (Sign Punctuation 0x3A)) ∷  -- :
+    (codes "color", Changes ToColor) ∷
     (codes "complement", Shows (Sign Ordinary 0x2201)) ∷  -- ∁
     (codes "cong", Shows (Sign Relation 0x2245)) ∷  -- ≅
     (codes "coprod", Shows (BigOperator 0x2210)) ∷  -- ∐
@@ -249,6 +250,7 @@ commands_up_to_l =
     (codes "diamondsuit", Shows (Sign Ordinary 0x2662)) ∷  -- ♢
     (codes "digamma", Shows (Letter 0x03DD)) ∷  -- ϝ
     (codes "dim", FunctionName Beside (codes "dim")) ∷
+    (codes "displaylimits", Limits) ∷
     (codes "displaystyle", Changes (ToStyle InDisplay)) ∷
     (codes "div", Shows (Sign Binary 0xF7)) ∷  -- ÷
     (codes "divideontimes", Shows (Sign Binary 0x22C7)) ∷  -- ⋇

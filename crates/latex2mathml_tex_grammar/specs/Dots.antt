@@ -1,5 +1,5 @@
 -- Dots: they stand in the middle of the line before an operator or a relation, as in `a + \dots + b`, otherwise on the line.
-use Rattle.std.specs.Prelude.{ℕ, Bool, true, false, Option, Some, None}
+use Rattle.std.specs.Prelude.{Bool, true, false, Option, Some, None}
 use Rattle.latex2mathml_tex_grammar.specs.{Commands.meaning_of, Commands.symbol_of}
 use Rattle.latex2mathml_tex_grammar.specs.Meaning.{Meaning, Shows, StackedRelation, Negation, Classed}
 use Rattle.latex2mathml_tex_grammar.specs.Symbols.{Class, Binary, Relation, Inner, Symbol, Sign, BigOperator, Integral}

@@ -1,10 +1,11 @@
 -- What a formula is read as: the row of the atoms that its text expands to, or the refusal of it; and what a row is written
 -- as. A text is its characters here.
-use Rattle.std.specs.Prelude.{ℕ, Bool, true, false, IsTrue, IsFalse, List, None, reverse}
-use Rattle.latex2mathml_elements.specs.{Element.children, Print.formula_print}
+use Rattle.std.specs.Prelude.{ℕ, Bool, true, false, IsTrue, IsFalse, List, None, map, reverse, if◌then◌else◌}
+use Rattle.std.specs.Str.{encode_utf8_all}
+use Rattle.latex2mathml_elements.specs.{Annotated.annotated_print, Element.children, Print.formula_print}
 use Rattle.latex2mathml_tex_grammar.specs.{Expansion.Expands, Expansion.most_units, Expansion.most_uses, Macros.Table}
-use Rattle.latex2mathml_tex_grammar.specs.{Makes.Core, Makes.is_display, Reading.Outcome, Reading.Read, Reading.Refused, Reading.ReadsAtoms, Reading.ReadsRule, Refusal.Kind, Refusal.OutsideTable, Refusal.Refusal, Rests.finished, Rows.Row, Rows.empty_row, Rows.with_atom, Rules.Context, Rules.in_context, Rules.rows_of_text, Rules.WholeText, Symbols.Style}
-use Rattle.latex2mathml_tex_grammar.specs.Units.{Units, End, HasUnits}
+use Rattle.latex2mathml_tex_grammar.specs.{Makes.Core, Makes.is_display, Reading.Outcome, Reading.Read, Reading.Refused, Reading.ReadsAtoms, Reading.ReadsRule, Refusal.Kind, Refusal.OutsideTable, Refusal.Refusal, Rests.finished, Rows.Row, Rows.empty_row, Rows.row_element, Rows.with_atom, Rules.Context, Rules.in_context, Rules.rows_of_text, Rules.WholeText, Symbols.Style}
+use Rattle.latex2mathml_tex_grammar.specs.Units.{Units, End, HasUnits, is_forbidden}
 
 -- a formula has no alphabet of its own
 abbrev pub formula_context : Style → Context
@@ -54,3 +55,15 @@ IsRefusal macros text style refusal = (units : Units) × IsExpansion macros text
 -- the markup of a row that a formula is read as
 abbrev pub row_print : Style → Row → List ℕ
 row_print style row = formula_print (is_display style) (children (reverse row.elements))
+
+-- a character of a source, or U+FFFD in place of one that XML forbids. Only comments hold such, and XML has no way to write them.
+abbrev pub source_character : ℕ → ℕ
+source_character c = if is_forbidden c then 0xFFFD else c
+
+-- the source of a formula as it is written beside what is shown
+abbrev pub source_text : List ℕ → List ℕ
+source_text text = encode_utf8_all (map source_character text)
+
+-- the markup of a row that this text is read as, with the text as an annotation
+abbrev pub row_print_with_source : Style → List ℕ → Row → List ℕ
+row_print_with_source style text row = annotated_print (is_display style) (row_element row.elements) (source_text text)

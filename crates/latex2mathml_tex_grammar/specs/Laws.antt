@@ -4,7 +4,7 @@ use Rattle.std.specs.List.{AllByRecursion}
 use Rattle.latex2mathml_elements.specs.{Characters.HasAllowedTexts, Characters.IsAllowed, Dollars.IsDollarFree}
 use Rattle.latex2mathml_tex_grammar.specs.{Commands.command_entries, Environments.environments, Signs.sign_entries, Sorted.ascending, Sorted.ascending_numbers}
 use Rattle.latex2mathml_tex_grammar.specs.{DefinitionTexts.Defines, ExpansionLaws.AllStand, Macros.SameMacros, Macros.Table}
-use Rattle.latex2mathml_tex_grammar.specs.{Formulas.IsExpansion, Formulas.IsReading, Formulas.IsRefusal, Formulas.row_print, Refusal.Refusal, Symbols.Style}
+use Rattle.latex2mathml_tex_grammar.specs.{Formulas.IsExpansion, Formulas.IsReading, Formulas.IsRefusal, Formulas.row_print, Formulas.row_print_with_source, Refusal.Refusal, Symbols.Style}
 use Rattle.latex2mathml_tex_grammar.specs.{Reading.Outcome, Reading.ReadsAtoms, Rows.Row, Rules.Context, Rules.Ending, Rules.WholeText}
 use Rattle.latex2mathml_tex_grammar.specs.Spacing.{Alike, AreAlikeOutcomes, HaveAlikeUnits}
 use Rattle.latex2mathml_tex_grammar.specs.Units.{Units, HasUnits}
@@ -65,6 +65,11 @@ pub record ReadingsAreAllowed : Type 0 where
       → Defines definitions macros
       → IsReading macros text style row
       → IsAllowed (row_print style row) × IsDollarFree (row_print style row)
+  -- .. also where it has the text as an annotation
+  pub markup_with_source : (definitions : List ℕ) (macros : Table) (text : List ℕ) (style : Style) (row : Row)
+      → Defines definitions macros
+      → IsReading macros text style row
+      → IsAllowed (row_print_with_source style text row) × IsDollarFree (row_print_with_source style text row)
 
 -- no macro is used in the text, and none defined
 abbrev pub StandsByItself : Table → List ℕ → Type 0

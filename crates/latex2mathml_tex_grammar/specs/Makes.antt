@@ -1,12 +1,12 @@
 -- The atoms of each construct.
-use Rattle.std.specs.Prelude.{ℕ, zero, suc, ◌==◌, ◌||◌, ℤ, Bool, true, false, List, [], ◌∷◌, ◌++◌, map, Option, Some, None, codes, if◌then◌else◌}
+use Rattle.std.specs.Prelude.{ℕ, zero, suc, ◌==◌, ◌||◌, ℤ, pos, Bool, true, false, List, [], ◌∷◌, ◌++◌, map, Option, Some, None, codes, if◌then◌else◌}
 use Rattle.std.specs.{Char.encode_utf8, Str.encode_utf8_all}
 use Rattle.latex2mathml_elements.specs.Attributes.{Attributes, Side, Above, Below, Form, Prefix, Postfix, Stretch, Stretching, Rigid, NoSpace, Narrow, Size, Boxing, NoWidth, Flat, NoHeight, NoDepth, ByItsWidth, ByHalfItsWidth, Framed, StruckUp, StruckDown, StruckTwice, boxed, MathStyle, DisplayStyle, TextStyle, ScriptStyle, plain}
 use Rattle.latex2mathml_elements.specs.Element.{Mi, Mn, Mo, Mrow, Msqrt, Mstyle, Mpadded, Mphantom, Mfrac, Mroot, Msub, Msup, Munder, Mover, Msubsup, Munderover, Element, token, space, rectangle, container, pair, triple, children}
 use Rattle.latex2mathml_elements.specs.Extents.{wide}
 use Rattle.latex2mathml_tex_grammar.specs.{Alphabets.in_alphabet, Rows.Row, Rows.Operand, Rows.row_element}
 use Rattle.latex2mathml_tex_grammar.specs.Atoms.{Atom, Kind, SignOf, PlusOrMinus, Plain, UprightLetters, FunctionWord, Blank, Divider, atom}
-use Rattle.latex2mathml_tex_grammar.specs.Meaning.{FractionRule, Bar, NoBar, Braced, Bracketed, Bare, LimitPlace, Beside, ByStyle, Movable, Stacked, Box, Phantom, PhantomWidth, PhantomHeight, Smashed, WithoutHeight, WithoutDepth, OverRight, OverLeft, OverBoth, Frame, StrikeUp, StrikeDown, StrikeTwice}
+use Rattle.latex2mathml_tex_grammar.specs.Meaning.{FractionRule, Bar, NoBar, Braced, Bracketed, Bare, LimitPlace, Beside, ByStyle, Movable, Stacked, Box, Phantom, PhantomWidth, PhantomHeight, Smashed, WithoutHeight, WithoutDepth, OverRight, OverLeft, OverBoth, Frame, StrikeUp, StrikeDown, StrikeTwice, Raised, Colored, OnColor}
 use Rattle.latex2mathml_tex_grammar.specs.Symbols.{Class, Ordinary, Operator, Binary, Relation, Opening, Closing, Punctuation, Inner, Style, InDisplay, InText, InScript, Alphabet, Upright, Symbol, Letter, UprightLetter, Sign, BigOperator, Integral}
 
 -- an atom, and where its limits stand
@@ -60,10 +60,23 @@ stretches c = c == 0x7C || c == 0x2223 || c == 0x2225  -- | ∣ ∥
 abbrev pub rigid : ℕ → Attributes
 rigid c = if stretches c then record plain { stretch = Some Rigid } else plain
 
+-- the signs around an operand at which browsers leave a space, and TeX does not: relations, and those that they do not know
+abbrev pub leaves_space : ℕ → Bool
+leaves_space c = c == 0x3F || c == 0x2223 || c == 0x2225  -- ? ∣ ∥
+    || c == 0x231C || c == 0x231D || c == 0x231E || c == 0x231F  -- ⌜ ⌝ ⌞ ⌟
+    || c == 0x23B0 || c == 0x23B1  -- ⎰ ⎱
+    || c == 0x250C || c == 0x2510 || c == 0x2514 || c == 0x2518  -- ┌ ┐ └ ┘
+
+abbrev pub delimiter_attributes : Form → ℕ → Attributes
+delimiter_attributes form c =
+    if leaves_space c
+    then record plain { form = Some form; stretch = Some Rigid; space = Some NoSpace }
+    else record plain { form = Some form; stretch = Some Rigid }
+
 abbrev pub sign_attributes : Class → ℕ → Attributes
 sign_attributes Ordinary c = record plain { space = Some NoSpace; stretch = Some Rigid }
-sign_attributes Opening c = record plain { form = Some Prefix; stretch = Some Rigid }
-sign_attributes Closing c = record plain { form = Some Postfix; stretch = Some Rigid }
+sign_attributes Opening c = delimiter_attributes Prefix c
+sign_attributes Closing c = delimiter_attributes Postfix c
 sign_attributes Punctuation c = record plain { separator = true }
 sign_attributes Inner c = record plain { space = Some NoSpace }
 sign_attributes Operator c = plain
@@ -142,10 +155,25 @@ in_box Frame x = around Framed x
 in_box StrikeUp x = around StruckUp x
 in_box StrikeDown x = around StruckDown x
 in_box StrikeTwice x = around StruckTwice x
+in_box (Raised height) x = container Mpadded (record plain { raised = height }) (children (x ∷ []))
+in_box (Colored color) x = container Mstyle (record plain { color = Some color }) (children (x ∷ []))
+in_box (OnColor color) x = container Mpadded (record plain { background = Some color }) (children (x ∷ []))
 
 -- an operand in a box, which is ordinary
 abbrev pub boxed_atom : Box → Operand → Atom
 boxed_atom box x = atom (Plain Ordinary) x.high (in_box box x.element)
+
+-- an element that a length raises, where there is one
+abbrev pub raised_by : Option ℤ → Element → Element
+raised_by None x = x
+raised_by (Some height) x = in_box (Raised height) x
+
+abbrev pub black : ℤ → ℤ → Element
+black width height = rectangle (record { width = width; height = height; depth = pos 0; is_black = true })
+
+-- a black rectangle
+abbrev pub bar : Option ℤ → ℤ → ℤ → Atom
+bar raise width height = atom (Plain Ordinary) true (raised_by raise (black width height))
 
 -- Marks above and below
 
@@ -163,6 +191,17 @@ brace side mark x =
 
 abbrev pub stack : Side → Class → Element → Element → Core
 stack side class mark base = core (atom (Plain class) true (on_side side plain base mark))
+
+-- an arrow as long as the longer of what stands above it and below it, a relation
+abbrev pub arrow_sign : ℕ → Element
+arrow_sign sign_character = token Mo (record plain { stretch = Some Stretching }) (text sign_character)
+
+abbrev pub arrow_element : ℕ → Option Element → Element → Element
+arrow_element sign_character None above = pair Mover plain (arrow_sign sign_character) above
+arrow_element sign_character (Some below) above = triple Munderover plain (arrow_sign sign_character) below above
+
+abbrev pub arrow : ℕ → Option Element → Element → Core
+arrow sign_character below above = core (atom (Plain Relation) true (arrow_element sign_character below above))
 
 -- Fractions, roots, delimiters
 

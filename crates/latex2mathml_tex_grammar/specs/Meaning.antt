@@ -1,5 +1,6 @@
 -- What the name of a command means.
 use Rattle.std.specs.Prelude.{ℕ, ℤ, List, ◌∷◌, ◌++◌, Option}
+use Rattle.latex2mathml_elements.specs.Colors.{Color}
 use Rattle.latex2mathml_elements.specs.Attributes.{Side, Stretch, Size}
 use Rattle.latex2mathml_tex_grammar.specs.Symbols.{Class, Style, Alphabet, Symbol}
 
@@ -27,6 +28,8 @@ pub data Change : Type 0 where
   ToStyle : Style → Change
   -- all is the lower part of a fraction, and what stands before it the upper one
   Divides : FractionRule → Change
+  -- all is in the color that stands next
+  ToColor : Change
 
 -- what is made of the box of an operand
 pub data Box : Type 0 where
@@ -48,6 +51,11 @@ pub data Box : Type 0 where
   StrikeUp : Box
   StrikeDown : Box
   StrikeTwice : Box
+  -- it stands so many thousandths of an em above its place
+  Raised : ℤ → Box
+  -- it is in a color, or lies on one
+  Colored : Color → Box
+  OnColor : Color → Box
 
 pub data Meaning : Type 0 where
   -- a character
@@ -64,12 +72,23 @@ pub data Meaning : Type 0 where
   -- its operand in a box; one without height or depth
   Boxed : Box → Meaning
   Smash : Meaning
+  -- its operand, raised by the length that stands next in braces
+  Raise : Meaning
+  -- its operand in the color that stands next, or on it
+  InColor : Meaning
+  Highlight : Meaning
+  -- a black rectangle of two lengths in braces; a length in brackets before them raises it
+  Rectangle : Meaning
+  -- an arrow that is as long as what stands above it, and below it in brackets
+  Arrow : ℕ → Meaning
   -- its operand in an alphabet
   Styled : Alphabet → Meaning
   -- words, which may have an alphabet
   Words : Option Alphabet → Meaning
   -- a fraction, which may have a style of its own
   Fraction : FractionRule → Option Style → Meaning
+  -- a fraction in the style of a block, whose numerator may be pushed to a side
+  ContinuedFraction : Meaning
   Root : Meaning
   -- a mark on one operand
   Accent : Side → ℕ → Stretch → Meaning

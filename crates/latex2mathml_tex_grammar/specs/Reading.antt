@@ -251,19 +251,19 @@ mutual
         → ReadsAtom ending c u m (Refused r)
         → ReadsAtoms ending c row l (Refused r)
     -- a change, and what stands after it
-    rest_read : {ending : Ending} {c d : Context} {row xs : Row} {change : Change} {l m : Units} {u : Unit} {o : Outcome Row}
+    rest_read : {ending : Ending} {c d : Context} {row xs : Row} {change : Change} {l m n : Units} {u : Unit} {o : Outcome Row}
         → past_space l ≡ Next u m
         → IsFalse (ends ending u.piece)
         → atom_start ending u.piece ≡ ChangeStart change
-        → rest_of change c row ≡ GoesOnIn d xs
-        → ReadsAtoms ending d xs m o
+        → rest_of change c row u.place m ≡ GoesOnIn d xs n
+        → ReadsAtoms ending d xs n o
         → ReadsAtoms ending c row l o
-    change_refused : {ending : Ending} {c : Context} {row : Row} {change : Change} {kind : Kind} {l m : Units} {u : Unit}
+    change_refused : {ending : Ending} {c : Context} {row : Row} {change : Change} {r : Refusal} {l m : Units} {u : Unit}
         → past_space l ≡ Next u m
         → IsFalse (ends ending u.piece)
         → atom_start ending u.piece ≡ ChangeStart change
-        → rest_of change c row ≡ NoRest kind
-        → ReadsAtoms ending c row l (Refused (refusal_at kind u.place))
+        → rest_of change c row u.place m ≡ NoRest r
+        → ReadsAtoms ending c row l (Refused r)
 
   -- what a table comes to with these rows and these cells of the next one, and those that stand here, up to its end, which
   -- is left

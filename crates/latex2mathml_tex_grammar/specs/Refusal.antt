@@ -20,7 +20,7 @@ pub data Kind : Type 0 where
   UnopenedBrace : Kind
   RightWithoutLeft : Kind
   MiddleWithoutLeft : Kind
-  -- `\limits` or `\nolimits` that stands after no operator
+  -- `\limits` or its like that stands after no operator
   LimitsWithoutOperator : Kind
   -- a second script of one atom
   SecondSubscript : Kind
@@ -29,6 +29,8 @@ pub data Kind : Type 0 where
   MissingLength : Kind
   -- a length of more than 16384 points
   LengthTooLarge : Kind
+  -- no color has this name
+  UnknownColor : List ℕ → Kind
   -- what changes the rest of its group stands where an argument is to stand
   ChangeAsArgument : Kind
   -- a second `\over` or its like in one group

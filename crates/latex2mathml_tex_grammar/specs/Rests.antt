@@ -1,38 +1,68 @@
 -- What a change makes of what stands after it in its group: the context and the row that it is read in, and what row the
 -- group is at its end.
-use Rattle.std.specs.Prelude.{true, false, List, [], ◌∷◌, reverse, Option, Some, None}
-use Rattle.latex2mathml_elements.specs.{Element.Element, Element.Mstyle, Element.container, Element.children}
-use Rattle.latex2mathml_tex_grammar.specs.{Makes.fraction, Makes.style_attributes, Meaning.Change, Meaning.ToAlphabet, Meaning.ToStyle, Meaning.Divides, Meaning.FractionRule}
-use Rattle.latex2mathml_tex_grammar.specs.Refusal.{Kind, SecondInfix}
+use Rattle.std.specs.Prelude.{ℕ, Bool, true, false, List, [], ◌∷◌, reverse, Option, Some, None}
+use Rattle.latex2mathml_elements.specs.{Colors.Color, Element.Element, Element.Mstyle, Element.container, Element.children}
+use Rattle.latex2mathml_tex_grammar.specs.{Colors.color_of, Makes.fraction, Makes.in_box, Makes.style_attributes, Meaning.Change, Meaning.Colored, Meaning.ToAlphabet, Meaning.ToStyle, Meaning.Divides, Meaning.ToColor, Meaning.FractionRule}
+use Rattle.latex2mathml_tex_grammar.specs.Refusal.{Refusal, SecondInfix, UnknownColor, refusal_at}
 use Rattle.latex2mathml_tex_grammar.specs.Rows.{Row, Restyled, Upper, empty_row, row_element, with_atom}
 use Rattle.latex2mathml_tex_grammar.specs.Rules.{Context, in_context, styled}
+use Rattle.latex2mathml_tex_grammar.specs.Scanning.{BeforeArgument, ColorName, Found, Given, Missing, scan}
 use Rattle.latex2mathml_tex_grammar.specs.Symbols.{Ordinary, Style, InText, smaller}
+use Rattle.latex2mathml_tex_grammar.specs.Units.{Units}
 
--- Styles
+-- Styles and colors
 
--- elements, the last one first, in a style of their own
-abbrev pub in_own_style : Style → List Element → Element
-in_own_style style xs = container Mstyle (style_attributes style) (children (reverse xs))
+-- elements, the last one first, in this style, where it is their own
+abbrev pub in_own_style : Bool → Style → List Element → Element
+in_own_style true style xs = container Mstyle (style_attributes style) (children (reverse xs))
+in_own_style false style xs = row_element xs
+
+-- an element in a color, where there is one
+abbrev pub in_color : Option Color → Element → Element
+in_color None x = x
+in_color (Some color) x = in_box (Colored color) x
 
 -- the style of a group that is now read in this one
 abbrev pub style_of_group : Option Restyled → Style → Style
 style_of_group None style = style
 style_of_group (Some change) style = change.group
 
--- a row that is read in this style up to here: what stands after its last change of style is one element
+-- whether the style was changed in a row, and the color that its last atoms have
+abbrev pub has_own_style : Option Restyled → Bool
+has_own_style None = false
+has_own_style (Some change) = change.has_own_style
+
+abbrev pub color_after : Option Restyled → Option Color
+color_after None = None
+color_after (Some change) = change.color
+
+-- a row that is read in this style up to here: what stands after its last change is one element
 abbrev pub settled_after : Option Restyled → Style → Row → Row
 settled_after None style row = row
-settled_after (Some change) style row = record row { elements = in_own_style style row.elements ∷ change.before; class = Ordinary; restyled = None }
+settled_after (Some change) style row = record row {
+  elements = in_color change.color (in_own_style change.has_own_style style row.elements) ∷ change.before;
+  class = Ordinary;
+  restyled = None;
+}
 
 abbrev pub settled : Style → Row → Row
 settled style row = settled_after row.restyled style row
 
--- a row in a group of this style, before what stands after a change of style. That may be higher than a letter.
-abbrev pub begun_anew : Style → Row → Row
-begun_anew group row = record row { elements = []; ends_in_word = false; high = true; restyled = Some (record { before = row.elements; group = group }) }
+-- a row before what stands after a change, in a group of this style. That may be higher than a letter.
+abbrev pub begun_anew : Style → Bool → Option Color → Row → Row
+begun_anew group has_own_style color row = record row {
+  elements = [];
+  ends_in_word = false;
+  high = true;
+  restyled = Some (record { before = row.elements; group = group; has_own_style = has_own_style; color = color });
+}
 
+-- .. after a change of style, and of color
 abbrev pub restyled : Style → Row → Row
-restyled style row = begun_anew (style_of_group row.restyled style) (settled style row)
+restyled style row = begun_anew (style_of_group row.restyled style) true (color_after row.restyled) (settled style row)
+
+abbrev pub recolored : Color → Style → Row → Row
+recolored color style row = begun_anew (style_of_group row.restyled style) (has_own_style row.restyled) (Some color) (settled style row)
 
 -- Fractions
 
@@ -55,19 +85,30 @@ finished style row = whole_fraction (settled style row)
 -- What follows a change
 
 pub data Rest : Type 0 where
-  -- it is read in this context, behind this row
-  GoesOnIn : Context → Row → Rest
+  -- it is read in this context, behind this row, from these units on
+  GoesOnIn : Context → Row → Units → Rest
   -- the change is refused
-  NoRest : Kind → Rest
+  NoRest : Refusal → Rest
 
 -- what stands before it is the upper part of a fraction, and what stands after it the lower one. A group has no more than one
 -- such fraction.
-abbrev pub rest_below : FractionRule → Context → Row → Option Upper → Rest
-rest_below rule c row None =
-    GoesOnIn (styled c (smaller (style_of_group row.restyled c.style))) (begun_below rule (settled c.style row))
-rest_below rule c row (Some upper) = NoRest SecondInfix
+abbrev pub rest_below : FractionRule → Context → Row → ℕ → Units → Option Upper → Rest
+rest_below rule c row place l None =
+    GoesOnIn (styled c (smaller (style_of_group row.restyled c.style))) (begun_below rule (settled c.style row)) l
+rest_below rule c row place l (Some upper) = NoRest (refusal_at SecondInfix place)
 
-abbrev pub rest_of : Change → Context → Row → Rest
-rest_of (ToAlphabet alphabet) c row = GoesOnIn (in_context c.style (Some alphabet)) row
-rest_of (ToStyle style) c row = GoesOnIn (styled c style) (restyled c.style row)
-rest_of (Divides rule) c row = rest_below rule c row row.under
+-- it is in the color of this name, where there is one
+abbrev pub rest_in : List ℕ → Context → Row → ℕ → Units → Option Color → Rest
+rest_in name c row place l None = NoRest (refusal_at (UnknownColor name) place)
+rest_in name c row place l (Some color) = GoesOnIn c (recolored color c.style row) l
+
+abbrev pub rest_behind_name : Context → Row → ℕ → Found → Rest
+rest_behind_name c row place (Given name l) = rest_in name c row place l (color_of name)
+rest_behind_name c row place (Missing refusal) = NoRest refusal
+
+-- what follows a change at this place, before these units
+abbrev pub rest_of : Change → Context → Row → ℕ → Units → Rest
+rest_of (ToAlphabet alphabet) c row place l = GoesOnIn (in_context c.style (Some alphabet)) row l
+rest_of (ToStyle style) c row place l = GoesOnIn (styled c style) (restyled c.style row) l
+rest_of ToColor c row place l = rest_behind_name c row place (scan place l (BeforeArgument ColorName))
+rest_of (Divides rule) c row place l = rest_below rule c row place l row.under

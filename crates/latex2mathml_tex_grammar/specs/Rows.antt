@@ -1,16 +1,19 @@
 -- Rows: the elements of atoms side by side. Here the elements stand the last one first.
 use Rattle.std.specs.Prelude.{pos, Bool, true, false, ◌&&◌, ◌||◌, List, [], ◌∷◌, ◌++◌, reverse, Option, None}
-use Rattle.latex2mathml_elements.specs.{Attributes.plain, Element.Element, Element.Mrow, Element.token, Element.space, Element.container, Element.children}
+use Rattle.latex2mathml_elements.specs.{Attributes.plain, Colors.Color, Element.Element, Element.Mrow, Element.token, Element.space, Element.container, Element.children}
 use Rattle.latex2mathml_tex_grammar.specs.Atoms.{Atom, Kind, SignOf, PlusOrMinus, Plain, Before, Nothing, is_letters, is_parted, past, element_there, element_as}
 use Rattle.latex2mathml_tex_grammar.specs.{Meaning.FractionRule}
 use Rattle.latex2mathml_tex_grammar.specs.Symbols.{Class, Ordinary, Binary, Relation, Style}
 
--- a change of style in a row
+-- a change of style or color in a row
 pub record Restyled : Type 0 where
   -- the elements before it
   pub before : List Element
   -- the style of the group
   pub group : Style
+  -- whether the style was changed, and the color of what stands after it, where there is one
+  pub has_own_style : Bool
+  pub color : Option Color
 
 -- the upper part of a fraction
 pub record Upper : Type 0 where
@@ -18,7 +21,7 @@ pub record Upper : Type 0 where
   pub element : Element
 
 pub record Row : Type 0 where
-  -- those since the last change of style
+  -- those since the last change of style or color
   pub elements : List Element
   -- what the next atom stands behind
   pub before : Before
@@ -28,7 +31,7 @@ pub record Row : Type 0 where
   pub high : Bool
   -- its class as the base of a mark
   pub class : Class
-  -- that change of style, where there was one
+  -- that change, where there was one
   pub restyled : Option Restyled
   -- the upper part of the fraction whose lower part it is, where it is one
   pub under : Option Upper

@@ -5,12 +5,13 @@ use Rattle.std.specs.{Char.is_ascii_alphabetic, Char.is_ascii_digit, Str.byte, S
 use Rattle.latex2mathml_elements.specs.{Attributes.Above, Columns.Columns, Columns.Dense, Columns.Alike, Columns.Listed, Element.Element}
 use Rattle.latex2mathml_tex_grammar.specs.{Atoms.Plain, Atoms.atom, Commands.meaning_of, Commands.symbol_of, Delimiters.negated_of, Dots.centered_dots, Dots.centers_dots, Dots.low_dots, Rows.Row, Rows.Operand, Rows.as_base, Rows.operand_of, Rows.row_element}
 use Rattle.latex2mathml_tex_grammar.specs.Environments.{Environment, columns_of, environment_of, pairs}
-use Rattle.latex2mathml_tex_grammar.specs.Makes.{Core, core, letter, upright_letter, number, relation, symbol, function_name, spacing, group, classed, no_letters, operator_name, accent, brace, stack, fraction, square_root, root, between_delimiters, sized, struck, blank, boxed_atom}
-use Rattle.latex2mathml_tex_grammar.specs.Meaning.{Meaning, Shows, FunctionName, Dots, Spacing, Styled, Words as TakesWordsIn, Fraction, Root, Accent, Brace, Stack, StackedRelation, OperatorName, Negation, Slash, Sized, Left, Middle, Right, Limits, NoLimits, Classed, Changes, Beside, ByStyle, FractionRule, BeginTable, EndTable, LineBreak, Substack, Skip, SkipInBraces, Box, Smashed, WithoutHeight, WithoutDepth, Boxed, Smash}
-use Rattle.latex2mathml_tex_grammar.specs.Refusal.{UnknownCommand, MissingArgument, ChangeAsArgument, UnopenedBrace, RightWithoutLeft, MiddleWithoutLeft, LimitsWithoutOperator, NothingToNegate, OutsideTable, MisplacedCharacter, Refusal, refusal_at, UnknownEnvironment, EndWithoutBegin, OtherName, TooManyColumns, LengthTooLarge}
-use Rattle.latex2mathml_tex_grammar.specs.Scanning.{Spot, Argument, Name, ColumnList, Number, BeforeArgument, BeforeBrace, BeforePosition, AtUnit, BeforeLengthInBraces, BeforeStar, InLength}
-use Rattle.latex2mathml_tex_grammar.specs.Lengths.{width_of}
-use Rattle.latex2mathml_tex_grammar.specs.Symbols.{Style, InScript, smaller, Alphabet, Upright, Ordinary, Relation, Symbol}
+use Rattle.latex2mathml_tex_grammar.specs.Makes.{Core, core, letter, upright_letter, number, relation, symbol, function_name, spacing, group, classed, no_letters, operator_name, accent, brace, stack, fraction, square_root, root, between_delimiters, sized, struck, blank, boxed_atom, bar, arrow}
+use Rattle.latex2mathml_tex_grammar.specs.Meaning.{Meaning, Shows, FunctionName, Dots, Spacing, Styled, Words as TakesWordsIn, Fraction, Root, Accent, Brace, Stack, StackedRelation, OperatorName, Negation, Slash, Sized, Left, Middle, Right, Limits, NoLimits, Classed, Changes, Beside, ByStyle, FractionRule, BeginTable, EndTable, LineBreak, Substack, Skip, SkipInBraces, Box, Smashed, WithoutHeight, WithoutDepth, Boxed, Smash, Raise, InColor, Highlight, Rectangle, Arrow, Raised, Colored, OnColor, ContinuedFraction, Bar}
+use Rattle.latex2mathml_tex_grammar.specs.Refusal.{UnknownCommand, MissingArgument, ChangeAsArgument, UnopenedBrace, RightWithoutLeft, MiddleWithoutLeft, LimitsWithoutOperator, NothingToNegate, OutsideTable, MisplacedCharacter, Refusal, refusal_at, UnknownEnvironment, EndWithoutBegin, OtherName, TooManyColumns, LengthTooLarge, UnknownColor}
+use Rattle.latex2mathml_tex_grammar.specs.Scanning.{Spot, Argument, Name, ColumnList, Number, BeforeArgument, BeforeBrace, BeforePosition, AtUnit, BeforeLengthInBraces, BeforeStar, InLength, AtBracket, ColorName}
+use Rattle.latex2mathml_tex_grammar.specs.{Colors.color_of, Lengths.width_of}
+use Rattle.latex2mathml_elements.specs.Colors.{Color}
+use Rattle.latex2mathml_tex_grammar.specs.Symbols.{Style, InDisplay, InScript, smaller, Alphabet, Upright, Ordinary, Relation, Symbol}
 use Rattle.latex2mathml_tex_grammar.specs.Tables.{Lines, a_table}
 use Rattle.latex2mathml_tex_grammar.specs.Units.{Piece, Space, Open, Close, Command, Character}
 use Rattle.latex2mathml_tex_grammar.specs.Words.{Words, words_atom}
@@ -190,6 +191,7 @@ argument_rule place c name e None = rows_rule place c name e e.columns
 argument_rule place c name e (Some ColumnList) = takes_found (BeforeArgument ColumnList) place (λ letters. listed_rule place c name e letters)
 argument_rule place c name e (Some Number) = takes_found (BeforeArgument Number) place (λ number. rows_rule place c name e e.columns)
 argument_rule place c name e (Some Name) = rows_rule place c name e e.columns
+argument_rule place c name e (Some ColorName) = rows_rule place c name e e.columns
 
 abbrev pub position_rule : Bool → Rule → Rule
 position_rule true rest = passes_over BeforePosition rest
@@ -208,13 +210,40 @@ a_substack place c =
 abbrev pub rows_of_text : Context → Rule
 rows_of_text c = reads_rows ByText 0 pairs.columns (styled c pairs.style) (λ lines end. gives (a_table pairs.delimiters pairs.columns pairs.style c.style lines))
 
--- a space as wide as a length says
-abbrev pub wide_rule : ℕ → Option ℤ → Rule
-wide_rule place None = refuses (refusal_at LengthTooLarge place)
-wide_rule place (Some width) = gives (core (blank width))
+-- what follows a value, where there is one
+abbrev pub with_value : {A : Type 0} → Refusal → (A → Rule) → Option A → Rule
+with_value none more None = refuses none
+with_value none more (Some x) = more x
 
+-- a length, which must stand next, and what follows it
+abbrev pub a_length : ℕ → Spot → (ℤ → Rule) → Rule
+a_length place spot more = takes_found spot place (λ text. with_value (refusal_at LengthTooLarge place) more (width_of text))
+
+-- a space as wide as a length says
 abbrev pub a_skip : ℕ → Spot → Rule
-a_skip place spot = takes_found spot place (λ text. wide_rule place (width_of text))
+a_skip place spot = a_length place spot (λ width. gives (core (blank width)))
+
+-- a black rectangle, whose width and height stand next in braces
+abbrev pub a_bar : ℕ → Option ℤ → Rule
+a_bar place raise =
+    a_length place BeforeLengthInBraces (λ width. a_length place BeforeLengthInBraces (λ height. gives (core (bar raise width height))))
+
+-- .. behind the length in brackets that raises it, if one stands next
+abbrev pub a_rectangle : ℕ → Rule
+a_rectangle place =
+    takes_if (a_character (byte "[") ∷ []) (λ bracket. a_length place (InLength AtBracket) (λ height. a_bar place (Some height))) (a_bar place None)
+
+-- a color, whose name must stand next, and what follows it
+abbrev pub a_color : ℕ → (Color → Rule) → Rule
+a_color place more = takes_found (BeforeArgument ColorName) place (λ name. with_value (refusal_at (UnknownColor name) place) more (color_of name))
+
+-- an arrow: what stands below it in brackets, if anything does, and what stands above it
+abbrev pub an_arrow : ℕ → Context → ℕ → Rule
+an_arrow place c sign_character =
+    let small = styled c InScript in
+    takes_if (a_character (byte "[") ∷ [])
+    (λ bracket. reads_atoms (InBrackets place) small (λ below. of_one place small (λ above. arrow sign_character (Some (row_element below.elements)) above.element)))
+    (of_one place small (λ above. arrow sign_character None above.element))
 
 -- an operand in a box, where a sign has no space
 abbrev pub a_box : ℕ → Context → Box → Rule
@@ -230,6 +259,12 @@ a_smash place c =
     takes_if (in_brackets (byte "t")) (λ top. a_box place c WithoutHeight)
     (takes_if (in_brackets (byte "b")) (λ bottom. a_box place c WithoutDepth) (a_box place c Smashed))
 
+-- `[l]` and `[r]`, which push the numerator to a side, are nothing
+abbrev pub a_continued_fraction : ℕ → Context → Rule
+a_continued_fraction place c =
+    let whole = a_fraction place c Bar (Some InDisplay) in
+    takes_if (in_brackets (byte "l")) (λ left. whole) (takes_if (in_brackets (byte "r")) (λ right. whole) whole)
+
 -- the rule of a command with this meaning, at this place
 abbrev pub meaning_rule : ℕ → Context → Meaning → Rule
 meaning_rule place c (Shows s) = gives (symbol c.alphabet s)
@@ -240,9 +275,15 @@ meaning_rule place c Skip = a_skip place (InLength AtUnit)
 meaning_rule place c SkipInBraces = passes_over BeforeStar (a_skip place BeforeLengthInBraces)
 meaning_rule place c (Boxed box) = a_box place c box
 meaning_rule place c Smash = a_smash place c
+meaning_rule place c Raise = a_length place BeforeLengthInBraces (λ height. a_box place c (Raised height))
+meaning_rule place c InColor = a_color place (λ color. a_box place c (Colored color))
+meaning_rule place c Highlight = a_color place (λ color. a_box place c (OnColor color))
+meaning_rule place c Rectangle = a_rectangle place
+meaning_rule place c (Arrow sign_character) = an_arrow place c sign_character
 meaning_rule place c (Styled alphabet) = of_one place (in_context c.style (Some alphabet)) (λ x. core (group x))
 meaning_rule place c (TakesWordsIn alphabet) = reads_words place alphabet (λ ws. gives (core (words_atom ws)))
 meaning_rule place c (Fraction rule own) = a_fraction place c rule own
+meaning_rule place c ContinuedFraction = a_continued_fraction place c
 meaning_rule place c Root = a_root place c
 meaning_rule place c (Accent side mark width) = of_one place c (λ x. accent side mark width x.element)
 meaning_rule place c (Brace side mark) = of_one place c (λ x. brace side mark x.element)

@@ -1,7 +1,7 @@
 -- What is taken unit by unit: the name of an environment, its columns, a length. Each unit has a spot, which says what the
 -- unit does there. White space is nothing.
 use Rattle.std.specs.Prelude.{ℕ, ◌+◌, ◌==◌, ◌&&◌, ◌||◌, Bool, true, false, nat_lt, List, [], ◌++◌, Option, Some, if◌then◌else◌, codes}
-use Rattle.std.specs.{Char.encode_utf8, Char.is_ascii_digit, Str.byte, Str.bytes_eq}
+use Rattle.std.specs.{Char.encode_utf8, Char.is_ascii_alphanumeric, Char.is_ascii_digit, Str.byte, Str.bytes_eq}
 use Rattle.latex2mathml_tex_grammar.specs.{Commands.meaning_of, Meaning.Meaning, Meaning.Spacing}
 use Rattle.latex2mathml_tex_grammar.specs.Refusal.{Kind, MissingArgument, MissingLength, MissingName, UnknownColumn, Refusal, refusal_at}
 use Rattle.latex2mathml_tex_grammar.specs.Units.{Piece, Space, Open, Close, Command, Character, Unit, Units, Next, End, Stop}
@@ -14,6 +14,8 @@ pub data Argument : Type 0 where
   ColumnList : Argument
   -- a number, which means nothing here
   Number : Argument
+  -- the name of a color
+  ColorName : Argument
 
 -- what ends a length: a bracket, a brace, or its unit
 pub data LengthEnd : Type 0 where
@@ -74,6 +76,10 @@ abbrev pub passes_if : Bool → Spot → Deed
 passes_if true spot = Passes spot
 passes_if false spot = Misses
 
+abbrev pub adds_if : Bool → ℕ → Spot → Deed
+adds_if true c spot = Adds c spot
+adds_if false c spot = Misses
+
 abbrev pub ends_if : Bool → Deed
 ends_if true = Ends
 ends_if false = Misses
@@ -97,12 +103,14 @@ abbrev pub character_deed : Argument → ℕ → Deed
 character_deed Name c = name_deed c
 character_deed ColumnList c = column_deed c
 character_deed Number c = passes_if (is_ascii_digit c) (InArgument Number)
+character_deed ColorName c = adds_if (is_ascii_alphanumeric c || c == byte "#") c (InArgument ColorName)
 
 -- any unit but a character and the brace that ends the argument
 abbrev pub other_deed : Argument → Deed
 other_deed Name = Misses
 other_deed ColumnList = Refuses UnknownColumn
 other_deed Number = Misses
+other_deed ColorName = Misses
 
 abbrev pub argument_deed : Argument → Piece → Deed
 argument_deed a (Character c) = character_deed a c
@@ -147,10 +155,6 @@ is_unit_of_length c d =
 abbrev pub begins_unit_of_length : ℕ → Bool
 begins_unit_of_length c =
     c == byte "b" || c == byte "c" || c == byte "d" || c == byte "e" || c == byte "i" || c == byte "m" || c == byte "p" || c == byte "s"
-
-abbrev pub adds_if : Bool → ℕ → Spot → Deed
-adds_if true c spot = Adds c spot
-adds_if false c spot = Misses
 
 -- a number begins
 abbrev pub number_deed : LengthEnd → ℕ → Deed

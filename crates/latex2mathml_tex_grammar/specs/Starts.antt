@@ -3,7 +3,7 @@ use Rattle.std.specs.Prelude.{ℕ, suc, ◌==◌, ◌||◌, Bool, true, false, L
 use Rattle.std.specs.{Str.byte, Str.bytes_eq}
 use Rattle.latex2mathml_elements.specs.Element.{Element}
 use Rattle.latex2mathml_tex_grammar.specs.{Atoms.Atom, Atoms.Plain, Atoms.atom, Commands.meaning_of, Makes.Scripts, Makes.behind_primes, Rows.row_element, Rules.a_digit}
-use Rattle.latex2mathml_tex_grammar.specs.Meaning.{Change, Changes, Meaning, LimitPlace, Beside, Stacked}
+use Rattle.latex2mathml_tex_grammar.specs.Meaning.{Change, Changes, Meaning, LimitPlace, Beside, ByStyle, Stacked}
 use Rattle.latex2mathml_tex_grammar.specs.Refusal.{Kind, UnclosedBrace, UnclosedBracket, UnclosedDollar, LeftWithoutRight, LimitsWithoutOperator, SecondSubscript, SecondSuperscript, Refusal, refusal_at, BeginWithoutEnd}
 use Rattle.latex2mathml_tex_grammar.specs.Rules.{Ending, WholeText, InBraces, InBrackets, InDollars, InDelimiters, InCell, ByName, ByBrace, ByText}
 use Rattle.latex2mathml_tex_grammar.specs.Symbols.{Ordinary}
@@ -102,6 +102,7 @@ mark_of (Character c) =
 mark_of (Command name) =
     if bytes_eq name (codes "limits") then Some (LimitsAt Stacked)
     else if bytes_eq name (codes "nolimits") then Some (LimitsAt Beside)
+    else if bytes_eq name (codes "displaylimits") then Some (LimitsAt ByStyle)
     else None
 mark_of piece = None
 
@@ -134,7 +135,7 @@ atom_start ending piece = start_of_mark (change_by piece) (mark_of piece)
 abbrev pub is_no_operand : Piece → Bool
 is_no_operand piece =
     is_close piece || is_character (byte "&") piece || is_character (byte "_") piece || is_character (byte "^") piece || is_character (byte "'") piece
-    || is_break piece || is_command (codes "end") piece || is_command (codes "right") piece || is_command (codes "middle") piece || is_command (codes "limits") piece || is_command (codes "nolimits") piece
+    || is_break piece || is_command (codes "end") piece || is_command (codes "right") piece || is_command (codes "middle") piece || is_command (codes "limits") piece || is_command (codes "nolimits") piece || is_command (codes "displaylimits") piece
 
 abbrev pub is_open : Piece → Bool
 is_open Open = true

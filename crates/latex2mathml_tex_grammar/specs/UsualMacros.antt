@@ -24,6 +24,7 @@ usual_entries =
     (codes "clap", 1, codes "\\mathclap{\\text{#1}}") ∷
     (codes "coloneq", 0, codes "\\mathrel{:=}") ∷
     (codes "coloneqq", 0, codes "\\mathrel{:=}") ∷
+    (codes "colorbox", 2, codes "\\mathcolorbox{#1}{\\text{#2}}") ∷
     (codes "dotsb", 0, codes "\\cdots") ∷
     (codes "dotsc", 0, codes "\\ldots") ∷
     (codes "dotsi", 0, codes "\\cdots") ∷
@@ -50,12 +51,14 @@ usual_entries =
     (codes "pmod", 1, codes "\\quad(\\operatorname{mod}\\;#1)") ∷
     (codes "pod", 1, codes "\\quad(#1)") ∷
     (codes "qed", 0, codes "\\square") ∷
+    (codes "raisebox", 2, codes "\\raisemath{#1}{\\text{#2}}") ∷
     (codes "relax", 0, codes "") ∷
     (codes "rlap", 1, codes "\\mathrlap{\\text{#1}}") ∷
     (codes "scriptsize", 0, codes "") ∷
     (codes "sfrac", 2, codes "#1/#2") ∷
     (codes "small", 0, codes "") ∷
     (codes "strut", 0, codes "\\vphantom{(}") ∷
+    (codes "tag", 1, codes "\\qquad\\text{(#1)}") ∷
     (codes "tiny", 0, codes "") ∷
     (codes "varDelta", 0, codes "\\mathit{\\Delta}") ∷
     (codes "varGamma", 0, codes "\\mathit{\\Gamma}") ∷

@@ -38,7 +38,7 @@ pub fn macros_by_name()
 {}
 
 /// What a text is read as holds no character that XML forbids, and neither does its markup, which holds no dollar sign
-/// either: it can stand in a page of XML.
+/// either: it can stand in a page of XML. So it is if the text stands beside it as an annotation.
 pub fn allowed_readings()
     ensures { ReadingsAreAllowed }
 {}

@@ -16,7 +16,7 @@ use Rattle.clap.specs.declared.builder.value_parser.ValueParser.{ValueParser}
 use Rattle.clap.specs.declared.error.Error.{Error}
 use Rattle.clap.specs.declared.error.kind.ErrorKind.TheVariants.{OutOfMemory}
 use Rattle.clap.specs.declared.parser.matches.ArgMatches.{ArgMatches}
-use Rattle.latex2mathml_tex_program.specs.Requests.{IsAsked, IsDisplay, IsMany, definitions_rule, display_rule, null_rule, program}
+use Rattle.latex2mathml_tex_program.specs.Requests.{IsAsked, IsDisplay, IsGiven, definitions_rule, display_rule, flag_rule, program}
 use Rattle.latex2mathml_tex_program.specs.declared.request.Request.{Request}
 
 -- memory was wanting
@@ -72,20 +72,18 @@ display_given new long named parsed default helped word name value help choice i
     ∙ ap (λ (t : Text). record (new_rule (codes "display")) { long = Some (codes "display"); value_names = 1; defaults = t ∷ []; parser = parsed.value_parser }) is_value
     ∙ ap (λ p. record (new_rule (codes "display")) { long = Some (codes "display"); value_names = 1; defaults = codes "inline" ∷ []; parser = p }) is_choice
 
--- `--null`
-pub null_given : (new long set helped : Arg) (word help : Bor Text)
-    → rule_of new ≡ new_rule (codes "null")
+-- an option that takes no value
+pub flag_given : (new long set helped : Arg) (word help : Bor Text)
+    → rule_of new ≡ new_rule word.now
     → long ≡ record new { long = Some word }
-    → word.now ≡ codes "null"
     → set ≡ record long { action = Some SetTrue }
     → helped ≡ record set { help = Some help }
-    → rule_of helped ≡ null_rule
-null_given new long set helped word help is_new is_long is_word is_set is_helped =
+    → rule_of helped ≡ flag_rule word.now
+flag_given new long set helped word help is_new is_long is_set is_helped =
     ap rule_of is_helped
     ∙ ap rule_of is_set
     ∙ ap (λ (r : Rule). record r { action = Some SetTrue })
     (ap rule_of is_long ∙ ap (λ (r : Rule). record r { long = Some word.now }) is_new)
-    ∙ ap (λ (t : Text). record (new_rule (codes "null")) { long = Some t; action = Some SetTrue }) is_word
 
 -- `--definitions`
 pub definitions_given : (new long named helped : Arg) (word name help : Bor Text)
@@ -105,12 +103,14 @@ definitions_given new long named helped word name help is_new is_long is_word is
 -- the request that the matches hold
 pub asked : (words : List Text) (choice : ValueParser) (matches : ArgMatches) (request : Request)
     → rows_of (found_of matches) ≡ matches_of (program choice) words
-    → IsDisplay (first_value (found_of matches) (codes "display")) request.display
-    → IsMany (one_text (found_of matches) (codes "null")) request.is_many
+    → IsDisplay (first_value (found_of matches) (codes "display")) request.format.display
+    → IsGiven (one_text (found_of matches) (codes "annotation")) request.format.is_annotated
+    → IsGiven (one_text (found_of matches) (codes "null")) request.is_many
     → option_map (λ name. name.now) request.definitions ≡ first_value (found_of matches) (codes "definitions")
     → IsAsked (matches_of (program choice) words) request
-asked words choice matches request rows is_display is_many is_name = (
-  subst (λ v. IsDisplay v request.display) (first_value-rows (found_of matches) (codes "display") ∙ ap (first_of (codes "display")) rows) is_display,
-  subst (λ v. IsMany v request.is_many) (one_text-rows (found_of matches) (codes "null") ∙ ap (one_of (codes "null")) rows) is_many,
+asked words choice matches request rows is_display is_annotated is_many is_name = (
+  subst (λ v. IsDisplay v request.format.display) (first_value-rows (found_of matches) (codes "display") ∙ ap (first_of (codes "display")) rows) is_display,
+  subst (λ v. IsGiven v request.format.is_annotated) (one_text-rows (found_of matches) (codes "annotation") ∙ ap (one_of (codes "annotation")) rows) is_annotated,
+  subst (λ v. IsGiven v request.is_many) (one_text-rows (found_of matches) (codes "null") ∙ ap (one_of (codes "null")) rows) is_many,
   is_name ∙ first_value-rows (found_of matches) (codes "definitions") ∙ ap (first_of (codes "definitions")) rows,
 )

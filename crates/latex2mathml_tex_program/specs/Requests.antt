@@ -25,10 +25,10 @@ display_rule choice = record (new_rule (codes "display")) {
   parser = Some choice;
 }
 
--- `--null`
-abbrev pub null_rule : Rule
-null_rule = record (new_rule (codes "null")) {
-  long = Some (codes "null");
+-- an option that takes no value, such as `--null`
+abbrev pub flag_rule : Text → Rule
+flag_rule name = record (new_rule name) {
+  long = Some name;
   action = Some SetTrue;
 }
 
@@ -42,24 +42,25 @@ definitions_rule = record (new_rule (codes "definitions")) {
 -- the program, as far as its words are read
 abbrev pub program : ValueParser → App
 program choice =
-    with_rule (with_rule (with_rule (on_top (λ s. record s { has_version = true }) (new_app (codes "tex2mathml")))
-    (display_rule choice)) null_rule) definitions_rule
+    with_rule (with_rule (with_rule (with_rule (on_top (λ s. record s { has_version = true }) (new_app (codes "tex2mathml")))
+    (display_rule choice)) (flag_rule (codes "null"))) definitions_rule) (flag_rule (codes "annotation"))
 
 -- the value of `--display` asks for this style. It is one of two, as the parse has checked.
 abbrev pub IsDisplay : Option Text → DisplayStyle → Type 0
 IsDisplay value Block = value ≡ Some (codes "block")
 IsDisplay value Inline = value ≢ Some (codes "block")
 
--- the value of `--null` asks for many formulas, or for one
-abbrev pub IsMany : Option Text → Bool → Type 0
-IsMany None is_many = is_many ≡ false
-IsMany (Some text) is_many = (text ≡ codes "true" → is_many ≡ true) × (text ≡ codes "false" → is_many ≡ false)
+-- the value of an option that takes none says whether it is given
+abbrev pub IsGiven : Option Text → Bool → Type 0
+IsGiven None is_given = is_given ≡ false
+IsGiven (Some text) is_given = (text ≡ codes "true" → is_given ≡ true) × (text ≡ codes "false" → is_given ≡ false)
 
 -- what was found of the arguments asks for this
 abbrev pub IsAsked : List Row → Request → Type 0
 IsAsked rows request =
-    IsDisplay (first_of (codes "display") rows) request.display
-    × IsMany (one_of (codes "null") rows) request.is_many
+    IsDisplay (first_of (codes "display") rows) request.format.display
+    × IsGiven (one_of (codes "annotation") rows) request.format.is_annotated
+    × IsGiven (one_of (codes "null") rows) request.is_many
     × (option_map (λ name. name.now) request.definitions ≡ first_of (codes "definitions") rows)
 
 -- The answer to the words: the request, or an error whose kind says what is wrong with them or what else they ask for. Memory

@@ -6,24 +6,24 @@ use Rattle.latex2mathml.specs.{Inputs.IsReadFault, Inputs.IsWholeText}
 use Rattle.latex2mathml.specs.Streams.{CanGoOn, Gives, IsStopped, StreamState, Takes}
 use Rattle.latex2mathml.specs.declared.error.FileFault.{FileFault}
 use Rattle.latex2mathml_tex.specs.{Answers.IsRefusal, Answers.style_in, Errors.refusal_of}
-use Rattle.latex2mathml_tex_grammar.specs.{Macros.Table, Refusal.Refusal, Symbols.Style}
+use Rattle.latex2mathml_tex_grammar.specs.{Macros.Table, Refusal.Refusal}
 use Rattle.latex2mathml_tex_program.specs.Definitions.{Hold, IsRefusedFault, IsTextAsked, IsUnreadFault}
 use Rattle.latex2mathml_tex_program.specs.Replies.{AreFormulas, AreReplies, IsLine}
-use Rattle.latex2mathml_tex_program.specs.declared.{fault.Fault.Fault, request.Request.Request}
+use Rattle.latex2mathml_tex_program.specs.declared.{fault.Fault.Fault, request.Format.Format, request.Request.Request}
 use Rattle.latex2mathml_tex_program.specs.declared.fault.Fault.TheVariants.{File, Refused}
 
 -- what is made of a text that holds many formulas, and of one that is a formula, where some macros hold
-abbrev pub IsMadeOf : Table → Bool → List ℕ → Style → List ℕ → Type 0
-IsMadeOf macros true text style product = (formulas : List (List ℕ)) × AreFormulas text formulas × AreReplies macros formulas style product
-IsMadeOf macros false text style product = IsLine macros text style product
+abbrev pub IsMadeOf : Table → Bool → List ℕ → Format → List ℕ → Type 0
+IsMadeOf macros true text format product = (formulas : List (List ℕ)) × AreFormulas text formulas × AreReplies macros formulas format product
+IsMadeOf macros false text format product = IsLine macros text format product
 
 -- what is made of a text
 abbrev pub IsMade : Table → Request → List ℕ → List ℕ → Type 0
-IsMade macros request text product = IsMadeOf macros request.is_many text (style_in request.display) product
+IsMade macros request text product = IsMadeOf macros request.is_many text request.format product
 
 -- why nothing is made of a text. Where it holds many formulas, a refusal of one of them is a reply.
 abbrev pub IsNotMade : Table → Request → List ℕ → Refusal → Type 0
-IsNotMade macros request text refusal = (request.is_many ≡ false) × IsRefusal macros text (style_in request.display) refusal
+IsNotMade macros request text refusal = (request.is_many ≡ false) × IsRefusal macros text (style_in request.format.display) refusal
 
 -- what putting out what is made of a text may come to where these macros hold, by what is known of the output before and then
 abbrev pub IsPut : Table → List ℕ → Request → StreamState → StreamState → Result Unit Fault → Type 0

@@ -1,9 +1,10 @@
 //! What is put out for formulas.
 ghost use Rattle.std.specs.Prelude.{◌≡◌, ℕ, ◌++◌, ◌∷◌, [], codes, IfErr, IfOk, IfSome, List, OnOk, string_bytes};
 ghost use Rattle.latex2mathml_tex.specs.{ErrorTexts.error_text, Answers.IsRefusal, Answers.style_in, Errors.refusal_of, MacroTables.Holding};
-ghost use Rattle.latex2mathml_tex_program.specs.Replies.{AreFormulas, AreReplies, IsLine, IsReply};
+ghost use Rattle.latex2mathml_tex_program.specs.Replies.{AreFormulas, AreReplies, IsLine, IsMarkup, IsReply};
 
-use latex2mathml_tex::{Converter, DisplayStyle, Macros, TexError, tex_to_mathml};
+use crate::request::Format;
+use latex2mathml_tex::{Converter, Macros, TexError, tex_to_mathml, tex_to_mathml_with_source};
 use std::alloc::{AllocError, Global};
 use std::fmt::Write;
 
@@ -16,16 +17,35 @@ pub fn line<'a>(
     alloc: Global,
     macros: &Macros<'a>,
     tex: &'a str,
-    display: DisplayStyle,
+    format: Format,
 ) -> Result<String, TexError>
     ensures line { Holding macros.now (λ table. IfOk result (λ line.
-        IsLine table tex.now (style_in display) (string_bytes line))) }
+        IsLine table tex.now format (string_bytes line))) }
     ensures refusal { Holding macros.now (λ table. IfErr result (λ error.
-        IfSome (refusal_of error) (IsRefusal table tex.now (style_in display)))) }
+        IfSome (refusal_of error) (IsRefusal table tex.now (style_in format.display)))) }
 {
-    let mut line = tex_to_mathml(alloc, macros, tex, display)?;
+    let mut line = markup(alloc, macros, tex, format)?;
     line.push('\n')?;
     Ok(line)
+}
+
+/// Returns the markup of a formula.
+fn markup<'a>(
+    alloc: Global,
+    macros: &Macros<'a>,
+    tex: &'a str,
+    format: Format,
+) -> Result<String, TexError>
+    ensures markup { Holding macros.now (λ table. IfOk result (λ markup.
+        IsMarkup table tex.now format (string_bytes markup))) }
+    ensures refusal { Holding macros.now (λ table. IfErr result (λ error.
+        IfSome (refusal_of error) (IsRefusal table tex.now (style_in format.display)))) }
+{
+    if format.is_annotated {
+        tex_to_mathml_with_source(alloc, macros, tex, format.display)
+    } else {
+        tex_to_mathml(alloc, macros, tex, format.display)
+    }
 }
 
 /// Returns a reply for each formula of a text, in turn. In the text a NUL ends each formula; after the last one it may be
@@ -36,25 +56,18 @@ pub fn replies<'a>(
     alloc: Global,
     macros: &Macros<'a>,
     texts: &'a str,
-    display: DisplayStyle,
+    format: Format,
 ) -> Result<String, AllocError>
     ensures { Holding macros.now (λ table. IfOk result (λ replies.
         (formulas : List (List ℕ)) × AreFormulas texts.now formulas
-        × AreReplies table formulas (style_in display) (string_bytes replies))) }
+        × AreReplies table formulas format (string_bytes replies))) }
 {
     let mut converter = Converter::new(alloc);
     let mut room = String::new(alloc);
     let mut replies = String::new(alloc);
     let mut rest = texts;
     while let Some((tex, more)) = rest.split_once('\0') {
-        append_reply(
-            &mut converter,
-            &mut room,
-            macros,
-            tex,
-            display,
-            &mut replies,
-        )?;
+        append_reply(&mut converter, &mut room, macros, tex, format, &mut replies)?;
         rest = more;
     }
     if !rest.is_empty() {
@@ -63,7 +76,7 @@ pub fn replies<'a>(
             &mut room,
             macros,
             rest,
-            display,
+            format,
             &mut replies,
         )?;
     }
@@ -76,17 +89,38 @@ fn append_reply<'a>(
     room: &mut String,
     macros: &Macros<'a>,
     tex: &'a str,
-    display: DisplayStyle,
+    format: Format,
     replies: &mut String,
 ) -> Result<(), AllocError>
     ensures { Holding macros.now (λ table. OnOk result ((reply : List ℕ)
-        × IsReply table tex.now (style_in display) reply
+        × IsReply table tex.now format reply
         × (string_bytes replies.new ≡ string_bytes replies.old ++ reply))) }
 {
     room.clear();
-    match converter.append(room, macros, tex, display) {
+    match append_markup(converter, room, macros, tex, format) {
         Ok(()) => append_said(replies, "mathml\n", room.as_str()),
         Err(error) => append_refusal(replies, &error, room),
+    }
+}
+
+/// Appends the markup of a formula.
+fn append_markup<'a>(
+    converter: &mut Converter<'a>,
+    text: &mut String,
+    macros: &Macros<'a>,
+    tex: &'a str,
+    format: Format,
+) -> Result<(), TexError>
+    ensures markup { Holding macros.now (λ table. OnOk result ((markup : List ℕ)
+        × IsMarkup table tex.now format markup
+        × (string_bytes text.new ≡ string_bytes text.old ++ markup))) }
+    ensures refusal { Holding macros.now (λ table. IfErr result (λ error.
+        IfSome (refusal_of error) (IsRefusal table tex.now (style_in format.display)))) }
+{
+    if format.is_annotated {
+        converter.append_with_source(text, macros, tex, format.display)
+    } else {
+        converter.append(text, macros, tex, format.display)
     }
 }
 

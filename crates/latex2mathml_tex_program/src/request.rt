@@ -1,18 +1,27 @@
 //! What the arguments ask for.
 ghost use Rattle.std.specs.Prelude.{◌≡◌, codes, false, map, string_bytes};
+ghost use Rattle.clap.specs.declared.builder.value_parser.ValueParser.{ValueParser};
 ghost use Rattle.clap.specs.Words.{first_value, found_of, kind_of, one_text, rule_of};
-ghost use Rattle.latex2mathml_tex_program.specs.Requests.{IsDisplay, IsMany, IsRequested, definitions_rule, null_rule, status_of_kind};
+ghost use Rattle.latex2mathml_tex_program.specs.Requests.{IsChoice, IsDisplay, IsGiven, IsRequested, definitions_rule, display_rule, flag_rule, status_of_kind};
 
 use clap::error::ErrorKind;
 use clap::{Arg, ArgAction, ArgMatches, Command, Error};
 use latex2mathml_tex::DisplayStyle;
 use std::alloc::Global;
 
+/// What the markup of each formula is to be.
+#[derive(Debug, Clone, Copy, PartialEq, Eq)]
+pub struct Format {
+    /// Whether the formulas stand in a line of text or on a line of their own.
+    pub display: DisplayStyle,
+    /// Whether the markup holds the text of the formula, as an annotation.
+    pub is_annotated: bool,
+}
+
 /// What the program is asked for.
 #[derive(Debug, Clone, Copy, PartialEq, Eq)]
 pub struct Request<'a> {
-    /// Whether the formulas stand in a line of text or on a line of their own.
-    pub display: DisplayStyle,
+    pub format: Format,
     /// Whether the input holds many formulas, with a NUL after each.
     pub is_many: bool,
     /// The name of the file of definitions, where the formulas may use the macros that it defines.
@@ -27,36 +36,55 @@ pub struct Request<'a> {
 pub fn requested<'a>(alloc: Global, words: &'a [String]) -> Result<Request<'a>, Error>
     ensures { IsRequested (map string_bytes words.now) result }
 {
-    let display = Arg::new(alloc, "display")
-        .long("display")
-        .value_name("DISPLAY")
-        .value_parser(["inline", "block"].as_slice())
-        .default_value("inline")
-        .help("Whether the formula stands in a line of text or on a line of its own");
     let command = Command::new(alloc, "tex2mathml")
         .version("0.3.0")
         .about("Turns a LaTeX formula on standard input into MathML on standard output")
         .override_usage("tex2mathml [OPTIONS]")
-        .arg(display)?
-        .arg(null_argument(alloc))?
-        .arg(definitions_argument(alloc))?;
+        .arg(display_argument(alloc))?
+        .arg(flag(
+            alloc,
+            "null",
+            "Read many formulas, with a NUL between them, and end each reply with a NUL",
+        ))?
+        .arg(definitions_argument(alloc))?
+        .arg(flag(
+            alloc,
+            "annotation",
+            "Put the LaTeX of the formula into its MathML, as an annotation",
+        ))?;
     let matches = command.try_get_matches_from(words)?;
     Ok(Request {
-        display: display_in(&matches),
-        is_many: is_many_in(&matches),
+        format: Format {
+            display: display_in(&matches),
+            is_annotated: is_given(&matches, "annotation"),
+        },
+        is_many: is_given(&matches, "null"),
         definitions: matches.get_str("definitions"),
     })
 }
 
-/// Returns `--null`.
-fn null_argument<'a>(alloc: Global) -> Arg<'a>
-    ensures rule { rule_of result ≡ null_rule }
+/// Returns `--display DISPLAY`.
+fn display_argument<'a>(alloc: Global) -> Arg<'a>
+    ensures rule { (choice : ValueParser) × IsChoice choice × (rule_of result ≡ display_rule choice) }
     ensures local { result.global ≡ false }
 {
-    Arg::new(alloc, "null")
-        .long("null")
+    Arg::new(alloc, "display")
+        .long("display")
+        .value_name("DISPLAY")
+        .value_parser(["inline", "block"].as_slice())
+        .default_value("inline")
+        .help("Whether the formula stands in a line of text or on a line of its own")
+}
+
+/// Returns the option of this name, which takes no value.
+fn flag<'a>(alloc: Global, name: &'a str, help: &'a str) -> Arg<'a>
+    ensures rule { rule_of result ≡ flag_rule name.now }
+    ensures local { result.global ≡ false }
+{
+    Arg::new(alloc, name)
+        .long(name)
         .action(ArgAction::SetTrue)
-        .help("Read many formulas, with a NUL between them, and end each reply with a NUL")
+        .help(help)
 }
 
 /// Returns `--definitions FILE`.
@@ -82,11 +110,11 @@ fn display_in(matches: &ArgMatches) -> DisplayStyle
     }
 }
 
-/// Returns the value of `--null`.
-fn is_many_in(matches: &ArgMatches) -> bool
-    ensures { IsMany (one_text (found_of matches.now) (codes "null")) result }
+/// Whether the option of this name is given, which takes no value.
+fn is_given(matches: &ArgMatches, name: &str) -> bool
+    ensures { IsGiven (one_text (found_of matches.now) name.now) result }
 {
-    matches.get_flag("null")
+    matches.get_flag(name)
 }
 
 /// Returns the exit status for an error that is printed in place of a run: 0 if it is the help or the version, 1 if memory ran

@@ -114,9 +114,9 @@ fn product<'a>(
         IfSome (refusal_of error) (IsNotMade table request.entry text.now))) }
 {
     if request.is_many {
-        return Ok(replies(alloc, macros, text, request.display)?);
+        return Ok(replies(alloc, macros, text, request.format)?);
     }
-    line(alloc, macros, text, request.display)
+    line(alloc, macros, text, request.format)
 }
 
 /// Writes the line that reports the fault, if there is memory for it.

@@ -1,11 +1,17 @@
 //! Formulas that are read, and refusals as their readers see them.
 
-use latex2mathml_tex::{Converter, DisplayStyle, Macros, Position, TexError, tex_to_mathml};
+use latex2mathml_tex::{
+    Converter, DisplayStyle, Macros, Position, TexError, tex_to_mathml, tex_to_mathml_with_source,
+};
+use latex2mathml_tex_uses::copies;
 use std::alloc::{AllocError, Global};
 use std::test::Fail;
 
 const X: &str =
     "<math xmlns=\"http://www.w3.org/1998/Math/MathML\" display=\"inline\"><mi>x</mi></math>";
+
+const X_WITH_SOURCE: &str =
+    "<math xmlns=\"http://www.w3.org/1998/Math/MathML\" display=\"inline\" alttext=\"x\"><semantics><mi>x</mi><annotation encoding=\"application/x-tex\">x</annotation></semantics></math>";
 
 /// The text of the error for a formula in a line of text, and its position.
 fn refusal(alloc: Global, tex: &str) -> Result<(String, Position), Fail> {
@@ -87,6 +93,52 @@ fn formulas_in_turn(rt: HostRuntime) -> Result<(), Fail> {
     text.push_str(", b: ")?;
     converter.append(&mut text, &macros, "x", DisplayStyle::Inline)?;
     let expected = format!(in rt.alloc(); "a: {X}, b: {X}")?;
+    assert!(rt; text == expected, "{text}");
+    Ok(())
+}
+
+#[test]
+fn source_of_several_elements(rt: HostRuntime) -> Result<(), Fail> {
+    let macros = Macros::new(rt.alloc());
+    let markup = tex_to_mathml_with_source(rt.alloc(), &macros, "x<y", DisplayStyle::Block)?;
+    assert!(rt;
+        markup.as_str()
+            == "<math xmlns=\"http://www.w3.org/1998/Math/MathML\" display=\"block\" alttext=\"x&lt;y\"><semantics><mrow><mi>x</mi><mo>&lt;</mo><mi>y</mi></mrow><annotation encoding=\"application/x-tex\">x&lt;y</annotation></semantics></math>",
+        "{markup}"
+    );
+    Ok(())
+}
+
+#[test]
+fn source_without_forbidden_characters(rt: HostRuntime) -> Result<(), Fail> {
+    let markup = copies::formula(rt.alloc(), "x%\u{1}$\n", DisplayStyle::Inline)?;
+    assert!(rt;
+        markup.as_str()
+            == "<math xmlns=\"http://www.w3.org/1998/Math/MathML\" display=\"inline\" alttext=\"x%\u{FFFD}&#x24;\n\"><semantics><mi>x</mi><annotation encoding=\"application/x-tex\">x%\u{FFFD}&#x24;\n</annotation></semantics></math>",
+        "{markup}"
+    );
+    Ok(())
+}
+
+#[test]
+fn sources_in_turn(rt: HostRuntime) -> Result<(), Fail> {
+    let macros = Macros::new(rt.alloc());
+    let mut converter = Converter::new(rt.alloc());
+    let mut text = String::from_str(rt.alloc(), "a: ")?;
+    converter.append_with_source(&mut text, &macros, "x", DisplayStyle::Inline)?;
+    let length = text.len();
+    let refused = converter.append_with_source(
+        &mut text,
+        &macros,
+        "{\\frac{x}{",
+        DisplayStyle::Inline,
+    );
+    assert!(rt; refused.is_err() && text.len() == length, "{text}");
+    text.push_str(", b: ")?;
+    converter.append(&mut text, &macros, "x", DisplayStyle::Inline)?;
+    text.push_str(", c: ")?;
+    converter.append_with_source(&mut text, &macros, "x", DisplayStyle::Inline)?;
+    let expected = format!(in rt.alloc(); "a: {X_WITH_SOURCE}, b: {X}, c: {X_WITH_SOURCE}")?;
     assert!(rt; text == expected, "{text}");
     Ok(())
 }

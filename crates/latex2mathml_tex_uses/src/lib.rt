@@ -2,4 +2,5 @@
 //! uses.
 #![tactic(auto)]
 
+pub mod copies;
 pub mod page;

@@ -1,4 +1,4 @@
-//! The two calls of `latex2mathml.h`.
+//! The calls of `latex2mathml.h`.
 //!
 //! Its conditions hold for every `&str`: its pointer is not null also where it is empty, its length is at most
 //! `isize::MAX`, and nobody changes it during the call. The room is this module's own.
@@ -10,6 +10,9 @@ const DONE: u32 = 0;
 const REFUSED: u32 = 1;
 const NOT_UTF8: u32 = 2;
 const TOO_SMALL: u32 = 3;
+const DEFINITION_REFUSED: u32 = 5;
+
+const ANNOTATION: u32 = 1;
 
 extern "C" {
     fn latex2mathml_formula(
@@ -28,6 +31,19 @@ extern "C" {
         out_len: usize,
         needed: *mut usize,
     ) -> u32;
+
+    fn latex2mathml_tex(
+        definitions: *const c_char,
+        definitions_len: usize,
+        tex: *const c_char,
+        tex_len: usize,
+        block: bool,
+        flags: u32,
+        out: *mut c_char,
+        out_len: usize,
+        needed: *mut usize,
+        place: *mut usize,
+    ) -> u32;
 }
 
 pub fn formula(latex: &str, block: bool) -> Result<String, LatexError> {
@@ -44,6 +60,36 @@ pub fn document(document: &str) -> Result<String, LatexError> {
     })
 }
 
+pub fn tex(tex: &str, block: bool, definitions: &str) -> Result<String, LatexError> {
+    tex_with(0, tex, block, definitions)
+}
+
+pub fn tex_with_source(tex: &str, block: bool, definitions: &str) -> Result<String, LatexError> {
+    tex_with(ANNOTATION, tex, block, definitions)
+}
+
+fn tex_with(flags: u32, tex: &str, block: bool, definitions: &str) -> Result<String, LatexError> {
+    convert(tex.len(), |room, length, needed| {
+        // The reason has the place too.
+        let mut place = 0;
+        // SAFETY: as above.
+        unsafe {
+            latex2mathml_tex(
+                definitions.as_ptr().cast(),
+                definitions.len(),
+                tex.as_ptr().cast(),
+                tex.len(),
+                block,
+                flags,
+                room,
+                length,
+                needed,
+                &mut place,
+            )
+        }
+    })
+}
+
 /// Makes the call with room for what it comes to. A second time, where the first room is too small, is the last: the call
 /// then has what it asked for.
 fn convert(length: usize, call: impl Fn(*mut c_char, usize, *mut usize) -> u32) -> Result<String, LatexError> {
@@ -57,7 +103,7 @@ fn convert(length: usize, call: impl Fn(*mut c_char, usize, *mut usize) -> u32) 
             text.try_reserve_exact(needed).map_err(|_| LatexError::OutOfMemory)?;
             continue;
         }
-        // SAFETY: after these three codes the first `needed` bytes of the room hold a text in UTF-8, and after any other
+        // SAFETY: after these four codes the first `needed` bytes of the room hold a text in UTF-8, and after any other
         // `needed` is 0.
         let mut text = unsafe {
             text.set_len(needed);
@@ -67,6 +113,7 @@ fn convert(length: usize, call: impl Fn(*mut c_char, usize, *mut usize) -> u32) 
         return match code {
             DONE => Ok(text),
             REFUSED | NOT_UTF8 => Err(LatexError::Refused(text)),
+            DEFINITION_REFUSED => Err(LatexError::RefusedDefinitions(text)),
             _ => Err(LatexError::OutOfMemory),
         };
     }
@@ -113,6 +160,10 @@ mod tests {
     fn each_code() {
         assert_eq!(answer_of("why", REFUSED).0, Err(LatexError::Refused("why".to_owned())));
         assert_eq!(answer_of("why", NOT_UTF8).0, Err(LatexError::Refused("why".to_owned())));
+        assert_eq!(
+            answer_of("why", DEFINITION_REFUSED).0,
+            Err(LatexError::RefusedDefinitions("why".to_owned()))
+        );
         assert_eq!(answer_of("", DONE).0, Ok(String::new()));
         assert_eq!(answer_of("", 4).0, Err(LatexError::OutOfMemory));
     }

@@ -7,6 +7,8 @@ use std::fmt;
 pub enum LatexError {
     /// The text is refused. The reason may quote it, so escape it in HTML.
     Refused(String),
+    /// The definitions of macros are refused. The reason may quote them, so escape it in HTML.
+    RefusedDefinitions(String),
     /// Memory ran out. The same call may succeed later.
     OutOfMemory,
 }
@@ -14,7 +16,7 @@ pub enum LatexError {
 impl fmt::Display for LatexError {
     fn fmt(&self, f: &mut fmt::Formatter<'_>) -> fmt::Result {
         match self {
-            LatexError::Refused(reason) => f.write_str(reason),
+            LatexError::Refused(reason) | LatexError::RefusedDefinitions(reason) => f.write_str(reason),
             LatexError::OutOfMemory => f.write_str("Memory could not be found."),
         }
     }

@@ -1,4 +1,5 @@
-//! LaTeX formulas to MathML: the calls of the crate `latex2mathml` 0.2.3, over the proved library.
+//! LaTeX formulas to MathML: the calls of the crate `latex2mathml` 0.2.3, over the proved library, and [`tex_to_mathml`], which
+//! reads LaTeX as authors write it.
 //!
 //! ```
 //! use latex2mathml::{latex_to_mathml, DisplayStyle};
@@ -60,6 +61,54 @@ impl fmt::Display for DisplayStyle {
 /// ```
 pub fn latex_to_mathml(latex: &str, display: DisplayStyle) -> Result<String, LatexError> {
     call::formula(latex, display == DisplayStyle::Block)
+}
+
+/// Returns the `math` element of a formula in LaTeX as authors write it, which has no dollar signs around it. It may use the usual
+/// macros of LaTeX and those of a text of definitions, which may be empty.
+///
+/// # Errors
+///
+/// [`LatexError::Refused`] if the formula cannot be read, for example because a command is unknown. The reason ends in the place:
+/// the byte of the formula where what is refused begins.
+/// [`LatexError::RefusedDefinitions`] if the definitions cannot be read. The place is then a byte of the definitions.
+/// [`LatexError::OutOfMemory`] if memory runs out.
+///
+/// # Examples
+///
+/// ```
+/// use latex2mathml::{tex_to_mathml, DisplayStyle};
+///
+/// let markup = tex_to_mathml(r"x_i^2", DisplayStyle::Inline, "")?;
+/// assert!(markup.contains("<msubsup><mi>x</mi><mi>i</mi><mn>2</mn></msubsup>"));
+///
+/// let markup = tex_to_mathml(r"\R", DisplayStyle::Block, r"\newcommand{\R}{\mathbb{R}}")?;
+/// assert!(markup.contains("<mi>ℝ</mi>"));
+///
+/// let refusal = tex_to_mathml(r"x + \foo", DisplayStyle::Inline, "").unwrap_err();
+/// assert_eq!(refusal.to_string(), r"unknown command \foo at 4");
+/// # Ok::<(), latex2mathml::LatexError>(())
+/// ```
+pub fn tex_to_mathml(tex: &str, display: DisplayStyle, definitions: &str) -> Result<String, LatexError> {
+    call::tex(tex, display == DisplayStyle::Block, definitions)
+}
+
+/// The same, with the formula itself as an annotation in its `math` element, so that a copy of it takes the LaTeX along.
+///
+/// # Errors
+///
+/// As those of [`tex_to_mathml`].
+///
+/// # Examples
+///
+/// ```
+/// use latex2mathml::{tex_to_mathml_with_source, DisplayStyle};
+///
+/// let markup = tex_to_mathml_with_source("x<y", DisplayStyle::Inline, "")?;
+/// assert!(markup.contains(r#"<annotation encoding="application/x-tex">x&lt;y</annotation>"#));
+/// # Ok::<(), latex2mathml::LatexError>(())
+/// ```
+pub fn tex_to_mathml_with_source(tex: &str, display: DisplayStyle, definitions: &str) -> Result<String, LatexError> {
+    call::tex_with_source(tex, display == DisplayStyle::Block, definitions)
 }
 
 /// Returns the document with each formula replaced by its `math` element. Its prose is unchanged, except that `\$` becomes

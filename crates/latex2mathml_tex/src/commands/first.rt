@@ -18,7 +18,7 @@ pub(crate) fn entries() -> &'static [Entry]
 
 /// An entry for each command, in the order of their names' bytes.
 #[rattlefmt::skip]
-static ENTRIES: [Entry; 408] = [
+static ENTRIES: [Entry; 410] = [
     Entry { name: " ", meaning: Meaning::Spacing(6) },
     Entry { name: "!", meaning: Meaning::Spacing(-3) },
     Entry { name: "#", meaning: Meaning::Shows(Symbol::Sign(Class::Ordinary, '#')) },
@@ -198,7 +198,7 @@ static ENTRIES: [Entry; 408] = [
     Entry { name: "cdotp", meaning: Meaning::Shows(Symbol::Sign(Class::Punctuation, '⋅')) },
     Entry { name: "cdots", meaning: Meaning::Shows(Symbol::Sign(Class::Inner, '⋯')) },
     Entry { name: "centerdot", meaning: Meaning::Shows(Symbol::Sign(Class::Binary, '⋅')) },
-    Entry { name: "cfrac", meaning: Meaning::Fraction(FractionRule::Bar, Some(Style::InDisplay)) },
+    Entry { name: "cfrac", meaning: Meaning::ContinuedFraction },
     Entry { name: "ch", meaning: Meaning::FunctionName(LimitPlace::Beside, "ch") },
     Entry { name: "check", meaning: Meaning::Accent(Side::Above, 'ˇ', Stretch::Rigid) },
     Entry { name: "checkmark", meaning: Meaning::Shows(Symbol::Sign(Class::Ordinary, '✓')) },
@@ -215,6 +215,7 @@ static ENTRIES: [Entry; 408] = [
     Entry { name: "circleddash", meaning: Meaning::Shows(Symbol::Sign(Class::Binary, '⊝')) },
     Entry { name: "clubsuit", meaning: Meaning::Shows(Symbol::Sign(Class::Ordinary, '♣')) },
     Entry { name: "colon", meaning: Meaning::Shows(Symbol::Sign(Class::Punctuation, ':')) },
+    Entry { name: "color", meaning: Meaning::Changes(Change::ToColor) },
     Entry { name: "complement", meaning: Meaning::Shows(Symbol::Sign(Class::Ordinary, '∁')) },
     Entry { name: "cong", meaning: Meaning::Shows(Symbol::Sign(Class::Relation, '≅')) },
     Entry { name: "coprod", meaning: Meaning::Shows(Symbol::BigOperator('∐')) },
@@ -261,6 +262,7 @@ static ENTRIES: [Entry; 408] = [
     Entry { name: "diamondsuit", meaning: Meaning::Shows(Symbol::Sign(Class::Ordinary, '♢')) },
     Entry { name: "digamma", meaning: Meaning::Shows(Symbol::Letter('ϝ')) },
     Entry { name: "dim", meaning: Meaning::FunctionName(LimitPlace::Beside, "dim") },
+    Entry { name: "displaylimits", meaning: Meaning::Limits },
     Entry { name: "displaystyle", meaning: Meaning::Changes(Change::ToStyle(Style::InDisplay)) },
     Entry { name: "div", meaning: Meaning::Shows(Symbol::Sign(Class::Binary, '÷')) },
     Entry { name: "divideontimes", meaning: Meaning::Shows(Symbol::Sign(Class::Binary, '⋇')) },

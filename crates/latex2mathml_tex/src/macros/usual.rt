@@ -28,7 +28,7 @@ fn entries() -> &'static [Usual]
 
 /// An entry for each macro, in the order of their names' bytes.
 #[rattlefmt::skip]
-static ENTRIES: [Usual; 53] = [
+static ENTRIES: [Usual; 56] = [
     Usual { name: "-", arity: 0, body: "" },
     Usual { name: "/", arity: 0, body: "" },
     Usual { name: "Bbbk", arity: 0, body: "\\mathbb{k}" },
@@ -45,6 +45,7 @@ static ENTRIES: [Usual; 53] = [
     Usual { name: "clap", arity: 1, body: "\\mathclap{\\text{#1}}" },
     Usual { name: "coloneq", arity: 0, body: "\\mathrel{:=}" },
     Usual { name: "coloneqq", arity: 0, body: "\\mathrel{:=}" },
+    Usual { name: "colorbox", arity: 2, body: "\\mathcolorbox{#1}{\\text{#2}}" },
     Usual { name: "dotsb", arity: 0, body: "\\cdots" },
     Usual { name: "dotsc", arity: 0, body: "\\ldots" },
     Usual { name: "dotsi", arity: 0, body: "\\cdots" },
@@ -71,12 +72,14 @@ static ENTRIES: [Usual; 53] = [
     Usual { name: "pmod", arity: 1, body: "\\quad(\\operatorname{mod}\\;#1)" },
     Usual { name: "pod", arity: 1, body: "\\quad(#1)" },
     Usual { name: "qed", arity: 0, body: "\\square" },
+    Usual { name: "raisebox", arity: 2, body: "\\raisemath{#1}{\\text{#2}}" },
     Usual { name: "relax", arity: 0, body: "" },
     Usual { name: "rlap", arity: 1, body: "\\mathrlap{\\text{#1}}" },
     Usual { name: "scriptsize", arity: 0, body: "" },
     Usual { name: "sfrac", arity: 2, body: "#1/#2" },
     Usual { name: "small", arity: 0, body: "" },
     Usual { name: "strut", arity: 0, body: "\\vphantom{(}" },
+    Usual { name: "tag", arity: 1, body: "\\qquad\\text{(#1)}" },
     Usual { name: "tiny", arity: 0, body: "" },
     Usual { name: "varDelta", arity: 0, body: "\\mathit{\\Delta}" },
     Usual { name: "varGamma", arity: 0, body: "\\mathit{\\Gamma}" },

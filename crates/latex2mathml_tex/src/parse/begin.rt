@@ -196,6 +196,11 @@ impl<'a> Parser<'a> {
             Meaning::SkipInBraces => self.skip_in_braces(place, context),
             Meaning::Boxed(operand_box) => self.open_box(operand_box, place, context),
             Meaning::Smash => self.smash(place, context),
+            Meaning::Raise => self.raise(place, context),
+            Meaning::InColor => self.in_color(place, context),
+            Meaning::Highlight => self.highlight(place, context),
+            Meaning::Rectangle => self.rectangle(place, context),
+            Meaning::Arrow(sign) => self.arrow(sign, place, context),
             Meaning::Styled(alphabet) => self.open(Frame::Last(
                 Last::Group,
                 place,
@@ -205,10 +210,8 @@ impl<'a> Parser<'a> {
                 },
             )),
             Meaning::Words(alphabet) => self.text(place, alphabet),
-            Meaning::Fraction(rule, own) => {
-                let style = own.unwrap_or(context.style).smaller();
-                self.open(Frame::First(First::Fraction(rule, own), place, context.styled(style)))
-            }
+            Meaning::Fraction(rule, own) => self.open_fraction(rule, own, place, context),
+            Meaning::ContinuedFraction => self.continued_fraction(place, context),
             Meaning::Root => self.root(place, context),
             Meaning::Accent(side, mark, stretch) => {
                 self.open(Frame::Last(Last::Accent(side, mark, stretch), place, context))
@@ -386,6 +389,13 @@ fn is_no_operand_named(name: &str) -> bool
 {
     matches!(
         name,
-        "\\" | "cr" | "newline" | "end" | "right" | "middle" | "limits" | "nolimits"
+        "\\" | "cr"
+            | "newline"
+            | "end"
+            | "right"
+            | "middle"
+            | "limits"
+            | "nolimits"
+            | "displaylimits"
     )
 }

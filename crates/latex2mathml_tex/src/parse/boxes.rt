@@ -1,16 +1,15 @@
 //! Spaces of a length, and boxes.
-ghost use Rattle.latex2mathml_tex_grammar.specs.Rules.{a_box, a_skip, a_smash, meaning_rule};
-ghost use Rattle.latex2mathml_tex_grammar.specs.{Meaning.SkipInBraces};
+ghost use Rattle.latex2mathml_tex_grammar.specs.Rules.{a_bar, a_box, a_rectangle, a_skip, a_smash, meaning_rule};
+ghost use Rattle.latex2mathml_tex_grammar.specs.Meaning.{Highlight, InColor, Raise, SkipInBraces};
 ghost use Rattle.latex2mathml_tex.specs.{Meanings.box_of, Models.context_of, Scans.spot_of};
 ghost use Rattle.latex2mathml_tex.specs.Steps.{Begins, BeginsIn, CanBegin, IsStep, LeadsOn};
 
 use crate::atoms::{Context, Core, Kind};
-use crate::error::TexErrorKind;
-use crate::lengths::width_of;
-use crate::meaning::OperandBox;
+use crate::boxes::put_bar;
+use crate::meaning::{Class, OperandBox};
 use crate::parse::frames::{Frame, Last};
 use crate::parse::{Parser, State};
-use crate::scanning::Spot;
+use crate::scanning::{LengthEnd, Spot};
 use latex2mathml_builder::extent::Extent;
 use std::alloc::AllocError;
 
@@ -28,11 +27,8 @@ impl<'a> Parser<'a> {
             self.old self.new result }
         ensures step { IsStep 13 self.old self.new result }
     {
-        let Some(length) = self.take_text(place, spot)? else {
+        let Some(width) = self.take_length(place, spot)? else {
             return Ok(State::Refused);
-        };
-        let Some(width) = width_of(length.as_str()) else {
-            return Ok(self.refuse(TexErrorKind::LengthTooLarge, place));
         };
         self.builder.rectangle(Extent::wide(width))?;
         Ok(State::Core(Core::new(Kind::Blank, false)))
@@ -52,6 +48,85 @@ impl<'a> Parser<'a> {
     {
         self.input.pass(self.alloc, Spot::BeforeStar)?;
         self.skip(Spot::BeforeLengthInBraces, place, context)
+    }
+
+    /// A black rectangle, whose width and height stand next in braces. A length in brackets before them raises it.
+    pub(crate) fn rectangle(&mut self, place: usize, context: Context) -> Result<State, AllocError>
+        requires begin { CanBegin 0 self.old }
+        ensures holds { LeadsOn (BeginsIn context (a_rectangle place) 0) self.old self.new result }
+        ensures step { IsStep 13 self.old self.new result }
+    {
+        if self.input.take_character('[') {
+            let spot = Spot::InLength(LengthEnd::AtBracket);
+            let Some(height) = self.take_length(place, spot)? else {
+                return Ok(State::Refused);
+            };
+            return self.bar(Some(height), place, context);
+        }
+        self.bar(None, place, context)
+    }
+
+    /// A black rectangle that a length raises, if there is one. Its width and height stand next in braces.
+    fn bar(
+        &mut self,
+        raise: Option<i32>,
+        place: usize,
+        context: Context,
+    ) -> Result<State, AllocError>
+        requires begin { CanBegin 0 self.old }
+        ensures holds { LeadsOn (BeginsIn context (a_bar place raise) 0) self.old self.new result }
+        ensures step { IsStep 13 self.old self.new result }
+    {
+        let Some(width) = self.take_length(place, Spot::BeforeLengthInBraces)? else {
+            return Ok(State::Refused);
+        };
+        let Some(height) = self.take_length(place, Spot::BeforeLengthInBraces)? else {
+            return Ok(State::Refused);
+        };
+        put_bar(&mut self.builder, raise, width, height)?;
+        Ok(State::Core(Core::new(Kind::Plain(Class::Ordinary), true)))
+    }
+
+    /// An operand that is raised by the length that stands next in braces.
+    pub(crate) fn raise(&mut self, place: usize, context: Context) -> Result<State, AllocError>
+        requires begin { CanBegin 0 self.old }
+        ensures holds { LeadsOn
+            (BeginsIn context (meaning_rule place (context_of context) Raise) 0)
+            self.old self.new result }
+        ensures step { IsStep 13 self.old self.new result }
+    {
+        let Some(height) = self.take_length(place, Spot::BeforeLengthInBraces)? else {
+            return Ok(State::Refused);
+        };
+        self.open_box(OperandBox::Raised(height), place, context)
+    }
+
+    /// An operand in the color that stands next.
+    pub(crate) fn in_color(&mut self, place: usize, context: Context) -> Result<State, AllocError>
+        requires begin { CanBegin 0 self.old }
+        ensures holds { LeadsOn
+            (BeginsIn context (meaning_rule place (context_of context) InColor) 0)
+            self.old self.new result }
+        ensures step { IsStep 13 self.old self.new result }
+    {
+        let Some(color) = self.take_color(place)? else {
+            return Ok(State::Refused);
+        };
+        self.open_box(OperandBox::Colored(color), place, context)
+    }
+
+    /// An operand on the color that stands next.
+    pub(crate) fn highlight(&mut self, place: usize, context: Context) -> Result<State, AllocError>
+        requires begin { CanBegin 0 self.old }
+        ensures holds { LeadsOn
+            (BeginsIn context (meaning_rule place (context_of context) Highlight) 0)
+            self.old self.new result }
+        ensures step { IsStep 13 self.old self.new result }
+    {
+        let Some(color) = self.take_color(place)? else {
+            return Ok(State::Refused);
+        };
+        self.open_box(OperandBox::OnColor(color), place, context)
     }
 
     /// An operand in a box without height and depth, or without one of them.

@@ -10,14 +10,15 @@ ghost use Rattle.latex2mathml_tex.specs.declared.atoms.{Core.Core, Operand.Opera
 ghost use Rattle.latex2mathml_tex.specs.Steps.{Begins, CanMake, FirstRead, Holds, HoldsIn, IsStep, LeadsOn, Ready, core_made, elements_of};
 
 use crate::atoms::{Context, Core, Kind, Operand, Row, Scripts};
+use crate::boxes::put_in_box;
 use crate::error::TexErrorKind;
 use crate::fractions::put_fraction;
 use crate::meaning::{Class, LimitPlace};
 use crate::parse::frames::{First, Frame, Last};
 use crate::parse::{Parser, State};
-use crate::shapes::{make_base, put_accent, put_brace, put_in_box, put_stack, with_atom};
+use crate::shapes::{make_base, put_accent, put_brace, put_stack, with_atom};
 use latex2mathml_builder::attributes::{Attributes, Side};
-use latex2mathml_builder::tag::{Container, Pair};
+use latex2mathml_builder::tag::{Container, Pair, Triple};
 use std::alloc::AllocError;
 
 impl<'a> Parser<'a> {
@@ -159,6 +160,15 @@ impl<'a> Parser<'a> {
             Last::StackedRelation(style) => {
                 make_base(&mut self.builder, style, Class::Relation, operand.class);
                 put_stack(&mut self.builder, Side::Above)?;
+                Ok(State::Core(Core::new(Kind::Plain(Class::Relation), true)))
+            }
+            Last::OverArrow => {
+                self.builder.pair(Pair::Mover, Attributes::plain(), false)?;
+                Ok(State::Core(Core::new(Kind::Plain(Class::Relation), true)))
+            }
+            Last::OverAndUnderArrow => {
+                self.builder
+                    .triple(Triple::Munderover, Attributes::plain(), false)?;
                 Ok(State::Core(Core::new(Kind::Plain(Class::Relation), true)))
             }
         }

@@ -29,6 +29,8 @@ pub(crate) enum Ending {
     Operand,
     /// A bracket: the row is the degree of a root.
     Degree,
+    /// A bracket: the row stands below an arrow, whose element is below its own.
+    BelowArrow,
     /// `\right`: the row stands between delimiters, of which this is the opening one.
     Delimiters(Option<char>),
     /// A dollar sign: the row is a formula behind these words.
@@ -82,6 +84,10 @@ pub(crate) enum Last {
     Stack(Side, Style),
     /// A base, in this style; what stands above it stands below.
     StackedRelation(Style),
+    /// What stands above an arrow; the arrow stands below.
+    OverArrow,
+    /// The same; what stands below the arrow stands between the two.
+    OverAndUnderArrow,
 }
 
 /// What the first of two operands is.
@@ -122,7 +128,7 @@ impl Ending {
         match self {
             Ending::Text => false,
             Ending::Group | Ending::Operand => matches!(piece, Piece::Close),
-            Ending::Degree => matches!(piece, Piece::Character(']')),
+            Ending::Degree | Ending::BelowArrow => matches!(piece, Piece::Character(']')),
             Ending::Delimiters(_) => matches!(piece, Piece::Command("right")),
             Ending::Formula(_) => matches!(piece, Piece::Character('$')),
             Ending::Cell(table) => table.is_ended_by(piece),

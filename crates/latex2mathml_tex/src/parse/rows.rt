@@ -12,7 +12,7 @@ use crate::meaning::{Change, Class, LimitPlace, Meaning, Style};
 use crate::parse::frames::{Ending, Frame, Last, Table};
 use crate::parse::scripts::{Mark, mark_of};
 use crate::parse::{Parser, State};
-use crate::rests::{divide, finish, restyle};
+use crate::rests::{divide, finish, recolor, restyle};
 use crate::shapes::{enclose, lower_dividers, put_divider, put_row, with_atom};
 use crate::unit::{Next, Piece, Unit};
 use latex2mathml_builder::attributes::Attributes;
@@ -112,6 +112,13 @@ impl<'a> Parser<'a> {
                 let row = restyle(&mut self.builder, context.style, row)?;
                 self.open(Frame::Row(ending, at, context.styled(style), row))
             }
+            Change::ToColor => {
+                let Some(color) = self.take_color(place)? else {
+                    return Ok(State::Refused);
+                };
+                let row = recolor(&mut self.builder, context.style, row, color)?;
+                self.open(Frame::Row(ending, at, context, row))
+            }
             Change::Divides(rule) => match row.under {
                 Some(_) => Ok(self.refuse(TexErrorKind::SecondInfix, place)),
                 None => {
@@ -189,7 +196,7 @@ impl<'a> Parser<'a> {
         let kind = match ending {
             Ending::Text => return self.end_formula(style, row),
             Ending::Group | Ending::Operand => TexErrorKind::UnclosedBrace,
-            Ending::Degree => TexErrorKind::UnclosedBracket,
+            Ending::Degree | Ending::BelowArrow => TexErrorKind::UnclosedBracket,
             Ending::Delimiters(_) => TexErrorKind::LeftWithoutRight,
             Ending::Formula(_) => TexErrorKind::UnclosedDollar,
             Ending::Cell(table) => match table.unended() {
@@ -279,6 +286,12 @@ impl<'a> Parser<'a> {
                 put_row(&mut self.builder, row.count)?;
                 let context = self.frames.innermost(self.style).context();
                 self.open(Frame::Last(Last::Root, place, context))
+            }
+            Ending::BelowArrow => {
+                put_row(&mut self.builder, row.count)?;
+                let context = self.frames.innermost(self.style).context();
+                let small = context.styled(Style::InScript);
+                self.open(Frame::Last(Last::OverAndUnderArrow, place, small))
             }
             Ending::Delimiters(opening) => self.close_delimiters(opening, row),
             Ending::Formula(words) => {

@@ -39,6 +39,7 @@ pub(crate) fn mark_of(piece: Piece) -> Option<Mark>
         Piece::Character('^') => Some(Mark::Script(Side::Above)),
         Piece::Command("limits") => Some(Mark::Limits(LimitPlace::Stacked)),
         Piece::Command("nolimits") => Some(Mark::Limits(LimitPlace::Beside)),
+        Piece::Command("displaylimits") => Some(Mark::Limits(LimitPlace::ByStyle)),
         _ => None,
     }
 }

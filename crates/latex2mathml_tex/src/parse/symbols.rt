@@ -1,6 +1,6 @@
 //! What is put for a symbol: one element, which is all of an atom.
 ghost use Rattle.std.specs.Prelude.{◌≡◌, true, IfOk, Some, option_map};
-ghost use Rattle.latex2mathml_builder.specs.{Built.elements_in, Names.attributes_of, Names.token_of};
+ghost use Rattle.latex2mathml_builder.specs.{Built.elements_in, Names.attributes_of, Names.form_of, Names.token_of};
 ghost use Rattle.latex2mathml_elements.specs.{Attributes.plain, Element.Mo, Element.token};
 ghost use Rattle.latex2mathml_tex_grammar.specs.Makes;
 ghost use Rattle.latex2mathml_tex_grammar.specs.Makes.{core};
@@ -129,16 +129,8 @@ fn sign_attributes(class: Class, c: char) -> Attributes
             stretch: Some(Stretch::Rigid),
             ..Attributes::plain()
         },
-        Class::Opening => Attributes {
-            form: Some(Form::Prefix),
-            stretch: Some(Stretch::Rigid),
-            ..Attributes::plain()
-        },
-        Class::Closing => Attributes {
-            form: Some(Form::Postfix),
-            stretch: Some(Stretch::Rigid),
-            ..Attributes::plain()
-        },
+        Class::Opening => delimiter_attributes(Form::Prefix, c),
+        Class::Closing => delimiter_attributes(Form::Postfix, c),
         Class::Punctuation => Attributes {
             separator: true,
             ..Attributes::plain()
@@ -159,6 +151,36 @@ fn sign_attributes(class: Class, c: char) -> Attributes
             }
         }
     }
+}
+
+/// Of a sign that opens or closes, by its form.
+fn delimiter_attributes(form: Form, c: char) -> Attributes
+    ensures { attributes_of result ≡ Makes.delimiter_attributes (form_of form) c }
+{
+    if leaves_space(c) {
+        Attributes {
+            form: Some(form),
+            stretch: Some(Stretch::Rigid),
+            space: Some(Space::NoSpace),
+            ..Attributes::plain()
+        }
+    } else {
+        Attributes {
+            form: Some(form),
+            stretch: Some(Stretch::Rigid),
+            ..Attributes::plain()
+        }
+    }
+}
+
+/// The signs at which browsers leave a space of their own.
+fn leaves_space(c: char) -> bool
+    ensures { result ≡ Makes.leaves_space c }
+{
+    matches!(
+        c,
+        '?' | '∣' | '∥' | '⌜' | '⌝' | '⌞' | '⌟' | '⎰' | '⎱' | '┌' | '┐' | '└' | '┘'
+    )
 }
 
 fn sign_kind(class: Class, c: char) -> Kind

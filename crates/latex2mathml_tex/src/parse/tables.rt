@@ -139,7 +139,7 @@ impl<'a> Parser<'a> {
         match argument {
             Argument::ColumnList => self.begin_listed(environment, place, context),
             Argument::Number => self.begin_numbered(environment, place, context),
-            Argument::Name => {
+            Argument::Name | Argument::ColorName => {
                 self.begin_rows(environment, environment.layout.columns(), place, context)
             }
         }

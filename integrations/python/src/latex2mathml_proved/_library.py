@@ -1,10 +1,15 @@
 """The calls of the shared library."""
 import ctypes
+import html
 import pathlib
 import platform
-from typing import Any, List
+import re
+from typing import Any, Callable, List, Tuple
 
-DONE, REFUSED, NOT_UTF8, TOO_SMALL, OUT_OF_MEMORY = range(5)
+DONE, REFUSED, NOT_UTF8, TOO_SMALL, OUT_OF_MEMORY, DEFINITION_REFUSED = range(6)
+
+# The flag that asks for the formula as an annotation.
+ANNOTATION = 1
 
 # Room for nearly every formula, as LATEX2MATHML_ROOM of the header has it.
 ROOM, ROOM_PER_BYTE = 256, 64
@@ -15,6 +20,23 @@ class Refused(ValueError):
 
     # as users write it
     __module__ = "latex2mathml_proved"
+
+
+class TexRefused(Refused):
+    """A formula in LaTeX as authors write it is refused, or the definitions for it are.
+
+    `reason` says why. What is refused begins at the character `place` of the definitions if `is_definition` is true, and
+    otherwise of the formula. The message has both, as in `unknown command \\foo at 4`.
+    """
+
+    __module__ = "latex2mathml_proved"
+
+    def __init__(self, reason: str, place: int, is_definition: bool):
+        super().__init__(reason, place, is_definition)
+        self.reason, self.place, self.is_definition = reason, place, is_definition
+
+    def __str__(self) -> str:
+        return f"{self.reason} at {self.place}"
 
 
 def _load() -> ctypes.CDLL:
@@ -31,45 +53,87 @@ def _load() -> ctypes.CDLL:
     library.latex2mathml_formula.restype = ctypes.c_uint32
     library.latex2mathml_document.argtypes = [ctypes.c_char_p, ctypes.c_size_t, *room]
     library.latex2mathml_document.restype = ctypes.c_uint32
+    library.latex2mathml_tex.argtypes = [ctypes.c_char_p, ctypes.c_size_t, ctypes.c_char_p, ctypes.c_size_t, ctypes.c_bool,
+                                         ctypes.c_uint32, *room, ctypes.POINTER(ctypes.c_size_t)]
+    library.latex2mathml_tex.restype = ctypes.c_uint32
     return library
 
 
 _library = _load()
 
 
-def _call(function: Any, text: str, *more: bool) -> str:
-    source = text.encode()
-    needed = ctypes.c_size_t(ROOM + ROOM_PER_BYTE * len(source))
+def _call(function: Callable[..., int], length: int) -> Tuple[int, str]:
+    """The code and the text of a call. `function` takes the room for the text, whose length is guessed from that of the input."""
+    needed = ctypes.c_size_t(ROOM + ROOM_PER_BYTE * length)
     code = TOO_SMALL
     while code == TOO_SMALL:  # twice at most
         room = ctypes.create_string_buffer(needed.value)
-        code = function(source, len(source), *more, room, len(room), ctypes.byref(needed))
+        code = function(room, len(room), ctypes.byref(needed))
     if code == OUT_OF_MEMORY:
         raise MemoryError("latex2mathml: out of memory")
-    answer = ctypes.string_at(room, needed.value).decode()
+    return code, ctypes.string_at(room, needed.value).decode()
+
+
+def _answer(function: Callable[..., int], text: str, *more: bool) -> str:
+    source = text.encode()
+    code, answer = _call(lambda *room: function(source, len(source), *more, *room), len(source))
     if code != DONE:
         raise Refused(answer)
     return answer
 
 
-def formula(latex: str, block: bool = False) -> str:
+# What the Rust crate puts in place of what it does not know.
+_MARK = re.compile(r"<mtext>\[PARSE ERROR: (.*?)\]</mtext>", re.DOTALL)
+
+
+def _checked(markup: str, strict: bool) -> str:
+    """The markup, unless parts of it are marked as errors and `strict` forbids that."""
+    marks = _MARK.findall(markup) if strict else []
+    if marks:
+        raise Refused(f"marked as an error: {html.unescape(', '.join(marks))}")
+    return markup
+
+
+def formula(latex: str, block: bool = False, strict: bool = False) -> str:
     """Returns the `math` element of a formula, which has no dollar signs around it.
 
     If `block` is true, the element is for a block of its own, and otherwise for a line of text. Any number of threads may call at
     once.
 
     Raises `Refused` if the formula cannot be read, for example because a brace is not closed, `UnicodeEncodeError` if the text
-    contains half of a surrogate pair, and `MemoryError` if memory runs out.
+    contains half of a surrogate pair, and `MemoryError` if memory runs out. What is not known, such as a command, is marked in the
+    markup as an error. If `strict` is true, `Refused` is raised for it.
     """
-    return _call(_library.latex2mathml_formula, latex, block)
+    return _checked(_answer(_library.latex2mathml_formula, latex, block), strict)
 
 
-def document(text: str) -> str:
+def document(text: str, strict: bool = False) -> str:
     r"""Returns the document with each formula replaced by its `math` element.
 
     A formula is between single dollar signs, for a line of text, or between double ones, for a block of its own. `\$` is a
     dollar sign of the prose, and becomes `&#x24;`. All other prose is unchanged.
 
-    Raises `Refused` if the dollar signs do not pair or a formula is refused, and the other errors of `formula`.
+    Raises `Refused` if the dollar signs do not pair or a formula is refused, and the other errors of `formula`. If `strict` is
+    true, a formula with a marked error is refused too.
     """
-    return _call(_library.latex2mathml_document, text)
+    return _checked(_answer(_library.latex2mathml_document, text), strict)
+
+
+def tex(formula: str, block: bool = False, definitions: str = "", annotation: bool = False) -> str:
+    r"""Returns the `math` element of a formula in LaTeX as authors write it, which has no dollar signs around it.
+
+    The formula may use macros of `definitions`, such as `\newcommand{\R}{\mathbb{R}}`, beside the usual ones of LaTeX.
+
+    If `annotation` is true, the element also has the formula itself, as an annotation, so that a copy of it takes the LaTeX along.
+
+    Raises `TexRefused` if the formula or a definition cannot be read, and the other errors of `formula`.
+    """
+    source, macros = formula.encode(), definitions.encode()
+    place = ctypes.c_size_t()
+    given = (macros, len(macros), source, len(source), block, ANNOTATION if annotation else 0)
+    code, answer = _call(lambda *room: _library.latex2mathml_tex(*given, *room, ctypes.byref(place)), len(source))
+    if code == DONE:
+        return answer
+    is_definition = code == DEFINITION_REFUSED
+    read = (macros if is_definition else source)[:place.value]
+    raise TexRefused(answer.removesuffix(f" at {place.value}"), len(read.decode()), is_definition)

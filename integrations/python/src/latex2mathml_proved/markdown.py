@@ -1,9 +1,9 @@
-r"""An extension of Python-Markdown, and so of MkDocs: `$..$` is a formula in a line, `$$..$$` one in a block of its own.
+r"""An extension of Python-Markdown: `$..$` and `\(..\)` are formulas in a line, `$$..$$` and `\[..\]` in a block of their own.
 
     markdown.markdown(text, extensions=["latex2mathml"])
 
-`\$` is a dollar sign. Nothing is a formula in code, and single dollar signs are none where white space stands inside them or a
-digit directly behind, as between two prices.
+A block of code of the language `math` is a formula too. `\$` is a dollar sign. Nothing is a formula in other code, and single
+dollar signs are none where white space stands inside them or a digit directly behind, as between two prices.
 """
 import logging
 import re
@@ -14,48 +14,64 @@ from markdown import Markdown
 from markdown.blockprocessors import BlockProcessor
 from markdown.extensions import Extension
 from markdown.inlinepatterns import InlineProcessor
-from markdown.postprocessors import Postprocessor
 from markdown.preprocessors import NormalizeWhitespace, Preprocessor
 from markdown.treeprocessors import Treeprocessor
-from markdown.util import ETX, STX, AtomicString
+from markdown.util import ETX, STX, AtomicString, code_escape
 
-from latex2mathml_proved.rendering import FaultyFormula, Renderer, links
-
-logger = logging.getLogger(__name__)
+from latex2mathml_proved.fences import fences
+from latex2mathml_proved.macros import definitions_of
+from latex2mathml_proved.rendering import Fault, FaultyFormula, Renderer
 
 NAME = "latex2mathml"
 
 # What formulas hold: a backslash takes the next character with it. STX marks what Python-Markdown has put aside, as code.
+# Between \( and \) stands no other \(, so that each is looked at once where nothing closes them.
 _CHARACTER = rf"(?:\\[^{STX}]|[^\\${STX}])"
-_INLINE = (
-    r"\\[\\$]"
-    rf"|\$\$(?P<block>{_CHARACTER}+?)\$\$"
-    rf"|\$(?P<inline>(?!\s){_CHARACTER}+?(?<!\s))\$(?![0-9])"
-)
-_BLOCK = re.compile(rf"^[ ]{{0,3}}\$\$(?P<block>{_CHARACTER}+?)\$\$[ ]*$", re.MULTILINE)
-
-# Each dollar sign at which a formula may begin, with the rest of the formulas that would. Two backslashes are one character.
-_FORMULAS = re.compile(rf"\\[\\$]|\$(?=({_CHARACTER}+?\$)?)(?=(\${_CHARACTER}+?\$\$)?)")
-
-# The lines of a list are parsed again, item by item.
-_LIST = re.compile(r"[ ]{0,3}(?:[*+-]|[0-9]+\.)[ ]")
+_IN_PARENTHESES = rf"(?:\\[^\({STX}]|[^\\{STX}])"
+_IN_BRACKETS = rf"(?:\\[^\[{STX}]|[^\\{STX}])"
 
 # What stands for a formula until the tree is whole. No text of an author holds STX.
 _PLACE = re.compile(rf"{STX}{NAME}:([0-9]+){ETX}")
 _WRITTEN_PLACE = re.compile(rf"(?:<{NAME}>)?{_PLACE.pattern}(?:</{NAME}>)?")
 
+_INLINE = (
+    r"\\[\\$]"
+    rf"|\$\$(?P<dollars>{_CHARACTER}+?)\$\$"
+    rf"|\\\[(?P<brackets>{_IN_BRACKETS}+?)\\\]"
+    rf"|\$(?P<dollar>(?!\s){_CHARACTER}+?(?<!\s))\$(?![0-9])"
+    rf"|\\\((?P<parentheses>{_IN_PARENTHESES}+?)\\\)"
+)
+_BLOCK = re.compile(
+    rf"^[ ]*(?P<place>{_PLACE.pattern})[ ]*$"
+    rf"|^[ ]{{0,3}}(?:\$\$(?P<dollars>{_CHARACTER}+?)\$\$|\\\[(?P<brackets>{_IN_BRACKETS}+?)\\\])[ ]*$",
+    re.MULTILINE,
+)
+
+# Each sign at which a formula may begin, with the rest of the formulas that would. Two backslashes are one character.
+_FORMULAS = re.compile(
+    r"\\[\\$]"
+    rf"|\\\((?=({_IN_PARENTHESES}+?\\\))?)"
+    rf"|\\\[(?=({_IN_BRACKETS}+?\\\])?)"
+    rf"|\$(?=({_CHARACTER}+?\$)?)(?=(\${_CHARACTER}+?\$\$)?)"
+)
+
+# The lines of a list are parsed again, item by item.
+_LIST = re.compile(r"[ ]{0,3}(?:[*+-]|[0-9]+\.)[ ]")
+
+# Behind the normalizing of white space, and before other extensions take blocks of code.
+_FENCE_PRIORITY = 27
 # Behind code in backticks, and before escapes, links and emphasis.
 _INLINE_PRIORITY = 185
 # Behind indented code, and before headings and lists.
 _BLOCK_PRIORITY = 75
 # Directly behind the inline patterns.
 _TREE_PRIORITY = 19
-# Before all that changes lines, and behind all else.
-_FIRST, _LAST = 1000, -1000
+# Before all else.
+_FIRST = 1000
 
 
 class Formula(NamedTuple):
-    """A formula as it was found."""
+    """A formula as it was found. Its element is a paragraph where it stands alone, which has the space that pages give to those."""
 
     source: str
     latex: str
@@ -74,35 +90,32 @@ class Page:
         self._lines: Dict[str, List[int]] = {}
 
     def begin(self, lines: List[str]) -> None:
-        """Keeps the lines of the page, to tell those of formulas."""
-        self._text = bare(lines)
-        self._lines.clear()
-
-    def clear(self) -> None:
+        """Begins with a page of these lines, which tell the lines of its formulas."""
         self.formulas.clear()
         self._counts.clear()
         self._lines.clear()
+        self._text = bare(lines)
 
-    def place(self, source: str, latex: str, block: bool, tag: str) -> etree.Element:
-        """The element that stands for a formula. `source` is the formula with its dollar signs, and `tag` that of its element."""
-        element = etree.Element(NAME)
-        element.text = AtomicString(f"{STX}{NAME}:{len(self.formulas)}{ETX}")
+    def add(self, source: str, latex: str, block: bool, tag: str) -> str:
+        """The text that stands for a formula. `source` has the signs around the formula, and `tag` is that of its element."""
         rank = self._counts.get(source, 0)
         self._counts[source] = rank + 1
         self.formulas.append(Formula(source, latex, block, tag, rank))
-        return element
+        return f"{STX}{NAME}:{len(self.formulas) - 1}{ETX}"
 
     def restore(self, text: str) -> str:
         """The text with each formula as it was written, for where no element can stand."""
         return _WRITTEN_PLACE.sub(lambda place: self.formulas[int(place[1])].source, text)
 
     def line_of(self, number: int) -> Optional[int]:
-        """The line of a formula, or None where the same text also stands elsewhere, as in code."""
+        """The line where a formula begins, or None where the same text also stands elsewhere, as in code."""
         formula = self.formulas[number]
         if not self._lines:
             self._find_lines()
         lines = self._lines.get(bare(formula.source.split("\n")), [])
-        return lines[formula.rank] if len(lines) == self._counts[formula.source] else None
+        if len(lines) != self._counts[formula.source]:
+            return None
+        return lines[formula.rank] + formula.source.partition(formula.latex)[0].count("\n")
 
     def _find_lines(self) -> None:
         """Finds the lines of all that may be a formula at once, since each may be written otherwise."""
@@ -111,7 +124,10 @@ class Page:
             line += self._text.count("\n", before, found.start())
             before = found.start()
             for rest in filter(None, found.groups()):
-                self._lines.setdefault(f"${rest}", []).append(line)
+                self._lines.setdefault(found[0] + rest, []).append(line)
+        lines = self._text.split("\n")
+        for fence in fences(lines):
+            self._lines.setdefault("\n".join(lines[fence.first:fence.last + 1]), []).append(fence.first + 1)
 
 
 def bare(lines: List[str]) -> str:
@@ -119,21 +135,53 @@ def bare(lines: List[str]) -> str:
     return "\n".join(line.lstrip(" >").rstrip(" ") for line in lines)
 
 
+def element_of(place: str) -> etree.Element:
+    """The element of the text that stands for a formula."""
+    element = etree.Element(NAME)
+    element.text = AtomicString(place)
+    return element
+
+
 class PageText(Preprocessor):
-    """Keeps the text of the page, to tell the lines of formulas."""
+    """Begins a page with its text, or with that of its file."""
+
+    def __init__(self, md: Markdown, page: Page, extension: "Latex2MathML"):
+        super().__init__(md)
+        self._page = page
+        self._extension = extension
+
+    def run(self, lines: List[str]) -> List[str]:
+        text = self._extension.text
+        # with line ends and tabs as Python-Markdown reads them later
+        self._page.begin(NormalizeWhitespace(self.md).run(lines if text is None else [text]))
+        return lines
+
+
+class FencedFormulas(Preprocessor):
+    """Blocks of code of the language `math`."""
 
     def __init__(self, md: Markdown, page: Page):
         super().__init__(md)
         self._page = page
 
     def run(self, lines: List[str]) -> List[str]:
-        # with line ends and tabs as Python-Markdown reads them later
-        self._page.begin(NormalizeWhitespace(self.md).run(lines))
-        return lines
+        made: List[str] = []
+        copied = 0
+        for fence in fences(lines):
+            if fence.language == "math":
+                made += [*lines[copied:fence.first], self._place(lines[fence.first:fence.last + 1])]
+                copied = fence.last + 1
+        return made + lines[copied:]
+
+    def _place(self, lines: List[str]) -> str:
+        """The line that stands for a block, as far from the margin, or as deep in quotations, as its first one."""
+        margin = lines[0][:len(lines[0]) - len(lines[0].lstrip(" >"))]
+        bare_lines = [line.removeprefix(margin) if line.strip(" >") else "" for line in lines]
+        return margin + self._page.add("\n".join(bare_lines), "\n".join(bare_lines[1:-1]), block=True, tag="p")
 
 
 class BlockFormulas(BlockProcessor):
-    """Formulas in double dollar signs that have lines to themselves, whatever signs of Markdown their lines begin with."""
+    """Formulas that have lines to themselves, whatever signs of Markdown their lines begin with."""
 
     def __init__(self, md: Markdown, page: Page):
         super().__init__(md.parser)
@@ -149,7 +197,8 @@ class BlockFormulas(BlockProcessor):
         before, behind = block[:found.start()].rstrip("\n"), block[found.end():].lstrip("\n")
         if before:
             self.parser.parseBlocks(parent, [before])
-        parent.append(self._page.place(found[0].strip(), found["block"].strip(), block=True, tag="div"))
+        latex = found["dollars"] or found["brackets"]
+        parent.append(element_of(found["place"] or self._page.add(found[0].strip(), latex.strip(), block=True, tag="p")))
         if behind:
             blocks.insert(0, behind)
 
@@ -162,33 +211,47 @@ class InlineFormulas(InlineProcessor):
         self._page = page
 
     def handleMatch(self, m: Any, data: str) -> Tuple[Any, Optional[int], Optional[int]]:
-        if m[0].startswith("\\"):
+        block, inline = m["dollars"] or m["brackets"], m["dollar"] or m["parentheses"]
+        if not block and not inline:
             # two backslashes too: if they were left, they would be found again for each formula behind them
             return m[0][1], m.start(), m.end()
-        block = m["block"] is not None
-        return self._page.place(m[0], m["block"] if block else m["inline"], block, tag="span"), m.start(), m.end()
+        place = self._page.add(m[0], block or inline, block is not None, tag="span")
+        return element_of(place), m.start(), m.end()
+
+
+class IndentedCode(Treeprocessor):
+    """Restores formulas between fences which turn out to be indented code."""
+
+    def __init__(self, md: Markdown, page: Page):
+        super().__init__(md)
+        self._page = page
+
+    def run(self, root: etree.Element) -> None:
+        for code in root.iter("code"):
+            code.text = AtomicString(_PLACE.sub(lambda place: code_escape(self._page.restore(place[0])), code.text or ""))
 
 
 class Conversion(Treeprocessor):
     """Converts the formulas, in the order in which they stand in the page."""
 
-    def __init__(self, md: Markdown, page: Page, renderer: Renderer, strict: bool):
+    def __init__(self, md: Markdown, page: Page, extension: "Latex2MathML"):
         super().__init__(md)
         self._page = page
-        self._renderer = renderer
-        self._strict = strict
+        self._extension = extension
 
     def run(self, root: etree.Element) -> None:
         for link in list(root.iter("a")):
             self._restore_address(link)
+        faults: List[str] = []
         for element in root.iter():
             for name, value in element.items():
                 element.set(name, self._page.restore(value))
             place = _PLACE.fullmatch(element.text or "")
             if element.tag == NAME and place:
-                self._convert(element, int(place[1]))
+                faults += self._convert(element, int(place[1]))
         stash = self.md.htmlStash.rawHtmlBlocks
         stash[:] = [self._page.restore(raw) if isinstance(raw, str) else raw for raw in stash]
+        self._extension.report(faults)
 
     def _restore_address(self, link: etree.Element) -> None:
         """Gives a link that shows its address the address as it was written."""
@@ -198,64 +261,59 @@ class Conversion(Treeprocessor):
                 link[:] = []
                 link.text = AtomicString(shown)
 
-    def _convert(self, element: etree.Element, number: int) -> None:
-        """Puts the markup of a formula into its element."""
+    def _convert(self, element: etree.Element, number: int) -> List[str]:
+        """Puts the markup of a formula into its element. Returns a line about what is wrong with the formula, if anything is."""
         formula = self._page.formulas[number]
-        rendering = self._renderer.render(formula.latex, formula.block)
-        if rendering.fault:
-            self._report(self._page.line_of(number), rendering.fault)
+        rendering = self._extension.renderer.render(formula.latex, formula.block)
         element.tag = formula.tag
         element.set("class", "math")
         element.text = AtomicString(self.md.htmlStash.store(rendering.markup))
+        return [self._report_of(number, rendering.fault)] if rendering.fault else []
 
-    def _report(self, line: Optional[int], fault: str) -> None:
-        message = f"line {line}: {fault}" if line else fault
-        if self._strict:
-            raise FaultyFormula(message)
-        logger.warning("%s: %s", NAME, message)
-
-
-class PageLinks(Postprocessor):
-    """Links the style sheet and the script, on pages that have formulas."""
-
-    def __init__(self, md: Markdown, page: Page, folder: str):
-        super().__init__(md)
-        self._page = page
-        self._folder = folder
-
-    def run(self, text: str) -> str:
-        return links(self._folder) + text if self._page.formulas else text
+    def _report_of(self, number: int, fault: Fault) -> str:
+        line, file = self._page.line_of(number), self._extension.file
+        if line is None:
+            return f"{file}: {fault}" if file else str(fault)
+        line += fault.place.line - 1
+        return f"{file}:{line}: {fault}" if file else f"line {line}: {fault}"
 
 
 class Latex2MathML(Extension):
-    """The extension. Its options are `names`, `strict` and `page`; a name that is none raises `ValueError`."""
+    """The extension. Its options are `macros`, `annotation` and `strict`. It raises `MacroError`, a `ValueError`, for a macro that is none.
+
+    A caller that knows the file of a page sets `file` to its name, and `text` to its text if that is not the text that is
+    converted. Warnings go to `logger`.
+    """
 
     def __init__(self, **options: Any):
         self.config: Dict[str, List[Any]] = {
-            "names": [True, "True: the usual names are replaced; a mapping: those too, before the usual ones; False: none"],
-            "strict": [False, "whether a formula that is refused, or has a marked error, is an error"],
-            "page": ["page", "where the page finds the folder of the style sheet and the script; False: no link"],
+            "macros": [{}, "a mapping from names to TeX, or the path of a file of definitions"],
+            "annotation": [False, "whether the MathML also has the formula itself"],
+            "strict": [False, "whether a formula that is refused is an error"],
         }
-        self._page = Page()
         super().__init__(**options)
-
-    def setConfig(self, key: str, value: Any) -> None:
-        """Takes an option as it is, since `names` and `page` are of more types than one."""
-        self.config[key][0] = value
+        definitions = definitions_of(self.getConfig("macros"))
+        self.renderer = Renderer(definitions=definitions, annotation=self.getConfig("annotation"))
+        self.logger = logging.getLogger(__name__)
+        self.file: Optional[str] = None
+        self.text: Optional[str] = None
 
     def extendMarkdown(self, md: Markdown) -> None:
-        md.registerExtension(self)
-        page, folder = self._page, self.getConfig("page")
-        conversion = Conversion(md, page, Renderer(self.getConfig("names")), self.getConfig("strict"))
-        md.preprocessors.register(PageText(md, page), NAME, _FIRST)
+        # a page for each converter, since one may be at work within another
+        page = Page()
+        md.preprocessors.register(PageText(md, page, self), NAME, _FIRST)
+        md.preprocessors.register(FencedFormulas(md, page), f"{NAME}-fences", _FENCE_PRIORITY)
         md.parser.blockprocessors.register(BlockFormulas(md, page), NAME, _BLOCK_PRIORITY)
         md.inlinePatterns.register(InlineFormulas(md, page), NAME, _INLINE_PRIORITY)
-        md.treeprocessors.register(conversion, NAME, _TREE_PRIORITY)
-        if folder:
-            md.postprocessors.register(PageLinks(md, page, folder), NAME, _LAST)
+        md.treeprocessors.register(IndentedCode(md, page), f"{NAME}-code", _FIRST)
+        md.treeprocessors.register(Conversion(md, page, self), NAME, _TREE_PRIORITY)
 
-    def reset(self) -> None:
-        self._page.clear()
+    def report(self, faults: List[str]) -> None:
+        """Warns of the formulas of a page that are refused, or raises one error for all if the option `strict` is set."""
+        if faults and self.getConfig("strict"):
+            raise FaultyFormula("\n".join(faults))
+        for fault in faults:
+            self.logger.warning("%s: %s", NAME, fault)
 
 
 def makeExtension(**options: Any) -> Latex2MathML:

@@ -1,64 +1,77 @@
-"""A formula as a page has it, whatever comes of it: what the extensions of Sphinx and Python-Markdown stand on."""
+"""A formula as a page has it, whatever comes of it: what the extensions of Sphinx, Python-Markdown and MkDocs stand on."""
+import dataclasses
 import html
 import pathlib
-import re
 import shutil
-from typing import NamedTuple, Optional, Union
+from typing import Any, NamedTuple, Optional, Union
 
-from latex2mathml_proved._library import Refused, formula
-from latex2mathml_proved.names import Names, Option
+from latex2mathml_proved._library import TexRefused, tex
+from latex2mathml_proved.places import Place, place_of
 
-# The folder of the style sheet and the script that a page links.
+# The folder of the style sheet and the script for pages of `formula` and `document`.
 PAGE = pathlib.Path(__file__).with_name("page")
 STYLE_SHEET, SCRIPT = "latex2mathml.css", "latex2mathml.js"
 
-_MARK = re.compile(r"<mtext>\[PARSE ERROR: (.*?)\]</mtext>", re.DOTALL)
+# How many characters of a formula a warning shows.
+SHOWN = 60
+
+
+@dataclasses.dataclass(frozen=True)
+class Fault:
+    """Why a formula is refused, and where in it."""
+
+    reason: str
+    place: Place
+    source: str
+
+    @property
+    def explanation(self) -> str:
+        """The reason and the place, such as `unknown command \\foo at column 5`."""
+        line = f"line {self.place.line}, " if "\n" in self.source.strip() else ""
+        return f"{self.reason} at {line}column {self.place.column}"
+
+    def __str__(self) -> str:
+        """One line for a warning: the formula, cut if it is long, and the explanation."""
+        formula = " ".join(self.source.split())
+        if len(formula) > SHOWN:
+            formula = formula[:SHOWN] + "..."
+        return f"{formula}: {self.explanation}"
 
 
 class Rendering(NamedTuple):
-    """What stands in a formula's place, and what a warning says of it, if anything is wrong with it."""
+    """What stands in a formula's place, and what is wrong with the formula, if it is refused."""
 
     markup: str
-    fault: Optional[str]
+    fault: Optional[Fault]
 
 
 class FaultyFormula(ValueError):
-    """A formula was refused or has a marked error, and the option `strict` is set."""
+    """A formula was refused, and the option `strict` is set."""
 
 
 class Renderer:
-    """Converts formulas, in which it replaces names first: the option `names`, as `Names` takes it."""
+    """Converts formulas, with options that hold for each of them: those of `tex`, such as `definitions`."""
 
-    def __init__(self, names: Option = True):
-        self._names = Names(names)
+    def __init__(self, **options: Any):
+        self._options = options
 
     def render(self, latex: str, block: bool = False, source: Optional[str] = None) -> Rendering:
         """Returns the `math` element of a formula, or the formula itself as code where it is refused.
 
-        `source` is what the author wrote, where that is something else: code and warnings have it.
+        `source` is what the author wrote, where that is another text of the same length: code and faults have it.
         """
         source = latex if source is None else source
         try:
-            markup = formula(self._names.replace(latex), block)
-        except Refused as refused:
-            reason = str(refused)
-            markup = f'<code class="latex2mathml-refused" title="{escape(reason)}">{escape(source)}</code>'
-            return Rendering(markup, f"{source}: {reason}")
-        mark = _MARK.search(markup)
-        return Rendering(markup, f"{source}: marked as an error: {html.unescape(mark[1])}" if mark else None)
+            return Rendering(tex(latex, block, **self._options), None)
+        except TexRefused as refused:
+            fault = Fault(refused.reason, place_of(source, refused.place), source)
+        code = f'<code class="latex2mathml-refused" title="{escape(fault.explanation)}">{escape(source)}</code>'
+        return Rendering(code, fault)
 
 
 def escape(text: str) -> str:
     """Returns the text as HTML has it, in contents and in quoted values. It holds no dollar sign, as no markup does."""
     return html.escape(text, quote=False).replace('"', "&quot;").replace("$", "&#x24;")
-
-
-def links(folder: str) -> str:
-    """Returns the elements that link the style sheet and the script of a folder, seen from the page."""
-    return (
-        f'<link rel="stylesheet" href="{escape(folder)}/{STYLE_SHEET}">\n'
-        f'<script src="{escape(folder)}/{SCRIPT}" defer></script>\n'
-    )
 
 
 def copy_page(folder: Union[str, pathlib.Path]) -> None:

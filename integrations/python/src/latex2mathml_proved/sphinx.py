@@ -3,33 +3,44 @@
     extensions = ["latex2mathml_proved.sphinx"]
     html_math_renderer = "latex2mathml"
 """
+import linecache
 import os
 import re
-from typing import Any, Dict, cast
+from typing import Any, Dict, Optional
 
 from docutils import nodes
 from sphinx.application import Sphinx
-from sphinx.builders.html import StandaloneHTMLBuilder
 from sphinx.config import Config
-from sphinx.domains.math import MathDomain
-from sphinx.errors import ConfigError, SphinxError
+from sphinx.errors import ConfigError
 from sphinx.locale import _
 from sphinx.util import logging
 from sphinx.util.math import get_node_equation_number
 
-from latex2mathml_proved.rendering import PAGE, SCRIPT, STYLE_SHEET, FaultyFormula, Renderer
+from latex2mathml_proved.macros import MacroError, definitions_of
+from latex2mathml_proved.rendering import Fault, Renderer
 
 NAME = "latex2mathml"
 
 # The source that Sphinx gives a part of a page which it draws elsewhere.
 PARTIAL = "<partial node>"
 
+# What has the macros of a project that uses MathJax, the newer one first.
+MATHJAX_OPTIONS = ("mathjax4_config", "mathjax3_config")
+
+# Options of earlier versions, and what takes their place.
+FORMER_OPTIONS = {
+    "latex2mathml_names": "use latex2mathml_macros",
+    "latex2mathml_strict": "use Sphinx's option -W",
+    "latex2mathml_page": "pages link no files",
+}
+
 logger = logging.getLogger(__name__)
 
-# What opens and closes a part of a formula, and what ends a cell or a row where no part is open.
-_NESTING = re.compile(r"\\begin\b|\\end\b|\\left\b|\\right\b|\\\\|\\.|[{}&]", re.DOTALL)
-_OPENING = {r"\begin", r"\left", "{"}
-_CLOSING = {r"\end", r"\right", "}"}
+# A backslash with its character, or a comment.
+_UNIT = re.compile(r"\\.|%[^\n]*", re.DOTALL)
+
+BLANK_LINE = "\n\n"
+ROW_END = r"\\"
 
 
 class Visitors:
@@ -37,14 +48,15 @@ class Visitors:
 
     def __init__(self) -> None:
         self._renderer = Renderer()
-        self._strict = False
 
     def take_options(self, app: Sphinx, config: Config) -> None:
         try:
-            self._renderer = Renderer(config.latex2mathml_names)
-        except ValueError as error:
-            raise ConfigError(f"latex2mathml_{error}") from error
-        self._strict = config.latex2mathml_strict
+            definitions = definitions_of(config.latex2mathml_macros, app.confdir)
+        except (MacroError, OSError) as error:
+            raise ConfigError(f"latex2mathml_macros: {error}") from error
+        # so that the next build writes all pages where a file of definitions has changed
+        config.latex2mathml_macros = definitions
+        self._renderer = Renderer(definitions=definitions, annotation=config.latex2mathml_annotation)
 
     def visit_inline(self, translator: Any, node: nodes.math) -> None:
         translator.body.append(translator.starttag(node, "span", "", CLASS="math notranslate nohighlight"))
@@ -53,54 +65,70 @@ class Visitors:
 
     def visit_displayed(self, translator: Any, node: nodes.math_block) -> None:
         translator.body.append(translator.starttag(node, "div", CLASS="math notranslate nohighlight"))
+        # a paragraph, as of Sphinx's renderer of images, has the space above and below that the theme gives to paragraphs
+        translator.body.append("<p>")
         if node["number"]:
             number = get_node_equation_number(translator, node)
             translator.body.append(f'<span class="eqno">({number})')
             translator.add_permalink_ref(node, _("Permalink to this equation"))
             translator.body.append("</span>")
-        translator.body.append(self._markup(node) + "</div>\n")
+        translator.body.append(self._markup(node) + "</p></div>\n")
         raise nodes.SkipNode
 
     def _markup(self, node: nodes.Element) -> str:
         source = node.astext()
         block = isinstance(node, nodes.math_block)
         is_whole = node.get("no-wrap", node.get("nowrap", False))
-        latex = align(source) if block and not is_whole else source
+        latex = rows_of(source) if block and not is_whole else source
         rendering = self._renderer.render(latex, block, source)
-        if rendering.fault:
-            self._report(node, rendering.fault)
+        # a title is drawn once more for each table of contents, and its own page has the warning
+        if rendering.fault and node.document["source"] != PARTIAL:
+            logger.warning("%s", rendering.fault, location=location_of(node, rendering.fault), type=NAME)
         return rendering.markup
 
-    def _report(self, node: nodes.Element, fault: str) -> None:
-        # a title is drawn once more for each table of contents, and its own page has the warning
-        if node.document["source"] == PARTIAL:
-            return
-        if self._strict:
-            raise StrictError(f"{place_of(node)}: {fault}")
-        logger.warning("%s", fault, location=place_of(node), type=NAME)
+
+def rows_of(source: str) -> str:
+    """The text of a directive as one formula of the same length, in which equations with a blank line between are rows."""
+    parts = _UNIT.sub(without_last_comment, source).split(BLANK_LINE)
+    last = max((number for number, part in enumerate(parts) if part.strip()), default=0)
+    rows = [with_row_end(part) if part.strip() else part + BLANK_LINE for part in parts[:last]]
+    return "".join(rows) + BLANK_LINE.join(parts[last:])
 
 
-class StrictError(SphinxError, FaultyFormula):
-    """What ends the build where `latex2mathml_strict` is set."""
+def without_last_comment(unit: "re.Match[str]") -> str:
+    """Spaces in place of a comment that ends an equation, since what ends its row comes behind."""
+    is_last = unit[0].startswith("%") and unit.string.startswith(BLANK_LINE, unit.end())
+    return " " * len(unit[0]) if is_last else unit[0]
 
-    category = "latex2mathml"
+
+def with_row_end(equation: str) -> str:
+    """An equation, and the end of its row in place of the blank line behind it, unless it has one."""
+    if equation.rstrip().endswith(ROW_END):
+        return equation + BLANK_LINE
+    if equation.endswith("\\"):
+        # with the end of the line it was the command of a space, which shows nothing here
+        equation = equation[:-1] + " "
+    return equation + ROW_END
 
 
-def place_of(node: nodes.Element) -> str:
-    """The file and the line of a formula. One in a line of text has the line of its paragraph, and its place in that."""
+def location_of(node: nodes.Element, fault: Fault) -> str:
+    """The file of a formula and the line of what is refused in it, or that of the formula, as near as can be told."""
     above = node
     while above.line is None and above.parent is not None:
         above = above.parent
     file = os.path.abspath(above.source or node.document["source"])
     if above.line is None:
         return file
-    return f"{file}:{above.line + lines_before(above, node)}"
+    if above is not node:
+        return f"{file}:{above.line + lines_before(above, node) + fault.place.line - 1}"
+    line = line_in_file(fault, file, above.line, is_whole=isinstance(node, nodes.math_block))
+    return f"{file}:{above.line if line is None else line}"
 
 
 def lines_before(above: nodes.Element, node: nodes.Element) -> int:
     """How many lines of a paragraph are before a formula in it: none if it is not written there, as that of a substitution."""
     source, written = above.rawsource, node.rawsource
-    places = source.count(written) if written and above is not node else 0
+    places = source.count(written) if written else 0
     if places == 0:
         return 0
     number = 0
@@ -110,53 +138,42 @@ def lines_before(above: nodes.Element, node: nodes.Element) -> int:
     return written.join(source.split(written)[:number + 1]).count("\n")
 
 
-def align(latex: str) -> str:
-    """Returns the text of a directive as one formula: rows, and equations with a blank line between, are lines of `align`."""
-    equations = [equation.strip() for equation in latex.split("\n\n") if equation.strip()]
-    if len(equations) == 1 and not has_cells(equations[0]):
-        return equations[0]
-    rows = "\\\\\n".join(re.sub(r"(?<!\\)((?:\\\\)*)\\\\\Z", r"\1", equation) for equation in equations)
-    return rf"\begin{{align}}{rows}\end{{align}}"
+def line_in_file(fault: Fault, file: str, line: int, is_whole: bool) -> Optional[int]:
+    """The line of what is refused in a formula that stands at this line of a file or behind it, with whole lines to itself or amid
+    other text. Options and blank lines may stand between its lines. None if they are not found, as those of a docstring."""
+    written = enumerate(linecache.getlines(file)[line - 1:], line)
+    found = None
+    for part in filter(None, map(str.strip, fault.source.split("\n")[:fault.place.line])):
+        found = next((number for number, text in written if (formula_of_line(text) == part if is_whole else part in text)), None)
+    return found
 
 
-def has_cells(latex: str) -> bool:
-    """Whether a cell or a row ends somewhere outside of all braces, fences and environments."""
-    depth = 0
-    for found in _NESTING.findall(latex):
-        if found in _OPENING:
-            depth += 1
-        elif found in _CLOSING:
-            depth -= 1
-        elif found in ("&", r"\\") and depth == 0:
-            return True
-    return False
+def formula_of_line(text: str) -> str:
+    """A line of a file without what begins or ends a directive in it."""
+    return text.strip().removeprefix(".. math::").removeprefix("$$").removesuffix("$$").strip()
 
 
-def copy_page_files(app: Sphinx) -> None:
-    """Has Sphinx copy the style sheet and the script to `_static`."""
-    if is_in_use(app):
-        app.config.html_static_path.append(str(PAGE))
+def mathjax_macros(config: Config) -> Dict[str, Any]:
+    """The macros that a project has for MathJax."""
+    for option in MATHJAX_OPTIONS:
+        if option in config and config[option]:
+            return config[option].get("tex", {}).get("macros", {})
+    return {}
 
 
-def link_page_files(app: Sphinx, pagename: str, templatename: str, context: Dict[str, Any], doctree: Any) -> None:
-    equations = cast(MathDomain, app.env.get_domain("math"))
-    if is_in_use(app) and (app.registry.html_assets_policy == "always" or equations.has_equations(pagename)):
-        app.add_css_file(STYLE_SHEET)
-        app.add_js_file(SCRIPT, defer="defer")
-
-
-def is_in_use(app: Sphinx) -> bool:
-    builder = app.builder
-    return bool(app.config.latex2mathml_page) and isinstance(builder, StandaloneHTMLBuilder) and builder.math_renderer_name == NAME
+def warn_of_former_options(app: Sphinx, config: Config) -> None:
+    for option, instead in FORMER_OPTIONS.items():
+        if config[option] is not None:
+            logger.warning("%s has no effect any more: %s", option, instead, type=NAME)
 
 
 def setup(app: Sphinx) -> Dict[str, Any]:
     visitors = Visitors()
     app.add_html_math_renderer(NAME, (visitors.visit_inline, None), (visitors.visit_displayed, None))
-    app.add_config_value("latex2mathml_names", True, "html", [bool, dict])
-    app.add_config_value("latex2mathml_strict", False, "html", [bool])
-    app.add_config_value("latex2mathml_page", True, "html", [bool])
+    app.add_config_value("latex2mathml_macros", mathjax_macros, "html", [dict, str])
+    app.add_config_value("latex2mathml_annotation", False, "html", [bool])
+    for option in FORMER_OPTIONS:
+        app.add_config_value(option, None, "")
+    app.connect("config-inited", warn_of_former_options)
     app.connect("config-inited", visitors.take_options)
-    app.connect("builder-inited", copy_page_files)
-    app.connect("html-page-context", link_page_files)
     return {"parallel_read_safe": True, "parallel_write_safe": True}

@@ -1,5 +1,4 @@
-use Rattle.std.proofs.Common.{◌≡◌, ◌∙◌, ◌<◌, ap, arith, get_or, length, sym}
-use Rattle.latex2mathml_tex.specs.Lengths.{length_in}
+use Rattle.std.proofs.Common.{◌<◌, ap, arith, get_or, length}
 use Rattle.latex2mathml_tex.proofs.Telling.{one_told}
 use Rattle.latex2mathml_tex.proofs.lengths.width_of.Goals as goal
 

@@ -6,7 +6,7 @@ use Rattle.latex2mathml_tex_program.proofs.reply.append_reply.Goals as goal
 
 pub returns-in-Ok : goal.returns-in-Ok
 returns-in-Ok c = λ table same.
-    let answer = c.in-Ok.ensures.answer table same in
+    let answer = c.in-Ok.ensures.markup table same in
     let said : c.as_str.result.now ≡ answer.0 = c.as_str.ensures.value ∙ answer.2 ∙ ap (λ l. l ++ answer.0) c.clear.ensures.bytes in
     on_ok_weaker c.append_said.result
     (λ put. (

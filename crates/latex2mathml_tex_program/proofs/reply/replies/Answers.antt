@@ -1,6 +1,5 @@
 use Rattle.std.proofs.Common.{None, Some, arith, rules, subst, sym}
 use Rattle.std.proofs.lemmas.Str.Pattern.{split_parts}
-use Rattle.latex2mathml_tex.specs.Answers.{style_in}
 use Rattle.latex2mathml_tex_program.proofs.Formulas.{AreRepliedSoFar, all_replied, last_replied, more_replied, none_left, none_replied, nul_free, some_left}
 use Rattle.latex2mathml_tex_program.proofs.reply.replies.Goals.{then-not-is_empty+in_ok-append_reply-2, else-not-is_empty}
 use Rattle.latex2mathml_tex_program.proofs.reply.replies.Goals as goal
@@ -18,7 +17,7 @@ loop-tex-preserved c =
       utf8 = search rules;
       so_far = λ table same.
           let reply = c.in_ok-append_reply.ensures table same in
-          subst (λ l. AreRepliedSoFar table c.args.texts.now (style_in c.args.display) l c.in-Some.more.now) (sym reply.2)
+          subst (λ l. AreRepliedSoFar table c.args.texts.now c.args.format l c.in-Some.more.now) (sym reply.2)
           (more_replied table _ _ _ c.loop-tex.rest.now c.in-Some.tex.now c.in-Some.more.now reply.0 (c.loop-tex.invariant.so_far table same) parts.0 (nul_free _ parts.1) reply.1);
     }
 

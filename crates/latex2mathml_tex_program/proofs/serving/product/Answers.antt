@@ -8,5 +8,5 @@ returns-clause-made c = λ table same. rw c.if-request.false (c.line.ensures.lin
 
 pub returns-clause-refusal : goal.returns-clause-refusal
 returns-clause-refusal c = λ table same.
-    refusals_weaker refusal_of (IsRefusal table c.args.text.now (style_in c.args.request.display)) (IsNotMade table c.args.request c.args.text.now) c.line.result
+    refusals_weaker refusal_of (IsRefusal table c.args.text.now (style_in c.args.request.format.display)) (IsNotMade table c.args.request c.args.text.now) c.line.result
     (λ r is. (c.if-request.false, is)) (c.line.ensures.refusal table same)

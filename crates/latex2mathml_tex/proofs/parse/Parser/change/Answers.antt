@@ -1,11 +1,20 @@
-use Rattle.std.proofs.Common.{◌≡◌, ◌∙◌, Some, ap, option_map, refl}
-use Rattle.latex2mathml_tex_grammar.specs.Refusal.{SecondInfix}
-use Rattle.latex2mathml_tex_grammar.specs.Rests.{GoesOnIn, NoRest, begun_below, rest_of, restyled, settled, style_of_group}
+use Rattle.std.proofs.Common.{◌≡◌, ◌∙◌, ◌+◌, ℕ, List, Option, Some, ap, arith, drop, option_map, refl, subst, sum_by, sym}
+use Rattle.latex2mathml_tex_grammar.specs.Refusal.{SecondInfix, UnknownColor, refusal_at}
+use Rattle.latex2mathml_tex_grammar.specs.Rests.{GoesOnIn, NoRest, begun_below, recolored, rest_of, restyled, settled, style_of_group}
 use Rattle.latex2mathml_tex_grammar.specs.Rules.{in_context, styled}
 use Rattle.latex2mathml_tex_grammar.specs.Symbols.{smaller}
 use Rattle.latex2mathml_tex.specs.Meanings.{alphabet_of, change_of, fraction_rule_of, style_of}
-use Rattle.latex2mathml_tex.specs.{Models.context_of, Models.row_with, Steps.elements_of}
-use Rattle.latex2mathml_tex.proofs.Resting.{no_rest, rest_begins, rest_can}
+use Rattle.latex2mathml_tex.specs.{Models.context_of, Models.row_with, Steps.TookValue, Steps.elements_of, Steps.left_of}
+use Rattle.latex2mathml_builder.specs.Arounds as arounds
+use Rattle.latex2mathml_builder.specs.declared.around.Color.{Color}
+use Rattle.latex2mathml_tex_grammar.specs.{Colors.color_of, Refusal.Refusal}
+use Rattle.latex2mathml_tex_grammar.specs.Scanning.{BeforeArgument, ColorName}
+use Rattle.latex2mathml_builder.specs.Built.{elements_in}
+use Rattle.latex2mathml_tex.specs.{Frames.within, Innermost.IsInnermost, Levels.Leads, Models.row_count, Steps.ending_weight, Steps.frame_weight}
+use Rattle.latex2mathml_tex.specs.declared.parse.{Parser.Parser, frames.Frames.Frames}
+use Rattle.latex2mathml_tex.specs.declared.parse.frames.Frame.TheVariants as frame
+use Rattle.latex2mathml_tex.proofs.{Rows.step_within, Rows.weighed, Values.value_fewer}
+use Rattle.latex2mathml_tex.proofs.Resting.{no_color_rest, color_rest, no_rest, rest_begins, rest_can, rest_can_behind}
 use Rattle.latex2mathml_tex.proofs.parse.Parser.change.Goals as goal
 
 pub open-requires-in-ToStyle-clause-can : goal.open-requires-in-ToStyle-clause-can
@@ -18,12 +27,13 @@ open-requires-in-None-clause-can c =
     let new = c.in_ok-row-in-None in
     rest_can c.args.self.now c.take.new.self c.take.result c.in-Row.ending c.in-Row.at c.in-Row.context c.in-Row.row c.take.ensures c.in-Row.is c.divide.new.builder new.row c.requires.begin new.ensures.below new.ensures.count
 
-pub returns-in-Some-clause-holds : goal.returns-in-Some-clause-holds
-returns-in-Some-clause-holds c = λ s g.
+pub returns-in-Some-under-clause-holds : goal.returns-in-Some-under-clause-holds
+returns-in-Some-under-clause-holds c = λ s g.
     let p = c.args.self.now in
     let row = c.in-Row.row in
-    let none : rest_of (change_of c.args.change) (context_of c.in-Row.context) (row_with row (elements_of p)) ≡ NoRest SecondInfix = rw (c.in-Divides.is, c.in-Some.is) refl in
-    rw c.refuse.ensures.state (no_rest p c.take.new.self c.take.result c.in-Row.ending c.in-Row.at c.in-Row.context row c.take.ensures c.in-Row.is s (change_of c.args.change) c.args.place g c.refuse.new.self SecondInfix none (rw c.refuse.ensures.parser refl) (rw c.refuse.ensures.parser refl))
+    let r = refusal_at SecondInfix c.args.place in
+    let none : rest_of (change_of c.args.change) (context_of c.in-Row.context) (row_with row (elements_of p)) c.args.place (left_of p) ≡ NoRest r = rw (c.in-Divides.is, c.in-Some-under.is) refl in
+    rw c.refuse.ensures.state (no_rest p c.take.new.self c.take.result c.in-Row.ending c.in-Row.at c.in-Row.context row c.take.ensures c.in-Row.is s (change_of c.args.change) c.args.place g c.refuse.new.self r none (rw c.refuse.ensures.parser refl) (rw c.refuse.ensures.parser refl))
 
 pub returns-in-ToAlphabet-clause-holds : goal.returns-in-ToAlphabet-clause-holds
 returns-in-ToAlphabet-clause-holds c = λ s g.
@@ -31,8 +41,8 @@ returns-in-ToAlphabet-clause-holds c = λ s g.
     let row = c.in-Row.row in
     let context = c.in-Row.context in
     let inner = in_context (style_of context.style) (Some (alphabet_of c.in-ToAlphabet.alphabet)) in
-    let rest : rest_of (change_of c.args.change) (context_of context) (row_with row (elements_of p)) ≡ GoesOnIn inner (row_with row (elements_of p)) = rw c.in-ToAlphabet.is refl in
-    c.open.ensures.holds s g.style (rest_begins p c.take.new.self c.take.result c.in-Row.ending c.in-Row.at context row c.take.ensures c.in-Row.is s (change_of c.args.change) c.args.place g (record context { alphabet = Some c.in-ToAlphabet.alphabet }) inner row (elements_of p) (row_with row (elements_of p)) refl refl refl rest)
+    let rest : rest_of (change_of c.args.change) (context_of context) (row_with row (elements_of p)) c.args.place (left_of p) ≡ GoesOnIn inner (row_with row (elements_of p)) (left_of p) = rw c.in-ToAlphabet.is refl in
+    c.open.ensures.holds s g.style (rest_begins p c.take.new.self c.take.result c.in-Row.ending c.in-Row.at context row c.take.ensures c.in-Row.is s (change_of c.args.change) c.args.place g (record context { alphabet = Some c.in-ToAlphabet.alphabet }) inner row (elements_of p) (row_with row (elements_of p)) (left_of p) refl refl refl rest)
 
 pub returns-in_ok-row-in-ToStyle-clause-holds : goal.returns-in_ok-row-in-ToStyle-clause-holds
 returns-in_ok-row-in-ToStyle-clause-holds c = λ s g.
@@ -42,8 +52,8 @@ returns-in_ok-row-in-ToStyle-clause-holds c = λ s g.
     let new = c.in_ok-row-in-ToStyle in
     let inner = styled (context_of context) (style_of c.in-ToStyle.style) in
     let begun = restyled (style_of context.style) (row_with row (elements_of p)) in
-    let rest : rest_of (change_of c.args.change) (context_of context) (row_with row (elements_of p)) ≡ GoesOnIn inner begun = rw c.in-ToStyle.is refl in
-    c.open-in-ToStyle.ensures.holds s g.style (rest_begins p c.take.new.self c.take.result c.in-Row.ending c.in-Row.at context row c.take.ensures c.in-Row.is s (change_of c.args.change) c.args.place g c.styled.result inner new.row (elements_of (record p { builder = c.restyle.new.builder })) begun (ap context_of c.styled.ensures) new.ensures.row new.ensures.below rest)
+    let rest : rest_of (change_of c.args.change) (context_of context) (row_with row (elements_of p)) c.args.place (left_of p) ≡ GoesOnIn inner begun (left_of p) = rw c.in-ToStyle.is refl in
+    c.open-in-ToStyle.ensures.holds s g.style (rest_begins p c.take.new.self c.take.result c.in-Row.ending c.in-Row.at context row c.take.ensures c.in-Row.is s (change_of c.args.change) c.args.place g c.styled.result inner new.row (elements_of (record p { builder = c.restyle.new.builder })) begun (left_of p) (ap context_of c.styled.ensures) new.ensures.row new.ensures.below rest)
 
 pub returns-in_ok-row-in-None-clause-holds : goal.returns-in_ok-row-in-None-clause-holds
 returns-in_ok-row-in-None-clause-holds c = λ s g.
@@ -55,7 +65,69 @@ returns-in_ok-row-in-None-clause-holds c = λ s g.
     let rule = fraction_rule_of c.in-Divides.rule in
     let inner = styled (context_of context) (smaller (style_of_group whole.restyled (style_of context.style))) in
     let begun = begun_below rule (settled (style_of context.style) whole) in
-    let rest : rest_of (change_of c.args.change) (context_of context) whole ≡ GoesOnIn inner begun = rw (c.in-Divides.is, c.in-None.is) refl in
+    let rest : rest_of (change_of c.args.change) (context_of context) whole c.args.place (left_of p) ≡ GoesOnIn inner begun (left_of p) = rw (c.in-Divides.is, c.in-None.is) refl in
     let style = c.smaller-style.ensures ∙ ap smaller (c.group_style.ensures (elements_of p)) in
     let same = ap context_of c.styled-in-None.ensures ∙ ap (λ st. in_context st (option_map alphabet_of context.alphabet)) style in
-    c.open-in-None.ensures.holds s g.style (rest_begins p c.take.new.self c.take.result c.in-Row.ending c.in-Row.at context row c.take.ensures c.in-Row.is s (change_of c.args.change) c.args.place g c.styled-in-None.result inner new.row (elements_of (record p { builder = c.divide.new.builder })) begun same new.ensures.row new.ensures.below rest)
+    c.open-in-None.ensures.holds s g.style (rest_begins p c.take.new.self c.take.result c.in-Row.ending c.in-Row.at context row c.take.ensures c.in-Row.is s (change_of c.args.change) c.args.place g c.styled-in-None.result inner new.row (elements_of (record p { builder = c.divide.new.builder })) begun (left_of p) same new.ensures.row new.ensures.below rest)
+
+-- the color that was taken, or none
+
+abbrev no_color : ℕ → List ℕ → Refusal
+no_color place name = refusal_at (UnknownColor name) place
+
+pub returns-in_default-2-clause-holds : goal.returns-in_default-2-clause-holds
+returns-in_default-2-clause-holds c = λ s g.
+    let p = c.args.self.now in
+    let q = c.take_color.new.self in
+    let place = c.args.place in
+    let row = c.in-Row.row in
+    let context = c.in-Row.context in
+    let took = subst (λ (x : Option Color). TookValue place (BeforeArgument ColorName) color_of (no_color place) (record p { frames = c.take.new.self }) q (option_map arounds.color_of x)) c.in_default-2.is c.in_ok-color-in-ToColor.ensures in
+    let none : rest_of (change_of c.args.change) (context_of context) (row_with row (elements_of p)) place (left_of p) ≡ NoRest took.0 = rw c.in-ToColor.is (no_color_rest (context_of context) (row_with row (elements_of p)) place (left_of p) took.0 took.1.1.1.1) in
+    no_rest p c.take.new.self c.take.result c.in-Row.ending c.in-Row.at context row c.take.ensures c.in-Row.is s (change_of c.args.change) place g q took.0 none (ap (λ (x : Parser). x.style) took.1.0) took.1.1.0
+
+pub open-requires-in-ToColor-clause-can : goal.open-requires-in-ToColor-clause-can
+open-requires-in-ToColor-clause-can c =
+    let p = c.args.self.now in
+    let q = c.take_color.new.self in
+    let place = c.args.place in
+    let new = c.in_ok-row-in-ToColor in
+    let took = subst (λ (x : Option Color). TookValue place (BeforeArgument ColorName) color_of (no_color place) (record p { frames = c.take.new.self }) q (option_map arounds.color_of x)) c.in-Some.is c.in_ok-color-in-ToColor.ensures in
+    rest_can_behind p c.take.new.self c.take.result c.in-Row.ending c.in-Row.at c.in-Row.context c.in-Row.row c.take.ensures c.in-Row.is q c.recolor.new.builder new.row took.0 c.requires.begin new.ensures.below new.ensures.count
+
+pub returns-in_ok-row-in-ToColor-clause-holds : goal.returns-in_ok-row-in-ToColor-clause-holds
+returns-in_ok-row-in-ToColor-clause-holds c = λ s g.
+    let p = c.args.self.now in
+    let q = c.take_color.new.self in
+    let fr = c.take.new.self in
+    let place = c.args.place in
+    let row = c.in-Row.row in
+    let context = c.in-Row.context in
+    let new = c.in_ok-row-in-ToColor in
+    let ys = elements_in c.recolor.new.builder in
+    let color = arounds.color_of c.in-Some.color in
+    let took = subst (λ (x : Option Color). TookValue place (BeforeArgument ColorName) color_of (no_color place) (record p { frames = c.take.new.self }) q (option_map arounds.color_of x)) c.in-Some.is c.in_ok-color-in-ToColor.ensures in
+    let elements : elements_of q ≡ elements_of p = ap (λ (x : Parser). elements_of x) took.0 in
+    let frames : q.frames ≡ fr = ap (λ (x : Parser). x.frames) took.0 in
+    let style : q.style ≡ p.style = ap (λ (x : Parser). x.style) took.0 in
+    let begun = recolored color (style_of context.style) (row_with row (elements_of p)) in
+    let rest : rest_of (change_of c.args.change) (context_of context) (row_with row (elements_of p)) place (left_of p) ≡ GoesOnIn (context_of context) begun (left_of q) = rw c.in-ToColor.is (color_rest (context_of context) (row_with row (elements_of p)) place (record p { frames = fr }) q color took) in
+    let same_row : row_with new.row ys ≡ begun = new.ensures.row ∙ ap (λ xs. recolored color (style_of context.style) (row_with row xs)) elements in
+    let below : drop (row_count new.row) ys ≡ drop (row_count row) (elements_of p) = new.ensures.below ∙ ap (drop (row_count row)) elements in
+    let due = rest_begins p fr c.take.result c.in-Row.ending c.in-Row.at context row c.take.ensures c.in-Row.is s (change_of c.args.change) place g context (context_of context) new.row ys begun (left_of q) refl same_row below rest in
+    c.open-in-ToColor.ensures.holds s (g.style ∙ ap style_of (sym style)) (subst (λ (f : Frames). Leads (within s f.stack.items (frame.Row c.in-Row.ending c.in-Row.at context new.row) ys) (left_of q)) (sym frames) due)
+
+pub returns-in_ok-row-in-ToColor-clause-step : goal.returns-in_ok-row-in-ToColor-clause-step
+returns-in_ok-row-in-ToColor-clause-step c =
+    let p = c.args.self.now in
+    let q = c.take_color.new.self in
+    let fr = c.take.new.self in
+    let place = c.args.place in
+    let e = c.in-Row.ending in
+    let back = frame.Row e c.in-Row.at c.in-Row.context c.in-Row.row in
+    let took = subst (λ (x : Option Color). TookValue place (BeforeArgument ColorName) color_of (no_color place) (record p { frames = c.take.new.self }) q (option_map arounds.color_of x)) c.in-Some.is c.in_ok-color-in-ToColor.ensures in
+    let fewer = value_fewer color_of (no_color place) place (BeforeArgument ColorName) (record p { frames = fr }) q (arounds.color_of c.in-Some.color) took in
+    let inner = subst (λ f. IsInnermost p.style p.frames.stack.items f fr.stack.items) c.in-Row.is c.take.ensures in
+    let before : sum_by frame_weight p.frames.stack.items ≡ sum_by frame_weight fr.stack.items + ending_weight e = weighed p.style p.frames.stack.items fr.stack.items back inner in
+    let after : sum_by frame_weight q.frames.stack.items ≡ sum_by frame_weight fr.stack.items = ap (λ (x : Parser). sum_by frame_weight x.frames.stack.items) took.0 in
+    step_within p (record q { builder = c.recolor.new.builder }) c.open-in-ToColor.new.self c.open-in-ToColor.result (ending_weight e + 2) 13 (omega (arith, fewer, before, after)) c.open-in-ToColor.ensures.step

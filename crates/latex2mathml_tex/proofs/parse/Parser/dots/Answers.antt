@@ -1,4 +1,4 @@
-use Rattle.std.proofs.Common.{◌≡◌, sym}
+use Rattle.std.proofs.Common.{sym}
 use Rattle.latex2mathml_tex_grammar.specs.{Dots.centered_dots, Dots.centers_dots, Dots.low_dots, Makes.symbol, Rules.gives, Rules.if_follows}
 use Rattle.latex2mathml_tex.specs.{Meanings.symbol_of, Models.context_of, Steps.Begins}
 use Rattle.latex2mathml_tex.proofs.{Putting.before_none, Putting.before_unit, RuleSteps.begun}

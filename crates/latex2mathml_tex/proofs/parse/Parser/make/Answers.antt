@@ -1,11 +1,11 @@
 use Rattle.std.proofs.Common.{◌≡◌, ◌≤◌, ◌&&◌, arith, ◌∷◌, [], drop, length, not, refl, sym, ◌∙◌}
 use Rattle.latex2mathml_elements.specs.Attributes.{plain}
-use Rattle.latex2mathml_elements.specs.Element.{Mroot, Msqrt, children, container}
+use Rattle.latex2mathml_elements.specs.Element.{Mover, Mroot, Msqrt, Munderover, children, container, pair, triple}
 use Rattle.latex2mathml_builder.specs.{Built.elements_in, Stacks.is_token, Stacks.pair_with}
 use Rattle.latex2mathml_tex.specs.declared.meaning.Class.TheVariants as class
 use Rattle.latex2mathml_tex.specs.Models.{top}
 use Rattle.latex2mathml_tex.specs.Steps.{elements_of}
-use Rattle.latex2mathml_tex.proofs.Making.{base, behind_changed, behind_two_changed, classed_put, enough, made_held, made_put, one_taken, ordinary, slash_put, top_changed, top_first, two_exchanged}
+use Rattle.latex2mathml_tex.proofs.Making.{base, behind_changed, behind_two_changed, classed_put, enough, made_held, made_put, one_taken, ordinary, slash_put, three_reversed, top_changed, top_first, two_exchanged, two_ordered}
 use Rattle.latex2mathml_tex.proofs.parse.Parser.make.Goals as goal
 use Rattle.latex2mathml_tex.proofs.parse.Parser.make.Goals.{then-not-is_token, else-not-is_token}
 
@@ -101,3 +101,21 @@ returns-in_ok-put_stack-in-StackedRelation-clause-holds c = λ s g.
     let f = base s p c.args.last c.args.operand c.in-StackedRelation.style class.Relation in
     let is = c.make_base-in-StackedRelation.ensures.elements in
     rw c.new-in-StackedRelation.ensures (made_held s p c.args.last c.args.operand c.put_stack-in-StackedRelation.new.builder _ (record { element = rw c.in-StackedRelation.is (rw (is, top_changed f xs some, behind_changed f xs, behind_two_changed f xs) at c.in_ok-put_stack-in-StackedRelation.ensures); is = rw c.in-StackedRelation.is refl }) g)
+
+pub returns-in_ok-pair-in-OverArrow-clause-holds : goal.returns-in_ok-pair-in-OverArrow-clause-holds
+returns-in_ok-pair-in-OverArrow-clause-holds c = λ s g.
+    let p = c.args.self.now in
+    let xs = elements_of p in
+    let two : 2 ≤ length xs = enough 2 p (rw c.in-OverArrow.is at c.requires.elements) in
+    let x = pair Mover plain (top (drop 1 xs)) (top xs) in
+    let put : elements_in c.pair-in-OverArrow.new.self ≡ x ∷ drop 2 xs = c.in_ok-pair-in-OverArrow.ensures.elements ∙ rw (c.plain-in-OverArrow.ensures, two_ordered xs two) refl in
+    rw c.new-in-OverArrow.ensures (made_put s p c.args.last c.args.operand c.pair-in-OverArrow.new.self _ x (rw c.in-OverArrow.is put) (rw c.in-OverArrow.is refl) g)
+
+pub returns-in_ok-triple-in-OverAndUnderArrow-clause-holds : goal.returns-in_ok-triple-in-OverAndUnderArrow-clause-holds
+returns-in_ok-triple-in-OverAndUnderArrow-clause-holds c = λ s g.
+    let p = c.args.self.now in
+    let xs = elements_of p in
+    let three : 3 ≤ length xs = enough 3 p (rw c.in-OverAndUnderArrow.is at c.requires.elements) in
+    let x = triple Munderover plain (top (drop 1 (drop 1 xs))) (top (drop 1 xs)) (top xs) in
+    let put : elements_in c.triple.new.self ≡ x ∷ drop 3 xs = c.in_ok-triple-in-OverAndUnderArrow.ensures.elements ∙ rw (three_reversed xs three, c.plain-in-OverAndUnderArrow.ensures) refl in
+    rw c.new-in-OverAndUnderArrow.ensures (made_put s p c.args.last c.args.operand c.triple.new.self _ x (rw c.in-OverAndUnderArrow.is put) (rw c.in-OverAndUnderArrow.is refl) g)

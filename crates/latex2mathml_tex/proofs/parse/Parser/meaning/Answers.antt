@@ -1,17 +1,17 @@
-use Rattle.std.proofs.Common.{◌≡◌, ◌∙◌, ap, inl, inr, option_map, refl, subst, sym}
+use Rattle.std.proofs.Common.{inl, inr, refl, subst}
 use Rattle.latex2mathml_elements.specs.Attributes.{Above}
 use Rattle.latex2mathml_builder.specs.Names.{side_of, stretch_of}
-use Rattle.latex2mathml_tex_grammar.specs.Makes.{accent, brace, classed, core, fraction, group, stack, struck}
+use Rattle.latex2mathml_tex_grammar.specs.Makes.{accent, brace, classed, core, group, stack, struck}
 use Rattle.latex2mathml_tex_grammar.specs.Refusal.{ChangeAsArgument, LimitsWithoutOperator, MiddleWithoutLeft, RightWithoutLeft, refusal_at, EndWithoutBegin, OutsideTable}
 use Rattle.latex2mathml_tex_grammar.specs.Rows.{as_base}
-use Rattle.latex2mathml_tex_grammar.specs.Rules.{gives, in_context, of_two, own_style, refuses, slashed, styled}
-use Rattle.latex2mathml_tex_grammar.specs.Symbols.{InScript, Relation, smaller}
+use Rattle.latex2mathml_tex_grammar.specs.Rules.{gives, of_two, refuses, slashed, styled}
+use Rattle.latex2mathml_tex_grammar.specs.Symbols.{InScript, Relation}
 use Rattle.latex2mathml_tex.specs.{Frames.after_first, Frames.context_at}
-use Rattle.latex2mathml_tex.specs.Meanings.{class_of, fraction_rule_of, style_of}
+use Rattle.latex2mathml_tex.specs.Meanings.{class_of, style_of}
 use Rattle.latex2mathml_tex.specs.Models.{context_of}
 use Rattle.latex2mathml_tex.specs.Steps.{Begins, level}
 use Rattle.latex2mathml_tex.specs.declared.parse.frames.First.TheVariants as first
-use Rattle.latex2mathml_tex.proofs.{RuleSteps.begun, RuleSteps.own_style_is, RuleSteps.rule_refuses, Leading.operand_due}
+use Rattle.latex2mathml_tex.proofs.{RuleSteps.begun, RuleSteps.rule_refuses, Leading.operand_due}
 use Rattle.latex2mathml_tex.proofs.parse.Parser.meaning.Goals as goal
 
 pub returns-in-Skip-clause-holds : goal.returns-in-Skip-clause-holds
@@ -26,21 +26,29 @@ returns-in-Boxed-clause-holds c = λ s g. c.open_box.ensures.holds s (begun (rw 
 pub returns-in-Smash-clause-holds : goal.returns-in-Smash-clause-holds
 returns-in-Smash-clause-holds c = λ s g. c.smash.ensures.holds s (begun (rw c.in-Smash.is at g))
 
+pub returns-in-Raise-clause-holds : goal.returns-in-Raise-clause-holds
+returns-in-Raise-clause-holds c = λ s g. c.raise.ensures.holds s (rw c.in-Raise.is at g)
+
+pub returns-in-InColor-clause-holds : goal.returns-in-InColor-clause-holds
+returns-in-InColor-clause-holds c = λ s g. c.in_color.ensures.holds s (rw c.in-InColor.is at g)
+
+pub returns-in-Highlight-clause-holds : goal.returns-in-Highlight-clause-holds
+returns-in-Highlight-clause-holds c = λ s g. c.highlight.ensures.holds s (rw c.in-Highlight.is at g)
+
+pub returns-in-Rectangle-clause-holds : goal.returns-in-Rectangle-clause-holds
+returns-in-Rectangle-clause-holds c = λ s g. c.rectangle.ensures.holds s (rw c.in-Rectangle.is at g)
+
+pub returns-in-Arrow-clause-holds : goal.returns-in-Arrow-clause-holds
+returns-in-Arrow-clause-holds c = λ s g. c.arrow.ensures.holds s (rw c.in-Arrow.is at g)
+
 pub returns-in-Styled-clause-holds : goal.returns-in-Styled-clause-holds
 returns-in-Styled-clause-holds c = λ s g. c.open.ensures.holds s g.style (operand_due (λ x. gives (core (group x))) (rw c.in-Styled.is at g.leads))
 
 pub returns-in-Fraction-clause-holds : goal.returns-in-Fraction-clause-holds
-returns-in-Fraction-clause-holds c = λ s g.
-    let p = c.args.self.now in
-    let place = c.args.place in
-    let rule = fraction_rule_of c.in-Fraction.rule in
-    let own = option_map style_of c.in-Fraction.own in
-    let alphabet = (context_of c.args.context).alphabet in
-    let chosen : style_of c.unwrap_or.result ≡ own_style own (style_of c.args.context.style) = ap style_of c.unwrap_or.ensures ∙ own_style_is c.in-Fraction.own c.args.context.style in
-    let style : smaller (own_style own (style_of c.args.context.style)) ≡ style_of c.smaller-style.result = sym (c.smaller-style.ensures ∙ ap smaller chosen) in
-    let part = in_context (style_of c.smaller-style.result) alphabet in
-    let begins = subst (λ st. Begins (of_two place (in_context st alphabet) (in_context st alphabet) (λ above below. fraction rule own above.element below.element)) 0 s p) style (begun (rw c.in-Fraction.is at g)) in
-    c.open-in-Fraction.ensures.holds s g.style (rw c.styled.ensures (operand_due (after_first (first.Fraction c.in-Fraction.rule c.in-Fraction.own) place part (context_at (level 0 s p))) begins.leads))
+returns-in-Fraction-clause-holds c = λ s g. c.open_fraction.ensures.holds s (begun (rw c.in-Fraction.is at g))
+
+pub returns-in-ContinuedFraction-clause-holds : goal.returns-in-ContinuedFraction-clause-holds
+returns-in-ContinuedFraction-clause-holds c = λ s g. c.continued_fraction.ensures.holds s (begun (rw c.in-ContinuedFraction.is at g))
 
 pub returns-in-Accent-clause-holds : goal.returns-in-Accent-clause-holds
 returns-in-Accent-clause-holds c = λ s g.
@@ -56,7 +64,7 @@ returns-in-Stack-clause-holds c = λ s g.
     let place = c.args.place in
     let mark = styled (context_of c.args.context) InScript in
     let begins = subst (λ d. Begins (of_two place mark d (λ m base. stack (side_of c.in-Stack.side) base.class m.element (as_base d.style base.class base).element)) 0 s p) g.context (begun (rw c.in-Stack.is at g)) in
-    c.open-in-Stack.ensures.holds s g.style (rw c.styled-in-Stack.ensures (operand_due (after_first (first.Stack c.in-Stack.side) place mark (context_at (level 0 s p))) begins.leads))
+    c.open-in-Stack.ensures.holds s g.style (rw c.styled.ensures (operand_due (after_first (first.Stack c.in-Stack.side) place mark (context_at (level 0 s p))) begins.leads))
 
 pub returns-in-StackedRelation-clause-holds : goal.returns-in-StackedRelation-clause-holds
 returns-in-StackedRelation-clause-holds c = λ s g.

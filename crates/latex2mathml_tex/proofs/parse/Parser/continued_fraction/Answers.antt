@@ -1,0 +1,57 @@
+use Rattle.std.proofs.Common.{List, [], ◌∷◌, ℕ, Some, ap, arith}
+use Rattle.latex2mathml_tex_grammar.specs.{Meaning.Bar, Symbols.InDisplay}
+use Rattle.latex2mathml_tex_grammar.specs.Rules.{Context, Rule, a_fraction, in_brackets, takes_if}
+use Rattle.latex2mathml_tex.specs.{Left.unit_count, Left.units_at, Models.context_of}
+use Rattle.latex2mathml_tex.specs.Steps.{left_of}
+use Rattle.latex2mathml_tex.proofs.{Nexts.no_more_taken, Putting.past_none, Putting.past_units, Rows.step_within}
+use Rattle.latex2mathml_tex.proofs.parse.Parser.continued_fraction.Goals as goal
+
+abbrev whole : ℕ → Context → Rule
+whole place c = a_fraction place c Bar (Some InDisplay)
+
+pub returns-then-take_in_brackets-clause-holds : goal.returns-then-take_in_brackets-clause-holds
+returns-then-take_in_brackets-clause-holds c = λ s g.
+    let p = c.args.self.now in
+    let context = context_of c.args.context in
+    c.open_fraction.ensures.holds s (past_units s p c.take_in_brackets.new.self (λ left. whole c.args.place context) (91 ∷ 108 ∷ 93 ∷ []) c.if-take_in_brackets.ensures g)
+
+pub returns-then-take_in_brackets-clause-step : goal.returns-then-take_in_brackets-clause-step
+returns-then-take_in_brackets-clause-step c =
+    let p = c.args.self.now in
+    let i = c.take_in_brackets.new.self in
+    let less = no_more_taken (in_brackets 108) (left_of p) (units_at i) (91 ∷ 108 ∷ 93 ∷ []) c.if-take_in_brackets.ensures in
+    step_within p (record p { input = i }) c.open_fraction.new.self c.open_fraction.result 10 13 (omega (arith, less)) c.open_fraction.ensures.step
+
+pub returns-then-take_in_brackets-2-clause-holds : goal.returns-then-take_in_brackets-2-clause-holds
+returns-then-take_in_brackets-2-clause-holds c = λ s g.
+    let p = c.args.self.now in
+    let i = c.take_in_brackets.new.self in
+    let place = c.args.place in
+    let context = context_of c.args.context in
+    let right : List ℕ → Rule = λ right. whole place context in
+    let behind = past_none s p i (takes_if (in_brackets 114) right (whole place context)) c.if-take_in_brackets.ensures.0 c.if-take_in_brackets.ensures.1 g in
+    c.open_fraction-then-take_in_brackets-2.ensures.holds s (past_units s (record p { input = i }) c.take_in_brackets-2.new.self right (91 ∷ 114 ∷ 93 ∷ []) c.if-take_in_brackets-2.ensures behind)
+
+pub returns-then-take_in_brackets-2-clause-step : goal.returns-then-take_in_brackets-2-clause-step
+returns-then-take_in_brackets-2-clause-step c =
+    let p = c.args.self.now in
+    let i = c.take_in_brackets.new.self in
+    let j = c.take_in_brackets-2.new.self in
+    let less = no_more_taken (in_brackets 114) (units_at i) (units_at j) (91 ∷ 114 ∷ 93 ∷ []) c.if-take_in_brackets-2.ensures in
+    step_within p (record p { input = j }) c.open_fraction-then-take_in_brackets-2.new.self c.open_fraction-then-take_in_brackets-2.result 10 13 (let same = ap unit_count c.if-take_in_brackets.ensures.1 in omega (arith, less, same)) c.open_fraction-then-take_in_brackets-2.ensures.step
+
+pub returns-clause-holds : goal.returns-clause-holds
+returns-clause-holds c = λ s g.
+    let p = c.args.self.now in
+    let i = c.take_in_brackets.new.self in
+    let place = c.args.place in
+    let context = context_of c.args.context in
+    let right : List ℕ → Rule = λ right. whole place context in
+    let behind = past_none s p i (takes_if (in_brackets 114) right (whole place context)) c.if-take_in_brackets.ensures.0 c.if-take_in_brackets.ensures.1 g in
+    c.open_fraction-2.ensures.holds s (past_none s (record p { input = i }) c.take_in_brackets-2.new.self (whole place context) c.if-take_in_brackets-2.ensures.0 c.if-take_in_brackets-2.ensures.1 behind)
+
+pub returns-clause-step : goal.returns-clause-step
+returns-clause-step c =
+    let p = c.args.self.now in
+    let j = c.take_in_brackets-2.new.self in
+    step_within p (record p { input = j }) c.open_fraction-2.new.self c.open_fraction-2.result 10 13 (rw (c.if-take_in_brackets-2.ensures.1, c.if-take_in_brackets.ensures.1) (omega arith)) c.open_fraction-2.ensures.step

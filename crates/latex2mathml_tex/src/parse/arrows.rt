@@ -1,0 +1,35 @@
+//! Arrows that are as long as what stands above and below them.
+ghost use Rattle.latex2mathml_tex_grammar.specs.Rules.{an_arrow};
+ghost use Rattle.latex2mathml_tex.specs.Models.{context_of};
+ghost use Rattle.latex2mathml_tex.specs.Steps.{BeginsIn, CanBegin, IsStep, LeadsOn};
+
+use crate::atoms::{Context, Row};
+use crate::meaning::Style;
+use crate::parse::frames::{Ending, Frame, Last};
+use crate::parse::{Parser, State};
+use crate::shapes::put_arrow;
+use std::alloc::AllocError;
+
+impl<'a> Parser<'a> {
+    /// An arrow: what stands below it, if that stands next in brackets, and what stands above it.
+    pub(crate) fn arrow(
+        &mut self,
+        sign: char,
+        place: usize,
+        context: Context,
+    ) -> Result<State, AllocError>
+        requires begin { CanBegin 0 self.old }
+        ensures holds { LeadsOn
+            (BeginsIn context (an_arrow place (context_of context) sign) 0)
+            self.old self.new result }
+        ensures step { IsStep 13 self.old self.new result }
+    {
+        let small = context.styled(Style::InScript);
+        if self.input.take_character('[') {
+            put_arrow(&mut self.builder, sign)?;
+            return self.open(Frame::Row(Ending::BelowArrow, place, small, Row::empty()));
+        }
+        put_arrow(&mut self.builder, sign)?;
+        self.open(Frame::Last(Last::OverArrow, place, small))
+    }
+}

@@ -1,0 +1,54 @@
+//! Fractions: what opens the operands above and below the bar.
+ghost use Rattle.std.specs.Prelude.{option_map};
+ghost use Rattle.latex2mathml_tex_grammar.specs.Rules.{a_continued_fraction, a_fraction};
+ghost use Rattle.latex2mathml_tex.specs.{Meanings.fraction_rule_of, Meanings.style_of, Models.context_of};
+ghost use Rattle.latex2mathml_tex.specs.Steps.{Begins, CanBegin, IsStep, LeadsOn};
+
+use crate::atoms::Context;
+use crate::meaning::{FractionRule, Style};
+use crate::parse::frames::{First, Frame};
+use crate::parse::{Parser, State};
+use std::alloc::AllocError;
+
+impl<'a> Parser<'a> {
+    /// A fraction in the style of a block. The side to which `[l]` or `[r]` pushes its numerator is passed over.
+    pub(crate) fn continued_fraction(
+        &mut self,
+        place: usize,
+        context: Context,
+    ) -> Result<State, AllocError>
+        requires begin { CanBegin 0 self.old }
+        ensures holds { LeadsOn
+            (Begins (a_continued_fraction place (context_of context)) 0)
+            self.old self.new result }
+        ensures step { IsStep 13 self.old self.new result }
+    {
+        let (rule, own) = (FractionRule::Bar, Some(Style::InDisplay));
+        if self.input.take_in_brackets('l') {
+            return self.open_fraction(rule, own, place, context);
+        }
+        if self.input.take_in_brackets('r') {
+            return self.open_fraction(rule, own, place, context);
+        }
+        self.open_fraction(rule, own, place, context)
+    }
+
+    /// A fraction, which may have a style of its own. Its parts are smaller.
+    pub(crate) fn open_fraction(
+        &mut self,
+        rule: FractionRule,
+        own: Option<Style>,
+        place: usize,
+        context: Context,
+    ) -> Result<State, AllocError>
+        requires begin { CanBegin 0 self.old }
+        ensures holds { LeadsOn
+            (Begins (a_fraction place (context_of context) (fraction_rule_of rule)
+            (option_map style_of own)) 0)
+            self.old self.new result }
+        ensures step { IsStep 10 self.old self.new result }
+    {
+        let style = own.unwrap_or(context.style).smaller();
+        self.open(Frame::First(First::Fraction(rule, own), place, context.styled(style)))
+    }
+}

@@ -1,0 +1,55 @@
+//! Lengths and colors that stand next.
+ghost use Rattle.std.specs.Prelude.{IfOk, option_map};
+ghost use Rattle.latex2mathml_builder.specs.Arounds.{color_of};
+ghost use Rattle.latex2mathml_tex_grammar.specs.Colors;
+ghost use Rattle.latex2mathml_tex_grammar.specs.Lengths;
+ghost use Rattle.latex2mathml_tex_grammar.specs.Refusal.{LengthTooLarge, UnknownColor, refusal_at};
+ghost use Rattle.latex2mathml_tex_grammar.specs.Scanning.{BeforeArgument, ColorName};
+ghost use Rattle.latex2mathml_tex.specs.{Scans.spot_of, Steps.TookValue};
+
+use crate::colors::color_of;
+use crate::error::TexErrorKind;
+use crate::lengths::width_of;
+use crate::parse::Parser;
+use crate::scanning::{Argument, Spot};
+use latex2mathml_builder::around::Color;
+use std::alloc::AllocError;
+
+impl<'a> Parser<'a> {
+    /// Takes the length that is found from this spot on, in thousandths of an em. Where there is none, or where it is too large,
+    /// the formula is refused, and nothing is returned.
+    pub(crate) fn take_length(
+        &mut self,
+        place: usize,
+        spot: Spot,
+    ) -> Result<Option<i32>, AllocError>
+        ensures { IfOk result (λ length. TookValue place (spot_of spot) Lengths.width_of
+            (λ text. refusal_at LengthTooLarge place) self.old self.new length) }
+    {
+        let Some(length) = self.take_text(place, spot)? else {
+            return Ok(None);
+        };
+        let Some(width) = width_of(length.as_str()) else {
+            let _ = self.refuse(TexErrorKind::LengthTooLarge, place);
+            return Ok(None);
+        };
+        Ok(Some(width))
+    }
+
+    /// Takes the color whose name stands next in braces. Where there is none, the formula is refused, and nothing is returned.
+    pub(crate) fn take_color(&mut self, place: usize) -> Result<Option<Color>, AllocError>
+        ensures { IfOk result (λ color. TookValue place (BeforeArgument ColorName) Colors.color_of
+            (λ name. refusal_at (UnknownColor name) place) self.old self.new
+            (option_map color_of color)) }
+    {
+        let spot = Spot::BeforeArgument(Argument::ColorName);
+        let Some(name) = self.take_text(place, spot)? else {
+            return Ok(None);
+        };
+        let Some(color) = color_of(name.as_str()) else {
+            let _ = self.refuse(TexErrorKind::UnknownColor(name), place);
+            return Ok(None);
+        };
+        Ok(Some(color))
+    }
+}

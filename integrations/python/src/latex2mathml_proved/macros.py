@@ -1,0 +1,77 @@
+r"""The option `macros` of the extensions: macros as MathJax and KaTeX take them, or a file of LaTeX's definitions.
+
+    {"RR": r"\mathbb{R}", "norm": [r"\lVert #1 \rVert", 1]}
+"""
+import os
+import pathlib
+import re
+from typing import Any, Mapping, Sequence, Tuple, Union
+
+from latex2mathml_proved._library import TexRefused, tex
+from latex2mathml_proved.places import place_of
+
+# What the option may be: names with their bodies, or the path of a file.
+Macros = Union[Mapping[str, Any], str, "os.PathLike[str]"]
+
+_COMMAND = re.compile(r"\\(?:[A-Za-z]+|[^A-Za-z])", re.DOTALL)
+# An argument in a body. Two number signs are one that stands for itself.
+_ARGUMENT = re.compile(r"##|#([1-9])")
+_MOST_ARGUMENTS = 9
+
+
+class MacroError(ValueError):
+    """The option `macros` has something that is no definition. The message names the macro, or the file and the place in it."""
+
+
+def definitions_of(macros: Macros, folder: Union[str, "os.PathLike[str]"] = "") -> str:
+    """Returns macros as a text of definitions, as `tex` takes it. The path of a file is seen from `folder`.
+
+    Raises `MacroError` if something is no definition, and `OSError` if the file cannot be read.
+    """
+    if isinstance(macros, Mapping):
+        return "".join(_definition(name, macro) for name, macro in macros.items())
+    if isinstance(macros, (str, os.PathLike)):
+        return _read(pathlib.Path(folder, macros))
+    raise MacroError(f"macros: neither a mapping nor the path of a file: {macros!r}")
+
+
+def _read(file: pathlib.Path) -> str:
+    try:
+        definitions = file.read_text(encoding="utf-8")
+    except UnicodeDecodeError as error:
+        raise MacroError(f"{file}: not UTF-8") from error
+    try:
+        tex("", definitions=definitions)
+    except TexRefused as refused:
+        place = place_of(definitions, refused.place)
+        raise MacroError(f"{file}:{place.line}:{place.column}: {refused.reason}") from refused
+    return definitions
+
+
+def _definition(name: str, macro: Any) -> str:
+    """One macro as a line of definitions."""
+    command = name if isinstance(name, str) and name.startswith("\\") else f"\\{name}"
+    if not _COMMAND.fullmatch(command):
+        raise MacroError(f"macros: {name!r} is no name of a command: letters, or one other character")
+    body, arguments = _body_and_arguments(command, macro)
+    count = f"[{arguments}]" if arguments else ""
+    definition = rf"\newcommand{{{command}}}{count}{{{body}}}" + "\n"
+    try:
+        tex("", definitions=definition)
+    except TexRefused as refused:
+        raise MacroError(f"macros: {command}: {refused.reason}: {body}") from refused
+    return definition
+
+
+def _body_and_arguments(command: str, macro: Any) -> Tuple[str, int]:
+    """The body of a macro, and how many arguments it takes: where no number says it, as many as the body has, as in KaTeX."""
+    if isinstance(macro, str):
+        return macro, max((int(found) for found in _ARGUMENT.findall(macro) if found), default=0)
+    if not isinstance(macro, Sequence) or not macro or not isinstance(macro[0], str):
+        raise MacroError(f"macros: {command} is neither a text nor a list of a text and a number of arguments: {macro!r}")
+    if len(macro) > 2:
+        raise MacroError(f"macros: {command} has an argument with a default, which is not read: {macro!r}")
+    arguments = macro[1] if len(macro) == 2 else 0
+    if not isinstance(arguments, int) or not 0 <= arguments <= _MOST_ARGUMENTS:
+        raise MacroError(f"macros: {command} has a number of arguments that is not from 0 to {_MOST_ARGUMENTS}: {arguments!r}")
+    return macro[0], arguments
