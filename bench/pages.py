@@ -5,16 +5,14 @@ import argparse
 import dataclasses
 import functools
 import http.server
-import os
 import pathlib
-import shutil
-import subprocess
 import sys
 import tempfile
 import threading
 import urllib.parse
 from collections.abc import Callable
 
+import browsers
 import integrations
 
 sys.path.insert(0, str(integrations.HOUSE / "diff"))
@@ -23,7 +21,6 @@ import found_formulas  # noqa: E402
 
 KATEX = pathlib.Path("/usr/share/javascript/katex")
 ASKED = {".js", ".css", ".woff", ".woff2", ".ttf", ".otf"}
-SIZE = "1000,4000"
 
 MATHJAX_LINES = 'mathjax_path = "engine/MathJax.js?config=TeX-AMS_CHTML"\n'
 EXTENSION_LINES = 'extensions = ["latex2mathml_proved.sphinx"]\nhtml_math_renderer = "latex2mathml"\n'
@@ -105,15 +102,8 @@ def draw(site, picture, browser="chromium"):
     ListingHandler.asked.clear()
     with http.server.ThreadingHTTPServer(("127.0.0.1", 0), functools.partial(ListingHandler, directory=site)) as server:
         threading.Thread(target=server.serve_forever, daemon=True).start()
-        words = {
-            "chromium": ["--headless", "--no-sandbox", f"--user-data-dir={picture}.profile", "--virtual-time-budget=20000"],
-            "firefox": ["--headless", "--no-remote", f"--profile={picture}.profile"],
-        }[browser]
-        pathlib.Path(f"{picture}.profile").mkdir()
-        subprocess.run([browser, *words, f"--screenshot={picture}", f"--window-size={SIZE}", f"http://127.0.0.1:{server.server_port}/index.html"],
-                       check=True, stdout=subprocess.DEVNULL, stderr=subprocess.DEVNULL, timeout=120)
+        browsers.take_picture(f"http://127.0.0.1:{server.server_port}/index.html", picture, browser)
         server.shutdown()
-    shutil.rmtree(f"{picture}.profile")
     return sum(path.stat().st_size for path in ListingHandler.asked)
 
 
@@ -146,7 +136,7 @@ def main():
             picture = pictures.resolve() / f"{way.name.lower().replace(' ', '-')}.png"
             asked = draw(made / "site", picture) - draw(plain / "site", pictures.resolve() / "plain.png")
             print(f"{way.name:34} {seconds:8.2f} {(made / 'site/index.html').stat().st_size:10,} {asked:10,}")
-            if options.pictures and shutil.which("firefox"):
+            if options.pictures and "firefox" in browsers.installed():
                 draw(made / "site", picture.with_suffix(".firefox.png"), "firefox")
         (pictures / "plain.png").unlink()
 

@@ -11,6 +11,8 @@ import time
 import xml.etree.ElementTree as xml
 from pathlib import Path
 
+import browsers
+
 HOUSE = Path(__file__).resolve().parent.parent
 sys.path.insert(0, str(HOUSE / "diff"))
 import found_formulas  # noqa: E402
@@ -80,6 +82,13 @@ def structure_of(markup):
         return None
 
 
+def take_pictures(page, name, folder):
+    """Draws a page to a picture in each browser that is installed."""
+    folder.mkdir(exist_ok=True)
+    for browser in browsers.installed():
+        browsers.take_picture(page.resolve().as_uri(), folder.resolve() / f"{name}.{browser}.png", browser)
+
+
 def size(files):
     return sum(file.stat().st_size for file in files)
 
@@ -89,6 +98,7 @@ def main():
     words.add_argument("folder", type=Path, help="a folder with the Python files whose documentation has formulas")
     words.add_argument("--formulas", type=int, default=60, metavar="N", help="formulas of the page")
     words.add_argument("--times", type=int, default=5, metavar="N", help="runs of each, of which the least counts")
+    words.add_argument("--pictures", type=Path, metavar="FOLDER", help="a folder for pictures of the pages in Chromium and Firefox")
     words.add_argument("--show", action="store_true", help="print each formula that is not drawn or drawn otherwise than by KaTeX")
     words = words.parse_args()
     formulas = chosen(found_formulas.formulas(words.folder), words.formulas)
@@ -106,6 +116,8 @@ def main():
             others = [latex for (latex, _), markup, katex in zip(formulas, found, wanted, strict=True)
                       if markup and katex and structure_of(markup) != structure_of(katex)]
             print(f"{entry.name:22} {spent:8.2f} {page.stat().st_size:9,} {size(entry.scripts):9,} {size(entry.sheets):13,} {len(absent):10} {len(others):13}")
+            if words.pictures:
+                take_pictures(page, entry.name.replace(" ", "-"), words.pictures)
             for latex in (*absent, *others) if words.show else ():
                 print(f"    {latex}")
 

@@ -83,6 +83,8 @@ def main():
     formulas = found_formulas.formulas(words.folder)
     ours = answers_of_program(words.command, formulas)
     print(f"the program draws {share(sum(it is not None for it in ours), len(formulas))}")
+    for formula in [it for (it, _), markup in zip(formulas, ours) if markup is None][:words.show]:
+        print(f"\n{formula}")
     compare(formulas, ours, answers_of_katex(words.katex, formulas), "KaTeX", words.show)
     compare(formulas, ours, answers_of_pandoc(formulas), "pandoc", words.show)
 

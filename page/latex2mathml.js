@@ -1,5 +1,5 @@
-// Puts right in a page what browsers that draw MathML Core leave undone of latex2mathml's markup. It runs once the page
-// is read, and changes nothing where it ran before. For formulas that come later, call latex2mathml.mend(element).
+// For pages with the markup of latex_to_mathml: that of tex_to_mathml needs no script. It puts right what browsers that draw
+// MathML Core leave undone, once the page is read. For formulas that come later, call latex2mathml.mend(element).
 // A page may load it several times, as where each of its parts links it.
 var latex2mathml = latex2mathml ?? (() => {
     'use strict';

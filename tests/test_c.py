@@ -28,7 +28,7 @@ CALLS = {"latex2mathml_formula", "latex2mathml_document", "latex2mathml_tex"}
 
 # Lines of `readelf`, and of a shared library whose name is another, that binds late, or leaves writable what was bound or the stack
 # executable.
-LINKED = [r"\(SONAME\) +Library soname: \[liblatex2mathml\.so\]$", r"\(FLAGS\) +.*\bBIND_NOW\b", r"\(FLAGS_1\) +Flags:.* NOW\b",
+LINKED = [r"\(SONAME\) +Library soname: \[liblatex2mathml\.so\.0\]$", r"\(FLAGS\) +.*\bBIND_NOW\b", r"\(FLAGS_1\) +Flags:.* NOW\b",
           r"^ +GNU_RELRO +0x", r"^ +GNU_STACK +0x.* RW +0x"]
 LINKED_BADLY = [r"\(TEXTREL\)", r"\((?:RPATH|RUNPATH)\)", r"^ +LOAD .* RWE "]
 

@@ -71,6 +71,9 @@ class TablesOfTheCode(unittest.TestCase):
         self.assertEqual(table.commands_drawn(table.behind("Delimiters")), table.arms("delimiter_command"))
         self.assertEqual(table.characters_drawn(table.behind("Delimiters")), table.arms("delimiter_character"))
 
+    def test_words(self):
+        self.assertEqual(table.commands_drawn(table.behind("Words")), table.arms("text_character", "text_commands.rt"))
+
     def test_strokes(self):
         self.assertEqual(table.commands_drawn(table.behind("Strokes")), table.arms("negated_command"))
         self.assertEqual(table.characters_drawn(table.behind("Strokes")), table.arms("negated_character"))

@@ -18,9 +18,15 @@ WHEEL_MAKER = """#!/bin/sh
 mkdir -p "$2" && echo made >"$2/made.whl"
 """
 
+# Stands for make-deb.
+DEB_MAKER = """#!/bin/sh
+echo made >"$2/made.deb"
+"""
+
 # Stands for a Python that has pip: its wheel holds the names of the files that it was to be made from.
 PYTHON = """#!/bin/sh
 [ "$1" = -c ] && exit
+[ "$1" = setup.py ] && mkdir "$5" && touch "$5/made.tar.gz" && exit
 while [ "$1" != --wheel-dir ]; do shift; done
 mkdir "$2" && cd "$3" && find * -type f >"$2/made.whl"
 """
@@ -33,12 +39,6 @@ def math(display):
 INLINE, BLOCK = math("inline"), math("block")
 
 SQUARE = (b'<math xmlns="http://www.w3.org/1998/Math/MathML" display="inline"><msubsup><mi>x</mi><mi>i</mi><mn>2</mn></msubsup></math>')
-
-
-def commands(readme):
-    """The commands of a README: the lines of its blocks of code that are no file, with those that a backslash continues."""
-    blocks = re.findall(r"(?:^    .*\n)+", readme, re.MULTILINE)
-    return [" ".join(line.split()) for block in blocks for line in block.replace("\\\n", " ").splitlines()]
 
 
 @requires("cc", "objdump", "ldd")
@@ -54,7 +54,7 @@ class Dist(Case):
         """What make-dist needs of a checkout, in a folder whose path has a space, with a copy of the tools."""
         house = self.enterContext(scratch()) / "a house"
         house.mkdir()
-        for name in ("crates", "latex2mathml", "CHANGELOG.md", "LICENSE", "page"):
+        for name in ("crates", "latex2mathml", "CHANGELOG.md", "LICENSE", "page", "packaging"):
             (house / name).symlink_to(ROOT / name)
         # as old as it is, since a program that is older is built anew
         shutil.copy2(ROOT / "crates.txt", house)
@@ -85,10 +85,12 @@ class Dist(Case):
         house = self.house()
         (house / "tools/make-c-library").write_text(LIBRARY_MAKER)
         (house / "tools/make-wheel").write_text(WHEEL_MAKER)
+        (house / "tools/make-deb").write_text(DEB_MAKER)
         for turn in ("first", "second"):
             with self.subTest(turn):
-                self.expect(run([house / "tools/make-dist"]), stdout=None)
-                for file in ("README.md", "c/liblatex2mathml.so", "integrations/python/made.whl"):
+                # no addon can be made of that library, and make-addon says so
+                self.expect(run([house / "tools/make-dist"]), stdout=None, stderr=None)
+                for file in ("README.md", "c/liblatex2mathml.so", "integrations/python/made.whl", "made.deb", "SHA256SUMS"):
                     self.assertTrue((house / "dist" / file).exists(), file)
                 self.assertFalse((house / "dist/old").exists())
                 (house / "dist/old").touch()
@@ -170,81 +172,15 @@ class Dist(Case):
         self.expect(run(["sh", "-c", install], cwd=self.dist, env={"PATH": path}, timeout=300), stdout=None, stderr=None)
         self.expect(run(["sh", "-c", call], cwd=self.dist, env={"PATH": path}), stdout=f"{INLINE}\n".encode())
 
-    @requires_python("sphinx", "markdown", "mkdocs")
-    def test_the_readme_for_python(self):
-        """Its commands, from the folder of the wheel on, install it and build the examples, with the tools that the system has."""
-        folder = self.enterContext(scratch()) / "python"
-        shutil.copytree(self.dist / "integrations/python", folder)
-        text = (folder / "README.md").read_text(encoding="utf-8")
-        commands = re.findall(r"^    ((?:python3|venv/bin/\w+) .*)$", text.partition("cd dist/integrations/python\n")[2], re.MULTILINE)
-        python = interpreter("ensurepip", "sphinx", "markdown", "mkdocs")
-        commands[0] = commands[0].replace("python3 -m venv", f"{python} -m venv --system-site-packages")
-        for command in commands:
-            if not re.fullmatch(r"venv/bin/pip install \w+", command):
-                self.expect(run(["sh", "-c", command], cwd=folder, env={"PATH": os.environ["PATH"]}, timeout=300), stdout=None, stderr=None)
-        for page, count in ("out-sphinx/index.html", 6), ("out-markdown/page.html", 7), ("out-mkdocs/index.html", 5):
-            with self.subTest(page):
-                self.assertEqual((folder / page).read_text(encoding="utf-8").count("<math "), count)
-
     @requires("python3")
     def test_the_library_from_python(self):
         self.expect(run(["python3", "c/examples/latex2mathml.py", "x<y"], cwd=self.dist), stdout=f"{INLINE}\n".encode())
-
-    def project(self):
-        """An empty folder beside one that is called `dist`."""
-        folder = self.enterContext(scratch())
-        (folder / "dist").symlink_to(self.dist)
-        (folder / "project").mkdir()
-        return folder / "project"
-
-    def readme(self, name):
-        return (self.dist / f"integrations/{name}/README.md").read_text(encoding="utf-8")
-
-    @requires("pandoc")
-    def test_the_readme_of_the_filter_for_pandoc(self):
-        """Its commands, in the folder and in a project with the program on the path."""
-        first, second, third = [it for it in commands(self.readme("pandoc")) if it.startswith("pandoc ")]
-        copy = self.enterContext(scratch()) / "dist"
-        shutil.copytree(self.dist, copy)
-        self.expect(run(["sh", "-c", first], cwd=copy), stderr=None)
-        self.assertEqual((copy / "example.html").read_text().count("</math>"), 8)
-        (copy / "integrations/pandoc/a.md").write_text("$\\R$ and $x_i^2$")
-        (copy / "integrations/pandoc/macros.tex").write_text("\\newcommand{\\R}{x_i^2}")
-        environment = {**os.environ, "PATH": f"{copy}:{os.environ['PATH']}"}
-        for command, count in ((second, 1), (third, 2)):
-            with self.subTest(command):
-                self.expect(run(["sh", "-c", command], cwd=copy / "integrations/pandoc", env=environment), stderr=None)
-                self.assertEqual((copy / "integrations/pandoc/a.html").read_bytes().count(SQUARE), count)
 
     @requires("node")
     def test_the_package_for_node(self):
         package = self.dist / "integrations/node"
         self.expect(run([package / "make-addon"]))
         self.expect(run(["node", "-p", f"require('{package}').formula('x<y')"]), stdout=f"{INLINE}\n".encode())
-
-    @requires("npm")
-    def test_the_readme_of_the_package_for_node(self):
-        """Its commands install the package, as a folder and as a file, without a network."""
-        said = commands(self.readme("node"))
-        folder, file = [it for it in said if it.startswith("npm install ")]
-        pack = re.search(r"`(npm pack [^`]*)`", self.readme("node"))[1]
-        for words in ([folder], [pack, file]):
-            with self.subTest(words):
-                project = self.project()
-                environment = {**os.environ, "npm_config_offline": "true", "npm_config_cache": str(project / "cache")}
-                for command in words:
-                    self.expect(run(["sh", "-c", command], cwd=project, env=environment, timeout=300), stdout=None, stderr=None)
-                done = run(["node", "-p", "require('latex2mathml-proved').tex('x_i^2')"], cwd=project)
-                self.expect(done, stdout=SQUARE + b"\n")
-
-    @requires("node")
-    def test_the_example_of_the_package_for_node(self):
-        if not os.path.exists("/usr/share/nodejs/markdown-it"):
-            self.skipTest("markdown-it not found")
-        package = self.dist / "integrations/node"
-        self.expect(run([package / "make-addon"]))
-        [command] = [it for it in commands(self.readme("node")) if it.startswith("NODE_PATH=")]
-        self.expect(run(["sh", "-c", command.replace(">example.html", "")], cwd=package), stdout=None, stderr=None)
 
     def test_links(self):
         """Each link of a document leads to a file that the folder has."""

@@ -123,10 +123,40 @@ class Definitions(Case):
             lines = [line for line in here.path.read_text().split("\n") if re.match(r"\s*(?:\w+ )*use\b", line)]
             self.assertEqual(len(specs.USE.findall(here.path.read_text())), len(lines), here.name)
 
+    def test_each_contract_has_the_clauses_that_are_named(self):
+        contracts = clauses_of_functions()
+        # what a function belongs to: a program, or a crate; and what `Display` prints
+        others = {"latex2mathml", "tex2mathml", "output", *(it.name for it in (ROOT / "crates").iterdir())}
+        tables = re.findall(r"^\| Promise \| Contract \|\n.*?\n\n", self.document.read_text(), re.M | re.S)
+        self.assertGreater(len(tables), 5)
+        for row in (row for table in tables for row in table.strip().split("\n")[2:]):
+            functions = []
+            for part in row.rstrip("| ").rpartition(" | ")[2].split("; "):
+                before, word, behind = re.match(r"(.*?)(?:,? ?\b(clauses?|fields?) (.*))?$", part).groups(default="")
+                functions = [it.rpartition("::")[2] for it in re.findall(r"`([\w:]+)`", before)] or functions
+                here = [it for it in functions if it in contracts]
+                with self.subTest(part):
+                    self.assertEqual([it for it in functions if it.islower() and it not in {*contracts, *others}], [], "there is no such function")
+                    if word.startswith("clause") and here:
+                        for clause in re.findall(r"`(\w+)`", behind):
+                            self.assertTrue(any(clause in contracts[it] for it in here), f"no clause {clause}")
+
     @requires("rt")
     def test_the_toolchain_is_the_one_that_is_named(self):
         version = run(["rt", "version"]).stdout.decode().strip()
         self.assertIn(f"`{version}` as `rt version` prints it", self.document.read_text())
+
+
+def clauses_of_functions():
+    """The names of the clauses that a function of this name ensures, of all crates together."""
+    found = {}
+    for source in sorted((ROOT / "crates").glob("*/src/**/*.rt")):
+        text = source.read_text()
+        for begun in re.finditer(r"^ *(?:pub(?:\(crate\))? )?(?:const |extern \"C\" )*fn (\w+)", text, re.M):
+            # up to its body, or to the next function where it has none
+            signature = re.split(r"\n *\{\n|\{\}\n|\bfn \w", text[begun.end():], maxsplit=1)[0]
+            found.setdefault(begun[1], set()).update(re.findall(r"\bensures (\w+) \{", signature))
+    return found
 
 
 class Modules(Case):

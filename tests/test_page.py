@@ -1,16 +1,14 @@
 """What a page contains, and what a browser draws, after the files of page/ have corrected it."""
-import contextlib
 import html
 import http.server
 import json
-import os
 import queue
 import re
 import shutil
-import subprocess
 import threading
 
 from tests import support
+from tests.browsers import chromium, firefox, open_browser
 from tests.command_table import on_the_page
 
 PAGES = support.ROOT / "tests/page"
@@ -22,15 +20,6 @@ WIDTHS = {"narrow.html": 320}
 LONGEST = 300
 
 TALL = r"\frac{\frac{a}{b}}{\frac{c}{d}}"
-
-FIREFOX_SETTINGS = """
-user_pref("app.update.enabled", false);
-user_pref("browser.aboutwelcome.enabled", false);
-user_pref("browser.shell.checkDefaultBrowser", false);
-user_pref("browser.startup.homepage_override.mstone", "ignore");
-user_pref("datareporting.policy.dataSubmissionEnabled", false);
-user_pref("toolkit.telemetry.reportingpolicy.firstRun", false);
-"""
 
 
 class Server(http.server.ThreadingHTTPServer):
@@ -53,34 +42,6 @@ class Answer(http.server.SimpleHTTPRequestHandler):
 
     def log_message(self, *_):
         pass
-
-
-def chromium(profile, address):
-    # A container may let no user make a sandbox, and may have little room in /dev/shm. The pages are our own.
-    flags = ["--no-sandbox", "--disable-dev-shm-usage", "--disable-gpu"]
-    return ["chromium", "--headless", *flags, f"--user-data-dir={profile}", address]
-
-
-def firefox(profile, address):
-    (profile / "user.js").write_text(FIREFOX_SETTINGS)
-    return ["firefox-esr", "--headless", "--no-remote", "--profile", os.fspath(profile), address]
-
-
-@contextlib.contextmanager
-def open_browser(words, home):
-    """A browser for the time of a `with`."""
-    environment = {**os.environ, "HOME": os.fspath(home)}
-    with open(home / "said", "wb") as said:
-        browser = subprocess.Popen(words, stdin=subprocess.DEVNULL, stdout=said, stderr=said, env=environment)
-    try:
-        yield
-    finally:
-        browser.terminate()
-        try:
-            browser.wait(timeout=20)
-        except subprocess.TimeoutExpired:
-            browser.kill()
-            browser.wait()
 
 
 def judge(words_of, site, pages):

@@ -62,7 +62,7 @@ def answer(*words):
         return latex2mathml_proved.tex(*words)
     except latex2mathml_proved.TexRefused as refused:
         copy = pickle.loads(pickle.dumps(refused))
-        return [str(copy), copy.reason, copy.place, copy.is_definition, isinstance(copy, latex2mathml_proved.Refused)]
+        return [str(copy), copy.reason, copy.place, copy.is_definition, copy.line, copy.column, isinstance(copy, latex2mathml_proved.Refused)]
 
 print(json.dumps([answer(*words) for words in json.load(sys.stdin)]))
 """
@@ -305,15 +305,16 @@ class Tex(unittest.TestCase):
             self.refusals(["x<y", False, "", True], ["\\p", True, "\\def\\p{x}", True], ["\\foo", False, "", True]),
             [ANNOTATED.format("inline", "<mrow><mi>x</mi><mo>&lt;</mo><mi>y</mi></mrow>", "x&lt;y"),
              ANNOTATED.format("block", "<mi>x</mi>", "\\p"),
-             ["unknown command \\foo at 0", "unknown command \\foo", 0, False, True]])
+             ["unknown command \\foo at 0", "unknown command \\foo", 0, False, 1, 1, True]])
 
     def test_refusals(self):
         """A place is that of a character, wherever characters of several bytes stand before it."""
         self.assertEqual(
-            self.refusals(["x + \\foo"], ["é𝟙\\foo"], ["x", False, "% é\nx"]),
-            [["unknown command \\foo at 4", "unknown command \\foo", 4, False, True],
-             ["unknown command \\foo at 2", "unknown command \\foo", 2, False, True],
-             ["not a definition at 4", "not a definition", 4, True, True]])
+            self.refusals(["x + \\foo"], ["é𝟙\\foo"], ["x", False, "% é\nx"], ["x\né\n 𝟙\\foo"]),
+            [["unknown command \\foo at 4", "unknown command \\foo", 4, False, 1, 5, True],
+             ["unknown command \\foo at 2", "unknown command \\foo", 2, False, 1, 3, True],
+             ["not a definition at 4", "not a definition", 4, True, 2, 1, True],
+             ["unknown command \\foo at 6", "unknown command \\foo", 6, False, 3, 3, True]])
 
     def test_brackets_behind_commands(self):
         """An optional argument is no part of what is drawn."""

@@ -1,17 +1,15 @@
 """The recipes for site builders, followed to the letter: the files and commands are those of recipes.md."""
-import json
 import os
 import re
-import shutil
-import unittest
 
-from tests.integration import UNCLOSED, answer_of
-from tests.support import ROOT, Case, program, requires, run, scratch
+from tests.environments import environment, requires_python
+from tests.sites import tex
+from tests.support import ROOT, Case, requires, run, run_folder, scratch
 
 RECIPES = (ROOT / "integrations/recipes.md").read_text()
 
 LINE = "x<y_a * b_c"
-BLOCK = "\\begin{align} a & \\leq b \\\\ c & = d \\end{align}"
+BLOCK = "\\begin{aligned} a & \\leq b \\\\ c & = d \\end{aligned}"
 
 
 def section(name):
@@ -24,20 +22,17 @@ def blocks(name, language):
     return re.findall(rf"^```{language}\n(.*?)^```$", section(name), re.DOTALL | re.MULTILINE)
 
 
-def files(name):
-    """The files of a section, by their paths."""
-    return dict(re.findall(r"^`([^`\n]+)`:\n\n```\w+\n(.*?)^```$", section(name), re.DOTALL | re.MULTILINE))
+@requires_python()
+class Builders(Case):
+    """Sites of one page, which has a formula of each kind, a price, and dollar signs in code."""
 
-
-class Recipe(Case):
     def setUp(self):
         self.folder = self.enterContext(scratch())
         self.site = self.folder / "site"
         self.site.mkdir()
-        commands = self.folder / "bin"
-        commands.mkdir()
-        (commands / "latex2mathml").symlink_to(program())
-        self.environment = {**os.environ, "PATH": f"{commands}:{os.environ['PATH']}"}
+        path = f"{environment().parent}:{os.environ['PATH']}"
+        self.environment = {**os.environ, "PATH": path, "XDG_CACHE_HOME": str(run_folder() / "caches")}
+        self.line, self.block = tex(LINE, [BLOCK, True])
 
     def put(self, texts):
         for name, text in texts.items():
@@ -45,131 +40,75 @@ class Recipe(Case):
             path.parent.mkdir(parents=True, exist_ok=True)
             path.write_text(text)
 
-    def do(self, *words, status=0, stderr=b"", **more):
-        done = run(words, cwd=self.site, env={**self.environment, **more}, timeout=300)
-        self.expect(done, status=status, stderr=stderr)
-        return done
+    def do(self, command, **more):
+        """Runs the commands of a section, which end with those of `latex2mathml-site`, and returns its last line."""
+        done = run(["sh", "-c", command], cwd=self.site, env={**self.environment, **more}, timeout=300)
+        self.expect(done, stdout=None, stderr=None)
+        return done.stdout.decode().strip().split("\n")[-1]
 
-    def convert(self, built="public", **more):
-        """Converts a built site by the first commands, and returns what the commands say on standard error."""
-        commands = blocks("Convert a built site", "sh")[0].replace("public", built)
-        return self.do("sh", "-c", commands, **more).stderr.decode()
-
-
-class BuiltSites(Recipe):
-    PAGE = "<p>For $5 <!--m-->x<y<!--m--> <code>$HOME</code></p>\n<!--mm-->\na & b\n<!--mm-->\n"
-    CONVERTED = "<p>For &#x24;5 {} <code>&#x24;HOME</code></p>\n{}\n"
-
-    def converted_page(self):
-        return self.CONVERTED.format(answer_of("x<y"), answer_of("\na & b\n", "block"))
-
-    def test_a_site(self):
-        self.put({"public/a.html": self.PAGE, "public/b/c.html": self.PAGE, "public/b/d.css": "$"})
-        self.convert()
-        for name, text in (("a.html", self.converted_page()), ("b/c.html", self.converted_page()), ("b/d.css", "$")):
-            self.assertEqual((self.site / "public" / name).read_text(), text)
-        self.assertEqual([path.name for path in self.site.iterdir()], ["public"])
-
-    def test_a_refused_formula(self):
-        self.put({"public/a.html": self.PAGE, "public/b.html": "<!--m-->{x<!--m-->", "public/c.html": self.PAGE})
-        said = self.convert(status=1, stderr=None)
-        self.assertEqual(said, f"LaTeX2MathML Error: public.new/b.html: {UNCLOSED}\n")
-        self.assertIn(said, section("Convert a built site"))
-        self.assertEqual((self.site / "public/a.html").read_text(), self.PAGE)
-        self.assertEqual((self.site / "public.new/c.html").read_text(), self.converted_page())
-        # and again, once the page is corrected, over what the first run left
-        self.put({"public/b.html": self.PAGE})
-        self.convert()
-        self.assertEqual((self.site / "public/b.html").read_text(), self.converted_page())
-
-    def test_several_processors(self):
-        self.assertIn("replace the third line by this", section("Convert a built site"))
-        first, beside = blocks("Convert a built site", "sh")
-        lines = first.splitlines(keepends=True)
-        lines[2] = beside
-        commands = "".join(lines)
-        pages = {f"public/{folder}/{name}.html": self.PAGE for folder in "abc" for name in "12"} | {"public/a b.html": self.PAGE}
-        self.put(pages)
-        self.do("sh", "-c", commands)
-        for name in pages:
-            self.assertEqual((self.site / name).read_text(), self.converted_page())
-        self.put({"public/b/3.html": "<!--m-->{x<!--m-->", "public/c/3.html": self.PAGE})
-        self.do("sh", "-c", commands, status=123, stderr=f"LaTeX2MathML Error: public.new/b/3.html: {UNCLOSED}\n".encode())
-        self.assertEqual((self.site / "public/c/3.html").read_text(), self.PAGE)
-        self.assertEqual((self.site / "public.new/c/3.html").read_text(), self.converted_page())
-
-
-class Builders(Recipe):
-    """Sites of one page, which has a formula of each kind, a price, and dollar signs in code."""
-
-    def template(self, name, content, title="A page"):
-        head = blocks(name, "html")[0]
-        return f"<!DOCTYPE html>\n<html><head>\n<title>{title}</title>\n{head}</head>\n<body>\n{content}\n</body></html>\n"
-
-    def check(self, page, links="/page"):
-        self.assertIn(f"Let {answer_of(LINE)} cost &#x24;5.", page)
-        self.assertIn(answer_of(BLOCK, "block"), page)
-        self.assertNotIn("$", page)
-        self.assertNotIn("PARSE ERROR", page)
-        self.assertRegex(page, r"<code[^>]*>&#x24;x&#x24;</code>")
-        self.assertIn("&#x24;HOME", page)
-        self.assertIn(f'<link rel="stylesheet" href="{links}/latex2mathml.css">', page)
-        self.assertIn(f'<script src="{links}/latex2mathml.js" defer></script>', page)
+    def check(self, page, said):
+        self.assertIn(f"Let {self.line} cost $5 and $6.", page)
+        self.assertIn(self.block, page)
+        self.assertNotIn("language-math", page)
+        self.assertRegex(page, r"<code[^>]*>\$x\$</code>")
+        self.assertIn("$HOME", page)
+        self.assertRegex(said, r"^latex2mathml-site: [1-9]\d* pages?, 1 changed, 2 formulas converted, 0 refused, ")
 
     @requires("hugo")
     def test_hugo(self):
-        base = self.template("Hugo", "{{ .Content }}", "{{ .Title }}")
-        self.put({**files("Hugo"), "layouts/_default/list.html": base, "config.toml": 'baseURL = "https://example.org/"\n',
-                  "content/_index.md": f"Let {{{{< m >}}}}{LINE}{{{{< /m >}}}} cost $5.\n\n```math\n{BLOCK}\n```\n\n`$x$`\n\n"
-                                       "```sh\n$ ls $HOME\n```\n"})
-        shutil.copytree(ROOT / "page", self.site / "static/page")
-        self.do("hugo", "--quiet", "--disableKinds", "taxonomy,term,RSS,sitemap", stderr=None)
-        self.convert()
-        self.check((self.site / "public/index.html").read_text())
-        self.assertTrue((self.site / "public/page/latex2mathml.css").exists())
+        [shortcode] = blocks("Hugo", "html")
+        [command] = blocks("Hugo", "sh")
+        text = f"Let {{{{< m >}}}}{LINE}{{{{< /m >}}}} cost $5 and $6.\n\n```math\n{BLOCK}\n```\n\n`$x$`\n\n```sh\n$ ls $HOME\n```\n"
+        template = "<!DOCTYPE html>\n<html><head>\n<title>{{ .Title }}</title>\n</head>\n<body>\n{{ .Content }}\n</body></html>\n"
+        self.put({"layouts/shortcodes/m.html": shortcode, "layouts/_default/single.html": template, "layouts/_default/list.html": "<p>",
+                  "config.toml": 'baseURL = "https://example.org/"\n', "content/posts/one.md": f"---\ntitle: One\n---\n{text}"})
+        said = self.do(command)
+        self.check((self.site / "public/posts/one/index.html").read_text(), said)
+        feed = (self.site / "public/posts/index.xml").read_text()
+        self.assertIn("\\(", feed)
+        self.assertIn("cost $5 and $6.", feed)
 
     @requires("jekyll")
     def test_jekyll(self):
-        self.put({**files("Jekyll"), "_layouts/default.html": self.template("Jekyll", "{{ content }}"), "_config.yml": "title: A site\n",
-                  "index.md": f"---\nlayout: default\n---\nLet $${LINE}$$ cost $5.\n\n$$\n{BLOCK}\n$$\n\n`$x$`\n\n"
-                              "```sh\n$ ls $HOME\n```\n"})
-        shutil.copytree(ROOT / "page", self.site / "page")
-        self.do("jekyll", "build", stderr=None)
-        self.convert("_site")
-        self.check((self.site / "_site/index.html").read_text())
-        self.assertTrue((self.site / "_site/page/latex2mathml.css").exists())
+        [command] = blocks("Jekyll", "sh")
+        text = f"Let $${LINE}$$ cost $5 and $6.\n\n$$\n{BLOCK}\n$$\n\n`$x$`\n\n```sh\n$ ls $HOME\n```\n"
+        self.put({"_layouts/default.html": "<html><body>{{ content }}</body></html>", "_config.yml": "title: A site\n",
+                  "index.md": f"---\nlayout: default\n---\n{text}"})
+        said = self.do(command)
+        page = (self.site / "_site/index.html").read_text()
+        self.check(re.sub(r"<code class=\"[^\"]*\">\$x\$", "<code>$x$", page), said)
 
     @requires("cargo")
     def test_rustdoc(self):
-        comment = "".join(blocks("rustdoc", "rust"))
-        self.put({**files("rustdoc"), "Cargo.toml": '[package]\nname = "mean"\nversion = "0.1.0"\nedition = "2018"\n',
-                  "src/lib.rs": f"{comment}//!\n//! `$x$` for $5, and <!--mm-->\\sum\\_a b\\_c<!--mm-->\n"})
-        self.do("cargo", "doc", "--quiet", "--offline", RUSTDOCFLAGS=f"--html-in-header {self.site}/head.html",
-                CARGO_TARGET_DIR=str(self.site / "target"), CARGO_HOME=str(self.folder / "cargo"))
-        self.convert("target/doc/mean")
+        [comment] = blocks("rustdoc", "rust")
+        [command] = blocks("rustdoc", "sh")
+        self.put({"Cargo.toml": '[package]\nname = "mean"\nversion = "0.1.0"\nedition = "2018"\n',
+                  "src/lib.rs": f"{comment}//!\n//! `$x$` for $5\n/// A macro\n#[macro_export]\nmacro_rules! m {{ ($a:expr, $b:expr) => {{}} }}\n"})
+        # cargo is to ask no network
+        self.do(command.replace("cargo doc", "cargo doc --quiet --offline"), CARGO_TARGET_DIR=str(self.site / "target"),
+                CARGO_HOME=str(self.folder / "cargo"))
         page = (self.site / "target/doc/mean/index.html").read_text()
-        mean = answer_of("\\frac{x + y}{2} \\leq x_{\\max}")
-        self.assertIn(f"The mean is {mean}.", page)
-        self.assertIn(answer_of("\\sum_a b_c", "block"), page)
-        self.assertIn("<code>&#x24;x&#x24;</code> for &#x24;5", page)
-        self.assertIn('<link rel="stylesheet" href="/page/latex2mathml.css">', page)
+        self.assertIn("The mean is {}.".format(*tex("\\frac{x + y}{2} \\leq x_{\\max}")), page)
+        self.assertIn("<code>$x$</code> for $5", page)
+        self.assertIn("$a", (self.site / "target/doc/mean/macro.m.html").read_text())
 
-    def test_mdbook_s_preprocessor(self):
-        self.put(files("mdBook"))
-        script = self.site / "latex2mathml-preprocessor"
-        chapter = {"content": "Let $x*y*z$ be \\$5.\n\n$$\na_b\n$$\n\n`$x$` and ${x_$\n\n```\n$x$\n```\n", "sub_items": []}
-        book = {"sections": [{"Chapter": {**chapter, "sub_items": [{"Chapter": dict(chapter)}]}}, "Separator"]}
-        done = run(["python3", script], stdin=json.dumps([{}, book]).encode(), env=self.environment)
-        self.expect(done, stdout=None, stderr=f"LaTeX2MathML Error: {UNCLOSED}\n".encode() * 2)
-        reason = UNCLOSED.replace('"', "&quot;")
-        content = (f"Let {answer_of('x*y*z').replace('*', '&#42;')} be \\$5.\n\n{answer_of('a_b', 'block')}\n\n`$x$` and "
-                   f'<code class="latex2mathml-refused" title="{reason}">{{x&#95;</code>\n\n```\n$x$\n```\n')
-        book = json.loads(done.stdout)
-        self.assertEqual(book["sections"][0]["Chapter"]["content"], content)
-        self.assertEqual(book["sections"][0]["Chapter"]["sub_items"][0]["Chapter"]["content"], content)
-        self.expect(run(["python3", script, "supports", "html"]))
-        self.expect(run(["python3", script, "supports", "markdown"]), status=1)
+    def test_each_command_is_the_one_that_there_is(self):
+        """Its options are those that it has, in all sections."""
+        usage = run([environment().parent / "latex2mathml-site", "--help"]).stdout.decode()
+        for option in re.findall(r"latex2mathml-site((?: --?[a-z]+)*)", RECIPES):
+            for word in re.findall(r"--[a-z]+", option):
+                self.assertIn(f"{word}", usage)
 
 
-if __name__ == "__main__":
-    unittest.main()
+@requires_python()
+class Checks(Case):
+    def test_before_a_commit(self):
+        """The hook's command fails where a formula is refused, and changes nothing."""
+        [entry] = re.findall(r"^ *entry: (.*)$", section("Before each commit"), re.MULTILINE)
+        folder = self.enterContext(scratch())
+        (folder / "public").mkdir()
+        path = {**os.environ, "PATH": f"{environment().parent}:{os.environ['PATH']}"}
+        for text, status in (("$x$", 0), ("$\\foo$", 1)):
+            (folder / "public/a.html").write_text(text)
+            self.expect(run(["sh", "-c", entry], cwd=folder, env=path), status, None, None)
+            self.assertEqual((folder / "public/a.html").read_text(), text)

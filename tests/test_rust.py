@@ -102,7 +102,7 @@ class Crate(Case):
     def test_its_own_tests(self):
         done = self.cargo("test", "--no-fail-fast")
         self.assertEqual(done.returncode, 0, (done.stdout + done.stderr).decode())
-        self.assertEqual(done.stdout.count(b"test result: ok."), 6)  # of the modules, four files, and the comments
+        self.assertEqual(done.stdout.count(b"test result: ok."), 7)  # of the modules, five files, and the comments
 
     def test_a_caller_of_the_crate(self):
         start = '<math xmlns="http://www.w3.org/1998/Math/MathML" display='

@@ -26,6 +26,7 @@ OTHERWISE = {
     "\\begin{array}{l|r}\\hline a&b\\\\ \\hline\\end{array}": "KaTeX draws the lines",
     "\\cfrac[l]{1}{2}": "KaTeX takes the bracket as a numerator",
     "\\cfrac [ r ] 12": "KaTeX takes the bracket as a numerator",
+    "\\genfrac { \\lfloor } \\rfloor { 0 em } {1} a b": "KaTeX's MathML has the names of these delimiters in their place",
     "\\boxed{x}": "KaTeX has an element for a line around it, which MathML Core has not",
     "\\fbox{if }": "KaTeX has an element for a line around it, which MathML Core has not",
     "\\cancel{x}": "KaTeX has an element for lines through it, which MathML Core has not",
@@ -40,6 +41,8 @@ OTHERWISE = {
 # and those that it refuses
 REFUSED = {
     "\\sqrt\\sqrt x": "a root without braces is no argument of a root",
+    "\\begin{math}x^2\\end{math}": "KaTeX has no such environment",
+    "\\begin{displaymath}x\\end{displaymath}": "KaTeX has no such environment",
     "\\mbox{x}": "KaTeX has no such command",
     "{\\mit x}": "KaTeX has no such command",
     "\\slashed{D}": "KaTeX has no such command",

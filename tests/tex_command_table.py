@@ -19,7 +19,9 @@ FUNCTION = re.compile(r"`\\([A-Za-z]+)`(?: `([^`]+)`)?")
 IN_A_BLOCK = re.compile(r"(\S) U\+([0-9A-F]{4,6})(?=\s)")
 
 # what stands behind these lines are no commands of their own, but what others take
-TAKEN = {"Strokes": "these are one sign with a stroke:", "Delimiters": "These are delimiters:"}
+TAKEN = {
+    "Words": "In words, these are one character:", "Strokes": "these are one sign with a stroke:", "Delimiters": "These are delimiters:",
+}
 
 # the sections without commands of the command table
 OTHERS = ("Characters", "Words that define", "Usual macros")
@@ -191,9 +193,9 @@ def characters_in_the_code():
     return {value(character): value(drawn) for character, drawn in entries("SignEntry", form, text)}
 
 
-def arms(function):
-    """What a function of delimiters.rt answers: its patterns, and the character of each."""
-    body = re.search(rf"^fn {function}\(.*?^}}$", source("delimiters.rt"), re.M | re.S)[0]
+def arms(function, file="delimiters.rt"):
+    """What a function of this file answers: its patterns, and the character of each."""
+    body = re.search(rf"^(?:pub\(crate\) )?fn {function}\(.*?^}}$", source(file), re.M | re.S)[0]
     answers = {}
     for patterns, answer in re.findall(rf"^        ((?:(?:{TEXT}|{CHARACTER})(?: \| )?)+) => Some\((c|{CHARACTER})\),$", body, re.M):
         for pattern in re.findall(rf"{TEXT}|{CHARACTER}", patterns):

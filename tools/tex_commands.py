@@ -67,6 +67,11 @@ ALONE = {
     "InColor": ("Colors", "an operand in a color", "@{red}{x}"),
     "Highlight": ("Colors", "an operand on a color", "@{yellow}{x}"),
     "ContinuedFraction": ("Fractions and roots", "a fraction, in the style of a block; `[l]` and `[r]` are nothing", "@{a}{b}"),
+    "GeneralFraction": (
+        "Fractions and roots",
+        "a fraction between delimiters, with a line unless its width is zero, in the style of a number from 0 to 3; empty braces are the usual",
+        "@{[}{]}{0pt}{}{a}{b}",
+    ),
     "Root": ("Fractions and roots", "a root, with its degree in brackets", "@[3]{a}"),
     "StackedRelation": ("Marks, braces and stacks", "a relation, with the first operand above the second", "@{a}{=}"),
     "OperatorName": ("Functions", "the name of a function; with `*` it has limits", "@{rank} A"),
@@ -212,8 +217,12 @@ def characters():
     return [(chr(c), symbol) for c, symbol in value(GRAMMAR, "Signs", "sign_entries")]
 
 
+def characters_by_name(file, word):
+    return {text_of(name): chr(c) for name, c in value(GRAMMAR, file, word)}
+
+
 def delimiters_of(word):
-    return {text_of(name): chr(c) for name, c in value(GRAMMAR, "Delimiters", word)}
+    return characters_by_name("Delimiters", word)
 
 
 def delimiters_by_character(word):
@@ -301,6 +310,14 @@ def cells(place, commands_there):
 
 
 # What is no command, or has tables of its own
+
+
+def word_lines():
+    yield ""
+    yield "In words, these are one character:"
+    yield ""
+    texts = characters_by_name("TextCommands", "text_commands")
+    yield from item("Commands", [f"{command(name)} {drawn(texts[name])}" for name in by_name(texts)])
 
 
 def stroke_lines():
@@ -425,4 +442,4 @@ def place_of_word(word):
 
 
 TABLES = {"Sizes": size_lines, "Spaces": space_lines}
-FURTHER = {"Strokes": stroke_lines, "Delimiters": delimiter_lines, "Tables": environment_lines}
+FURTHER = {"Words": word_lines, "Strokes": stroke_lines, "Delimiters": delimiter_lines, "Tables": environment_lines}

@@ -6,6 +6,10 @@ import type { Macros } from './options';
 export class Refused extends Error {
     /** The byte of the text where what is refused begins, if that is known. */
     place?: number;
+    /** The line of that byte, if it is known, counted from 1. */
+    line?: number;
+    /** Its column in characters, if it is known, counted from 1. */
+    column?: number;
 }
 
 /** Options of `tex`. */

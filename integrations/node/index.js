@@ -1,11 +1,17 @@
 'use strict';
 // LaTeX formulas to MathML.
-const addon = require('./build/Release/latex2mathml.node');
+const fs = require('fs');
+const path = require('path');
+
+// The addon that was built here, or else the one that came with the package.
+const built = path.join(__dirname, 'build/Release/latex2mathml.node');
+const addon = require(fs.existsSync(built) ? built : './prebuilt/latex2mathml.node');
 const { macroDefinitions } = require('./macros.js');
 
 /**
  * A formula, a document or a definition is refused. The message is the reason. It may quote the formula, so escape it in HTML.
- * `place` is the byte of the text where what is refused begins, if that is known.
+ * `place` is the byte of the text where what is refused begins, if that is known. `line` and `column` are the same place, in
+ * characters, and count from 1.
  */
 class Refused extends Error {
     get name() {
@@ -13,18 +19,20 @@ class Refused extends Error {
     }
 }
 
-function refusalOf(error) {
-    const refusal = new Refused(error.message);
-    if (error.place !== undefined) refusal.place = error.place;
-    return refusal;
-}
+const CODE = /^LATEX2MATHML_(DEFINITION_)?REFUSED$/;
 
 function call(convert, ...words) {
     try {
         return convert(...words);
     } catch (error) {
-        throw /^LATEX2MATHML_(DEFINITION_)?REFUSED$/.test(error.code) ? refusalOf(error) : error;
+        throw CODE.test(error.code) ? new Refused(error.message) : error;
     }
+}
+
+/** The place of a byte of a text, with its line and column. */
+function positionOf(text, place) {
+    const lines = Buffer.from(text).toString('utf8', 0, place).split('\n');
+    return { place, line: lines.length, column: Array.from(lines.at(-1)).length + 1 };
 }
 
 /**
@@ -32,7 +40,13 @@ function call(convert, ...words) {
  * option `annotation` it also has the formula itself, as an annotation.
  */
 function tex(formula, block = false, definitions = '', { annotation = false } = {}) {
-    return call(addon.tex, formula, block, definitions, annotation);
+    try {
+        return addon.tex(formula, block, definitions, annotation);
+    } catch (error) {
+        const [isRefused, isDefinition] = CODE.exec(error.code) ?? [];
+        if (!isRefused) throw error;
+        throw Object.assign(new Refused(error.message), positionOf(isDefinition ? definitions : formula, error.place));
+    }
 }
 
 /** Returns a text of definitions for `tex`, by the option `macros` of the plugins. */

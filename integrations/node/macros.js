@@ -32,7 +32,7 @@ function definitionOf(name, value) {
 /** The error with the name of the macro in place of where its definition, which nobody wrote, is refused. */
 function refusalOf(name, error) {
     error.message = `the macro ${name} is refused: ${error.message.replace(/ at \d+$/, '')}`;
-    delete error.place;
+    for (const name of ['place', 'line', 'column']) delete error[name];
     return error;
 }
 

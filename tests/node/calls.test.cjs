@@ -52,12 +52,19 @@ for (const latex of ['', 'x_i^2', '\\frac12', 'é𝑥', '\\text{if } x', 'x'.rep
 }
 
 // the place is that of the byte, and é has two
-for (const [call, message, place] of [
-    [() => tex('é + \\foo'), 'unknown command \\foo at 5', 5],
-    [() => tex('x', false, '\\def\\a{y} x'), 'not a definition at 10', 10],
+for (const [call, message, place, line, column] of [
+    [() => tex('é + \\foo'), 'unknown command \\foo at 5', 5, 1, 5],
+    [() => tex('x', false, '\\def\\a{y} x'), 'not a definition at 10', 10, 1, 11],
+    [() => tex('\\foo'), 'unknown command \\foo at 0', 0, 1, 1],
+    [() => tex('x\né\n 𝟙\\foo'), 'unknown command \\foo at 10', 10, 3, 3],
+    [() => tex('\n', false, '% é\n\nx'), 'not a definition at 6', 6, 3, 1],
 ]) {
-    test(`a place: ${call}`, () => assert.throws(call, { constructor: Refused, message, place }));
+    test(`a place: ${call}`, () => assert.throws(call, { constructor: Refused, message, place, line, column }));
 }
+
+test('a refusal of the crate has no place', () => {
+    assert.throws(() => formula('{x'), error => !('place' in error || 'line' in error || 'column' in error));
+});
 
 for (const latex of ['x<y', 'x', '\\def\\a{x} \\a % é &']) {
     test(`an annotation: ${latex}`, () => {

@@ -25,6 +25,8 @@ document('$x$').charAt(0);
 new Refused('a reason').message.charAt(0);
 new Refused('a reason').stack;
 new Refused('a reason').place;
+new Refused('a reason').line;
+new Refused('a reason').column;
 latex2mathml(md);
 latex2mathml(md, {});
 render();

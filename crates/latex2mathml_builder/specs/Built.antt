@@ -100,3 +100,19 @@ settled_in b = settled_on b.texts [] b.settled
 -- the open elements, the uppermost first
 abbrev pub elements_in : Built → List Element
 elements_in b = reverse (map (element_of b.texts (settled_in b)) b.stack)
+
+-- so many of them, the lowest first
+abbrev pub uppermost : ℕ → Built → List Element
+uppermost count b = reverse (take count (elements_in b))
+
+-- the element of a part of this builder
+abbrev pub element_in : Built → Part → Element
+element_in b p = element_of b.texts (settled_in b) p
+
+-- one more open element is put on the others
+abbrev pub Puts : Element → Built → Built → Type 0
+Puts x old new = elements_in new ≡ x ∷ elements_in old
+
+-- one element, made of so many of the uppermost ones, the lowest of them first, stands in place of them
+abbrev pub Replaces : ℕ → (List Element → Element) → Built → Built → Type 0
+Replaces count make old new = elements_in new ≡ make (uppermost count old) ∷ drop count (elements_in old)

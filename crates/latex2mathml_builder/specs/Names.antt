@@ -1,5 +1,5 @@
 -- The names and attributes of the code, as the definitions have them.
-use Rattle.std.specs.Prelude.{None, option_map, pos}
+use Rattle.std.specs.Prelude.{ℕ, List, None, option_map, pos}
 use Rattle.latex2mathml_elements.specs.Attributes as attributes
 use Rattle.latex2mathml_elements.specs.Element as element
 use Rattle.latex2mathml_builder.specs.declared.attributes.Attributes.{Attributes}
@@ -75,6 +75,10 @@ token_of token.Mi = element.Mi
 token_of token.Mn = element.Mn
 token_of token.Mo = element.Mo
 token_of token.Mtext = element.Mtext
+
+-- an element that holds a text
+abbrev pub element_with_text : Token → Attributes → List ℕ → element.Element
+element_with_text t a text = element.token (token_of t) (attributes_of a) text
 
 abbrev pub container_of : Container → element.Container
 container_of container.Mrow = element.Mrow

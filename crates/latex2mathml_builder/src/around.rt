@@ -79,7 +79,8 @@ impl Around {
     /// Appends the start tag.
     pub(crate) fn append_start(self, out: &mut String) -> Result<(), AllocError>
         ensures { OnOk result (string_bytes out.new
-            ≡ string_bytes out.old ++ start_tag (container_name (around_name self)) (around_attributes self)) }
+            ≡ string_bytes out.old
+            ++ start_tag (container_name (around_name self)) (around_attributes self)) }
     {
         match self {
             Around::Unseen => {

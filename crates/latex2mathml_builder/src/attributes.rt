@@ -142,7 +142,8 @@ impl Attributes {
 
     /// Appends the attributes, each after a space.
     pub(crate) fn append(self, out: &mut String) -> Result<(), AllocError>
-        ensures { OnOk result (string_bytes out.new ≡ string_bytes out.old ++ attributes_text (attributes_of self)) }
+        ensures { OnOk result (string_bytes out.new
+            ≡ string_bytes out.old ++ attributes_text (attributes_of self)) }
     {
         append_some(text_if(self.upright, " mathvariant=\"normal\""), out)?;
         append_some(form_text(self.form), out)?;

@@ -1,12 +1,12 @@
 //! The stack of open elements.
-ghost use Rattle.std.specs.Prelude.{◌≡◌, ◌⊎◌, ◌+◌, ◌-◌, ◌<◌, ◌≤◌, ◌∷◌, ◌++◌, [], false, true, IfOk, MatchOption, None, OnErr, OnOk, Some, drop, length, option_map, reverse, take};
+ghost use Rattle.std.specs.Prelude.{◌≡◌, ◌⊎◌, ◌+◌, ◌-◌, ◌<◌, ◌≤◌, ◌∷◌, ◌++◌, [], false, true, IfOk, MatchOption, None, OnErr, OnOk, Some, drop, length, option_map, take};
 ghost use Rattle.std.specs.Char.{encode_utf8};
 ghost use Rattle.latex2mathml_elements.specs.{Attributes.plain, Attributes.styled, Element.Mrow};
-ghost use Rattle.latex2mathml_elements.specs.Element.{children, container, rectangle, space, token};
+ghost use Rattle.latex2mathml_elements.specs.Element.{children, container, rectangle, space};
 ghost use Rattle.latex2mathml_builder.specs.Arounds.{around_first, extent_of};
-ghost use Rattle.latex2mathml_builder.specs.Built.{Fits, HasText, between, element_of, elements_in, is_token_part, nothing, settled_in};
+ghost use Rattle.latex2mathml_builder.specs.Built.{Fits, HasText, Puts, Replaces, between, element_in, element_of, elements_in, is_token_part, nothing, settled_in};
 ghost use Rattle.latex2mathml_builder.specs.Columns.{columns_of};
-ghost use Rattle.latex2mathml_builder.specs.Names.{attributes_of, container_of, math_style_of, pair_of, token_of, triple_of};
+ghost use Rattle.latex2mathml_builder.specs.Names.{attributes_of, container_of, element_with_text, math_style_of, pair_of, token_of, triple_of};
 ghost use Rattle.latex2mathml_builder.specs.Stacks.{are_tokens, given, is_token, joined, lengthened, ordered, pair_with, table_with, token_at, triple_with};
 
 use crate::around::Around;
@@ -38,7 +38,11 @@ impl Model for Builder {
 
     ghost Value = { Built };
 
-    ghost view = { λ b. record { texts = string_bytes b.texts; settled = b.settled.items; stack = b.stack.items } };
+    ghost view = { λ b. record {
+      texts = string_bytes b.texts;
+      settled = b.settled.items;
+      stack = b.stack.items;
+    } };
 
     ghost invariant = { λ b. IsSound (string_bytes b.texts) b.settled.items b.stack.items };
 }
@@ -73,7 +77,8 @@ impl Builder {
 
     /// Puts an element that holds a text, which is empty at first.
     pub fn token(&mut self, tag: Token, attributes: Attributes) -> Result<(), AllocError>
-        ensures elements { OnOk result (elements_in self.new ≡ token (token_of tag) (attributes_of attributes) [] ∷ elements_in self.old) }
+        ensures elements { OnOk result
+            (Puts (element_with_text tag attributes []) self.old self.new) }
         ensures err { OnErr result (self.new ≡ self.old) }
     {
         let end = self.texts.len();
@@ -83,8 +88,10 @@ impl Builder {
 
     /// Puts an element that holds this text.
     pub fn text(&mut self, tag: Token, attributes: Attributes, text: &str) -> Result<(), AllocError>
-        ensures elements { OnOk result (elements_in self.new ≡ token (token_of tag) (attributes_of attributes) text.now ∷ elements_in self.old) }
-        ensures err { OnErr result ((self.new ≡ self.old) ⊎ (elements_in self.new ≡ token (token_of tag) (attributes_of attributes) [] ∷ elements_in self.old)) }
+        ensures elements { OnOk result
+            (Puts (element_with_text tag attributes text.now) self.old self.new) }
+        ensures err { OnErr result ((self.new ≡ self.old)
+            ⊎ Puts (element_with_text tag attributes []) self.old self.new) }
     {
         self.token(tag, attributes)?;
         self.push_str(text)?;
@@ -98,8 +105,10 @@ impl Builder {
         attributes: Attributes,
         c: char,
     ) -> Result<(), AllocError>
-        ensures elements { OnOk result (elements_in self.new ≡ token (token_of tag) (attributes_of attributes) (encode_utf8 c) ∷ elements_in self.old) }
-        ensures err { OnErr result ((self.new ≡ self.old) ⊎ (elements_in self.new ≡ token (token_of tag) (attributes_of attributes) [] ∷ elements_in self.old)) }
+        ensures elements { OnOk result
+            (Puts (element_with_text tag attributes (encode_utf8 c)) self.old self.new) }
+        ensures err { OnErr result ((self.new ≡ self.old)
+            ⊎ Puts (element_with_text tag attributes []) self.old self.new) }
     {
         self.token(tag, attributes)?;
         self.push(c)?;
@@ -108,7 +117,8 @@ impl Builder {
 
     /// Appends to the text of the uppermost element, if it holds one. Returns whether it does.
     pub fn push_str(&mut self, text: &str) -> Result<bool, AllocError>
-        ensures elements { OnOk result (elements_in self.new ≡ lengthened text.now (elements_in self.old)) }
+        ensures elements { OnOk result (elements_in self.new
+            ≡ lengthened text.now (elements_in self.old)) }
         ensures is_token { IfOk result (λ b. b ≡ is_token (elements_in self.old)) }
         ensures err { OnErr result (self.new ≡ self.old) }
     {
@@ -123,7 +133,8 @@ impl Builder {
 
     /// The same for one character.
     pub fn push(&mut self, c: char) -> Result<bool, AllocError>
-        ensures elements { OnOk result (elements_in self.new ≡ lengthened (encode_utf8 c) (elements_in self.old)) }
+        ensures elements { OnOk result (elements_in self.new
+            ≡ lengthened (encode_utf8 c) (elements_in self.old)) }
         ensures is_token { IfOk result (λ b. b ≡ is_token (elements_in self.old)) }
         ensures err { OnErr result (self.new ≡ self.old) }
     {
@@ -138,7 +149,7 @@ impl Builder {
 
     /// Puts a space, in eighteenths of an em.
     pub fn space(&mut self, width: i32) -> Result<(), AllocError>
-        ensures elements { OnOk result (elements_in self.new ≡ space width ∷ elements_in self.old) }
+        ensures elements { OnOk result (Puts (space width) self.old self.new) }
         ensures err { OnErr result (self.new ≡ self.old) }
     {
         self.stack.push(Part::Space(width))?;
@@ -147,7 +158,7 @@ impl Builder {
 
     /// Puts a rectangle.
     pub fn rectangle(&mut self, extent: Extent) -> Result<(), AllocError>
-        ensures elements { OnOk result (elements_in self.new ≡ rectangle (extent_of extent) ∷ elements_in self.old) }
+        ensures elements { OnOk result (Puts (rectangle (extent_of extent)) self.old self.new) }
         ensures err { OnErr result (self.new ≡ self.old) }
     {
         self.stack.push(Part::Rectangle(extent))?;
@@ -157,7 +168,8 @@ impl Builder {
     /// Puts an element around the uppermost one.
     pub fn surround(&mut self, around: Around) -> Result<(), AllocError>
         requires { 1 ≤ length (elements_in self.old) }
-        ensures elements { OnOk result (elements_in self.new ≡ around_first around (elements_in self.old) ∷ drop 1 (elements_in self.old)) }
+        ensures elements { OnOk result (elements_in self.new
+            ≡ around_first around (elements_in self.old) ∷ drop 1 (elements_in self.old)) }
         ensures err { OnErr result (self.new ≡ self.old) }
     {
         let first = self.settled.as_slice().len();
@@ -167,7 +179,8 @@ impl Builder {
     /// Puts a space, in eighteenths of an em, below the uppermost element.
     pub fn space_below(&mut self, width: i32) -> Result<(), AllocError>
         requires { 0 < length (elements_in self.old) }
-        ensures elements { OnOk result (elements_in self.new ≡ take 1 (elements_in self.old) ++ (space width ∷ drop 1 (elements_in self.old))) }
+        ensures elements { OnOk result (elements_in self.new
+            ≡ take 1 (elements_in self.old) ++ (space width ∷ drop 1 (elements_in self.old))) }
         ensures err { OnErr result (self.new ≡ self.old) }
     {
         let last = self.stack.as_slice().len() - 1;
@@ -199,8 +212,9 @@ impl Builder {
 
     /// The name and the attributes of the element below so many others, if it holds a text.
     pub fn token_at(&self, depth: usize) -> Option<(Token, Attributes)>
-        ensures { MatchOption result (token_at depth (elements_in self.now) ≡ None)
-            (λ found. token_at depth (elements_in self.now) ≡ Some (token_of found.0, attributes_of found.1)) }
+        ensures { let found = token_at depth (elements_in self.now)
+            in MatchOption result (found ≡ None)
+            (λ token. found ≡ Some (token_of token.0, attributes_of token.1)) }
     {
         let len = self.stack.as_slice().len();
         if depth >= len {
@@ -214,7 +228,8 @@ impl Builder {
 
     /// Gives the element below so many others these attributes, if it holds a text.
     pub fn give(&mut self, depth: usize, attributes: Attributes)
-        ensures elements { elements_in self.new ≡ given depth (attributes_of attributes) (elements_in self.old) }
+        ensures elements { elements_in self.new
+            ≡ given depth (attributes_of attributes) (elements_in self.old) }
     {
         let len = self.stack.as_slice().len();
         if depth >= len {
@@ -235,8 +250,9 @@ impl Builder {
         count: usize,
     ) -> Result<(), AllocError>
         requires { count ≤ length (elements_in self.old) }
-        ensures elements { OnOk result (elements_in self.new
-            ≡ container (container_of tag) (attributes_of attributes) (children (reverse (take count (elements_in self.old)))) ∷ drop count (elements_in self.old)) }
+        ensures elements { OnOk result (Replaces count
+            (λ xs. container (container_of tag) (attributes_of attributes) (children xs))
+            self.old self.new) }
         ensures err { OnErr result (self.new ≡ self.old) }
     {
         if count == 0 {
@@ -255,8 +271,9 @@ impl Builder {
         is_exchanged: bool,
     ) -> Result<(), AllocError>
         requires { 2 ≤ length (elements_in self.old) }
-        ensures elements { OnOk result (elements_in self.new
-            ≡ pair_with (pair_of tag) (attributes_of attributes) (ordered is_exchanged (reverse (take 2 (elements_in self.old)))) ∷ drop 2 (elements_in self.old)) }
+        ensures elements { OnOk result (Replaces 2
+            (λ xs. pair_with (pair_of tag) (attributes_of attributes) (ordered is_exchanged xs))
+            self.old self.new) }
         ensures err { OnErr result (self.new ≡ self.old) }
     {
         let first = self.settled.as_slice().len();
@@ -266,8 +283,8 @@ impl Builder {
     /// Makes a row of the three uppermost elements, in which the second of them stands first.
     pub fn fence(&mut self) -> Result<(), AllocError>
         requires { 3 ≤ length (elements_in self.old) }
-        ensures elements { OnOk result (elements_in self.new
-            ≡ container Mrow plain (children (ordered true (reverse (take 3 (elements_in self.old))))) ∷ drop 3 (elements_in self.old)) }
+        ensures elements { OnOk result (Replaces 3
+            (λ xs. container Mrow plain (children (ordered true xs))) self.old self.new) }
         ensures err { OnErr result (self.new ≡ self.old) }
     {
         let first = self.settled.as_slice().len();
@@ -286,8 +303,9 @@ impl Builder {
         is_exchanged: bool,
     ) -> Result<(), AllocError>
         requires { 3 ≤ length (elements_in self.old) }
-        ensures elements { OnOk result (elements_in self.new
-            ≡ triple_with (triple_of tag) (attributes_of attributes) is_exchanged (reverse (take 3 (elements_in self.old))) ∷ drop 3 (elements_in self.old)) }
+        ensures elements { OnOk result (Replaces 3
+            (triple_with (triple_of tag) (attributes_of attributes) is_exchanged)
+            self.old self.new) }
         ensures err { OnErr result (self.new ≡ self.old) }
     {
         let first = self.settled.as_slice().len();
@@ -304,10 +322,9 @@ impl Builder {
     ) -> Result<(), AllocError>
         requires some { 0 < count }
         requires all { count ≤ length (elements_in self.old) }
-        ensures elements { OnOk result (elements_in self.new
-            ≡ table_with (styled (option_map math_style_of style)) (columns_of columns)
-            (reverse (take count (elements_in self.old)))
-            ∷ drop count (elements_in self.old)) }
+        ensures elements { OnOk result (Replaces count
+            (table_with (styled (option_map math_style_of style)) (columns_of columns))
+            self.old self.new) }
         ensures err { OnErr result (self.new ≡ self.old) }
     {
         let first = self.settled.as_slice().len();
@@ -321,8 +338,8 @@ impl Builder {
         requires all { count ≤ length (elements_in self.old) }
         requires fits { Fits self.old.texts (length self.old.settled + count) whole }
         requires no_token { is_token_part whole ≡ false }
-        ensures elements { OnOk result (elements_in self.new
-            ≡ element_of self.old.texts (settled_in self.old ++ ordered is_exchanged (reverse (take count (elements_in self.old)))) whole ∷ drop count (elements_in self.old)) }
+        ensures elements { OnOk result (Replaces count (λ xs. element_of self.old.texts
+            (settled_in self.old ++ ordered is_exchanged xs) whole) self.old self.new) }
         ensures err { OnErr result (self.new ≡ self.old) }
     {
         let start = self.stack.as_slice().len() - count;
@@ -343,7 +360,8 @@ impl Builder {
     pub(crate) fn settled_at(&self, place: usize) -> Part
         requires { place < length self.now.settled }
         ensures fits { Fits self.now.texts (length self.now.settled) result }
-        ensures element { drop place (settled_in self.now) ≡ element_of self.now.texts (settled_in self.now) result ∷ drop (place + 1) (settled_in self.now) }
+        ensures element { drop place (settled_in self.now)
+            ≡ element_in self.now result ∷ drop (place + 1) (settled_in self.now) }
     {
         self.settled[place]
     }
@@ -353,7 +371,8 @@ impl Builder {
         requires { place < length self.now.stack }
         ensures fits { Fits self.now.texts (length self.now.settled) result }
         ensures element { drop (length self.now.stack - (place + 1)) (elements_in self.now)
-            ≡ element_of self.now.texts (settled_in self.now) result ∷ drop (length self.now.stack - place) (elements_in self.now) }
+            ≡ element_in self.now result
+            ∷ drop (length self.now.stack - place) (elements_in self.now) }
     {
         self.stack[place]
     }
@@ -369,7 +388,8 @@ impl Builder {
 
 /// Appends parts, the first two of them exchanged if they are to be.
 fn settle(settled: &mut Vec<Part>, parts: &[Part], is_exchanged: bool) -> Result<(), AllocError>
-    ensures items { OnOk result (settled.new.items ≡ settled.old.items ++ ordered is_exchanged parts.now) }
+    ensures items { OnOk result (settled.new.items
+        ≡ settled.old.items ++ ordered is_exchanged parts.now) }
     ensures err { OnErr result (settled.new.items ≡ settled.old.items) }
 {
     let first = settled.as_slice().len();

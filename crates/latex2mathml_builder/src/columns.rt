@@ -102,7 +102,8 @@ impl Columns {
     /// Puts a column behind those that are listed, of which there can be 16. Returns whether there is room, and changes nothing
     /// where there is none. There is none behind columns that are not listed.
     pub fn push(&mut self, column: Column) -> bool
-        ensures columns { columns_of self.new ≡ listed_behind (column_of column) (columns_of self.old) }
+        ensures columns { columns_of self.new
+            ≡ listed_behind (column_of column) (columns_of self.old) }
         ensures room { result ≡ has_room (columns_of self.old) }
     {
         if !matches!(self.kind, Kind::Listed) || self.len >= 16 {

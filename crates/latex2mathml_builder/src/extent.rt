@@ -32,7 +32,8 @@ impl Extent {
 
     /// Appends the attributes.
     pub(crate) fn append(self, out: &mut String) -> Result<(), AllocError>
-        ensures { OnOk result (string_bytes out.new ≡ string_bytes out.old ++ extent_text (extent_of self)) }
+        ensures { OnOk result (string_bytes out.new
+            ≡ string_bytes out.old ++ extent_text (extent_of self)) }
     {
         append_length(" width=\"", self.width, out)?;
         append_if_any(" height=\"", self.height, out)?;
@@ -50,7 +51,8 @@ pub(crate) fn append_if_any(
     length: i32,
     out: &mut String,
 ) -> Result<(), AllocError>
-    ensures { (name : List ℕ) → beginning.now ≡ codes " " ++ (name ++ codes "=\"") → OnOk result (string_bytes out.new ≡ string_bytes out.old ++ length_if_any name length) }
+    ensures { (name : List ℕ) → beginning.now ≡ codes " " ++ (name ++ codes "=\"")
+        → OnOk result (string_bytes out.new ≡ string_bytes out.old ++ length_if_any name length) }
 {
     if length == 0 {
         return Ok(());
@@ -60,7 +62,8 @@ pub(crate) fn append_if_any(
 
 /// Appends a length and its quotation mark behind what stands before it.
 fn append_length(beginning: &'static str, length: i32, out: &mut String) -> Result<(), AllocError>
-    ensures { OnOk result (string_bytes out.new ≡ string_bytes out.old ++ (beginning.now ++ (ems length ++ codes "em\""))) }
+    ensures { OnOk result (string_bytes out.new
+        ≡ string_bytes out.old ++ (beginning.now ++ (ems length ++ codes "em\""))) }
 {
     out.push_str(beginning)?;
     append_ems(length, out)?;

@@ -28,7 +28,8 @@ impl Builder {
             (row_prints (columns_of columns) (settled_from self.now place 1))
             (string_bytes out.new) works.new.items) }
         ensures weight { OnOk result (load self.now works.new.items
-            < load self.now works.old.items + row_loads (columns_of columns) (settled_from self.now place 1)) }
+            < load self.now works.old.items
+            + row_loads (columns_of columns) (settled_from self.now place 1)) }
     {
         let (first, count) = self.cells_at(place);
         out.push_str("<mtr>")?;
@@ -77,7 +78,8 @@ impl Builder {
 /// Appends the start tag of a cell.
 #[tactic(auto, using(std::proofs::lemmas::Grind::common_steps))]
 fn start_cell(column: Column, out: &mut String) -> Result<(), AllocError>
-    ensures { OnOk result (string_bytes out.new ≡ string_bytes out.old ++ cell_tag (column_of column)) }
+    ensures { OnOk result (string_bytes out.new
+        ≡ string_bytes out.old ++ cell_tag (column_of column)) }
 {
     out.push_str("<mtd")?;
     out.push_str(column.text())?;

@@ -1,8 +1,8 @@
 //! From elements to markup.
-ghost use Rattle.std.specs.Prelude.{◌≡◌, ◌+◌, ◌<◌, ◌≤◌, ◌++◌, [], OnOk, codes, length, reverse, string_bytes, take};
+ghost use Rattle.std.specs.Prelude.{◌≡◌, ◌+◌, ◌<◌, ◌≤◌, ◌++◌, [], OnOk, codes, length, string_bytes};
 ghost use Rattle.latex2mathml_elements.specs.Element.{children};
 ghost use Rattle.latex2mathml_elements.specs.Print.{attributes_text, print, prints};
-ghost use Rattle.latex2mathml_builder.specs.Built.{Fits, element_of, elements_in, settled_in};
+ghost use Rattle.latex2mathml_builder.specs.Built.{Fits, element_in, elements_in, uppermost};
 ghost use Rattle.latex2mathml_builder.specs.Names.{attributes_of};
 ghost use Rattle.latex2mathml_builder.specs.Due.{AreIn, IsIn, Writes, arranged, due, load, settled_from, weight, weights, work_print, work_weight};
 
@@ -20,7 +20,8 @@ impl Builder {
     #[tactic(auto, using(std::proofs::lemmas::Grind::common_steps), unfolding(crate::specs::Due::AreIn))]
     pub fn write(&self, count: usize, works: &mut Works, out: &mut String) -> Result<(), AllocError>
         requires { count ≤ length (elements_in self.now) }
-        ensures markup { OnOk result (string_bytes out.new ≡ string_bytes out.old ++ prints (children (reverse (take count (elements_in self.now))))) }
+        ensures markup { OnOk result (string_bytes out.new
+            ≡ string_bytes out.old ++ prints (children (uppermost count self.now))) }
         ensures none { OnOk result (works.new ≡ []) }
     {
         let list = &mut works.list;
@@ -39,7 +40,8 @@ impl Builder {
     fn finish(&self, works: &mut Vec<Work>, out: &mut String) -> Result<(), AllocError>
         requires { AreIn self.now works.old.items }
         ensures none { OnOk result (works.new.items ≡ []) }
-        ensures print { OnOk result (string_bytes out.new ≡ string_bytes out.old ++ due self.now works.old.items) }
+        ensures print { OnOk result (string_bytes out.new
+            ≡ string_bytes out.old ++ due self.now works.old.items) }
     {
         'works: while let Some(work) = works.pop() {
             self.do_work(work, works, out)?;
@@ -52,9 +54,10 @@ impl Builder {
         requires one { IsIn self.now work }
         requires inside { AreIn self.now works.old.items }
         ensures inside { OnOk result (AreIn self.now works.new.items) }
-        ensures print { OnOk result (Writes self.now (string_bytes out.old) works.old.items (work_print self.now work)
-            (string_bytes out.new) works.new.items) }
-        ensures weight { OnOk result (load self.now works.new.items < load self.now works.old.items + work_weight self.now work) }
+        ensures print { OnOk result (Writes self.now (string_bytes out.old) works.old.items
+            (work_print self.now work) (string_bytes out.new) works.new.items) }
+        ensures weight { OnOk result (load self.now works.new.items
+            < load self.now works.old.items + work_weight self.now work) }
     {
         match work {
             Work::End(tag) => out.push_str(tag),
@@ -92,9 +95,9 @@ impl Builder {
         requires inside { AreIn self.now works.old.items }
         ensures inside { OnOk result (AreIn self.now works.new.items) }
         ensures print { OnOk result (Writes self.now (string_bytes out.old) works.old.items
-            (print (element_of self.now.texts (settled_in self.now) part)) (string_bytes out.new) works.new.items) }
+            (print (element_in self.now part)) (string_bytes out.new) works.new.items) }
         ensures weight { OnOk result (load self.now works.new.items
-            < load self.now works.old.items + weight (element_of self.now.texts (settled_in self.now) part)) }
+            < load self.now works.old.items + weight (element_in self.now part)) }
     {
         match part {
             Part::Token(tag, attributes, start, end) => {
@@ -147,9 +150,11 @@ impl Builder {
         requires inside { AreIn self.now works.old.items }
         ensures inside { OnOk result (AreIn self.now works.new.items) }
         ensures print { OnOk result (due self.now works.new.items
-            ≡ prints (children (arranged is_exchanged (settled_from self.now first 3))) ++ due self.now works.old.items) }
+            ≡ prints (children (arranged is_exchanged (settled_from self.now first 3)))
+            ++ due self.now works.old.items) }
         ensures weight { OnOk result (load self.now works.new.items
-            ≤ load self.now works.old.items + 3 + weights (children (settled_from self.now first 3))) }
+            ≤ load self.now works.old.items + 3
+            + weights (children (settled_from self.now first 3))) }
     {
         if is_exchanged {
             // No place is greater than this, so none overflows.
@@ -168,8 +173,10 @@ impl Builder {
         requires one { IsIn self.now work }
         requires inside { AreIn self.now works.old.items }
         ensures inside { OnOk result (AreIn self.now works.new.items) }
-        ensures print { OnOk result (due self.now works.new.items ≡ work_print self.now work ++ due self.now works.old.items) }
-        ensures weight { OnOk result (load self.now works.new.items ≡ load self.now works.old.items + work_weight self.now work) }
+        ensures print { OnOk result (due self.now works.new.items
+            ≡ work_print self.now work ++ due self.now works.old.items) }
+        ensures weight { OnOk result (load self.now works.new.items
+            ≡ load self.now works.old.items + work_weight self.now work) }
     {
         let _ = self;
         Ok(works.push(work)?)

@@ -67,7 +67,8 @@ fn markup<'a>(
 /// Returns the text of an error, which has this status, and its place. The only `Err` is out of memory.
 fn refusal(alloc: Global, status: Status, error: &TexError) -> Result<Told, AllocError>
     ensures { IfOk result (λ told. (told.status ≡ status) × ((refusal : Refusal)
-        × (refusal_of error.now ≡ Some refusal) × IsTold refusal told.place (string_bytes told.text))) }
+        × (refusal_of error.now ≡ Some refusal)
+        × IsTold refusal told.place (string_bytes told.text))) }
 {
     if matches!(error.kind, TexErrorKind::OutOfMemory) {
         return Err(AllocError);

@@ -4,14 +4,17 @@ pub mod Beginning
 pub mod Beginnings
 pub mod Bodies
 pub mod Boxing
+pub mod Bracing
 pub mod Closing
 pub mod Colored
+pub mod ColoredBoxes
 pub mod DefinedTables
 pub mod DefinitionTexts
 pub mod Digits
 pub mod Endings
 pub mod Found
 pub mod Grouping
+pub mod HandingOn
 pub mod Hexadecimal
 pub mod Leading
 pub mod Listings
@@ -23,6 +26,8 @@ pub mod Nexts
 pub mod NoAtom
 pub mod Opening
 pub mod Operands
+pub mod Outlined
+pub mod Outlining
 pub mod Parameters
 pub mod Parts
 pub mod Putting
@@ -49,6 +54,7 @@ pub mod Texts
 pub mod Turning
 pub mod Values
 pub mod Whole
+pub mod Widths
 pub mod WordRules
 pub mod WordStarts
 pub mod Wording

@@ -12,7 +12,7 @@ ascending-commands_from_m : ascending commands_from_m ≡ true
 unfolding commands_from_m ascending
 ascending-commands_from_m = refl
 
-length-commands_up_to_l : length commands_up_to_l ≡ 410
+length-commands_up_to_l : length commands_up_to_l ≡ 411
 unfolding commands_up_to_l
 length-commands_up_to_l = refl
 

@@ -7,7 +7,7 @@ use Rattle.latex2mathml_tex.specs.Levels.{CoreMade, Leads, Then}
 use Rattle.latex2mathml_tex.specs.Models.{context_of, operand_with, top}
 use Rattle.latex2mathml_tex.specs.Steps.{FirstRead, InnermostIs, elements_of, left_of, level, level_within}
 use Rattle.latex2mathml_tex.specs.Innermost.{frame_context}
-use Rattle.latex2mathml_tex.specs.declared.{atoms.Context.Context, atoms.Operand.Operand, meaning.FractionRule.FractionRule, meaning.Style.Style, parse.Parser.Parser}
+use Rattle.latex2mathml_tex.specs.declared.{atoms.Context.Context, atoms.Operand.Operand, meaning.FractionRule.FractionRule, meaning.Style.Style, outlines.Outline.Outline, parse.Parser.Parser}
 use Rattle.latex2mathml_tex.specs.declared.parse.frames.{First.First, Frame.Frame, Last.Last}
 use Rattle.latex2mathml_tex.specs.declared.parse.frames.First.TheVariants as first
 use Rattle.latex2mathml_tex.specs.declared.parse.frames.Frame.TheVariants as frame
@@ -25,6 +25,9 @@ module _ (s : Start) (p : Parser) (one : First) (place : ℕ) (c : Context) (ope
 
   pub denominator_due : (rule : FractionRule) (own : Option Style) → one ≡ first.Fraction rule own → WasRead → IsDue (last.Fraction rule own) c
   denominator_due rule own e g = operand_due _ (rw e at g.leads)
+
+  pub outlined_due : (outline : Outline) → one ≡ first.Outlined outline → WasRead → IsDue (last.Outlined outline) c
+  outlined_due outline e g = operand_due _ (rw e at g.leads)
 
   -- the context around both
   abbrev pub IsOuter : Context → Type 0

@@ -4,11 +4,11 @@ use Rattle.std.proofs.lemmas.Bool.Decides.{nat_tests}
 use Rattle.std.specs.Prelude.{IfOk, OnOk}
 use Rattle.std.specs.Str.{byte}
 use Rattle.std.specs.declared.alloc.AllocError.{AllocError}
-use Rattle.latex2mathml_tex_grammar.specs.{Commands.meaning_of, Makes.text, Meaning.Meaning, Reading.Read, Symbols.Alphabet}
+use Rattle.latex2mathml_tex_grammar.specs.{Commands.meaning_of, Delimiters.entry_of_name, Makes.text, Meaning.Meaning, Reading.Read, Symbols.Alphabet, TextCommands.text_commands}
 use Rattle.latex2mathml_tex_grammar.specs.Refusal.{CharacterInWords, CommandInWords, UnknownCommand, refusal_at}
 use Rattle.latex2mathml_tex_grammar.specs.Units as grammar
 use Rattle.latex2mathml_tex_grammar.specs.Units.{Character, Command, Open, Piece}
-use Rattle.latex2mathml_tex_grammar.specs.Words.{BeginsFormula, IsWord, NoWord, Shown, is_escape, meaning_rule, word_character, word_rule, word_space}
+use Rattle.latex2mathml_tex_grammar.specs.Words.{BeginsFormula, IsWord, NoWord, Shown, meaning_rule, word_character, word_rule, word_space}
 use Rattle.latex2mathml_tex.specs.{Errors.refusal_of, Frames.Start, Innermost.empty_row, Levels.Leads, Levels.PartMade, Meanings.alphabet_of, Models.words_with}
 use Rattle.latex2mathml_tex.specs.Meanings
 use Rattle.latex2mathml_tex.specs.Steps.{BeginsWordOf, HasElements, Holds, IsStep, elements_of, left_of, level, level_within}
@@ -32,10 +32,10 @@ pub record IsNoWord (m : CodeMeaning) : Type 0 where
   pub no_words : (b : Option CodeAlphabet) → m ≡ code_meaning.Words b → ⊥
 
 module _ (a : Option Alphabet) (name : List ℕ) where
-  pub escape_shown : (shown : List ℕ) → is_escape name ≡ true → name ≡ shown → word_rule a (Command name) ≡ IsWord (Shown shown)
-  escape_shown shown is e = rw is (ap (λ t. IsWord (Shown t)) e)
+  pub character_shown : (c : ℕ) → entry_of_name text_commands name ≡ Some c → word_rule a (Command name) ≡ IsWord (Shown (text c))
+  character_shown c e = rw e refl
 
-  module _ (other : is_escape name ≡ false) where
+  module _ (other : entry_of_name text_commands name ≡ None) where
     pub command_meant : (m : Option Meaning) → meaning_of name ≡ m → word_rule a (Command name) ≡ meaning_rule name m
     command_meant m e = rw (other, e) refl
 

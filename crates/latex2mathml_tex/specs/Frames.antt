@@ -4,7 +4,7 @@ use Rattle.std.specs.Prelude.{◌≡◌, ℕ, zero, suc, ◌+◌, Bool, true, Is
 use Rattle.latex2mathml_elements.specs.{Attributes.Above, Attributes.plain, Element.Element, Element.Mover, Element.Munderover, Element.pair, Element.triple}
 use Rattle.latex2mathml_builder.specs.Names.{side_of, stretch_of}
 use Rattle.latex2mathml_tex_grammar.specs.Makes as makes
-use Rattle.latex2mathml_tex_grammar.specs.Makes.{Core, core, group, classed, operator_name, accent, brace, stack, fraction, square_root, root, between_delimiters, struck, boxed_atom}
+use Rattle.latex2mathml_tex_grammar.specs.Makes.{Core, core, group, classed, operator_name, accent, brace, stack, fraction, outlined_fraction, square_root, root, between_delimiters, struck, boxed_atom}
 use Rattle.latex2mathml_tex_grammar.specs.Reading.{Outcome, Read, Refused, ReadsAtoms, ReadsRule}
 use Rattle.latex2mathml_tex_grammar.specs.{Formulas.alone, Formulas.formula_context, Atoms.Plain, Atoms.atom, Symbols.Style, Symbols.InScript, Symbols.InText, Symbols.Relation, Units.Units, Symbols.Ordinary}
 use Rattle.latex2mathml_tex_grammar.specs.Rows.{Operand, Row, as_base, empty_row, operand_of, row_element}
@@ -15,7 +15,7 @@ use Rattle.latex2mathml_tex.specs.{Levels.AtomMade, Levels.as_operand, Levels.as
 use Rattle.latex2mathml_tex.specs.Levels as level
 use Rattle.latex2mathml_tex.specs.Meanings.{alphabet_of, box_of, class_of, fraction_rule_of, limit_place_of, style_of}
 use Rattle.latex2mathml_tex.specs.Models.{context_of, core_with, row_count, row_with, script_count, scripts_with, top, words_with}
-use Rattle.latex2mathml_tex.specs.Tables.{TableMade, table_end}
+use Rattle.latex2mathml_tex.specs.{Outlines.outline_of, Tables.TableMade, Tables.table_end}
 use Rattle.latex2mathml_tex.specs.{Delimiters.delimiter_text, declared.atoms.Core.Core as CodeCore, declared.atoms.Scripts.Scripts}
 use Rattle.latex2mathml_tex.specs.declared.parse.Form.{Form}
 use Rattle.latex2mathml_tex.specs.declared.parse.Form.TheVariants as form
@@ -99,6 +99,7 @@ made_of last.Slash xs y = slashed y (struck y.element)
 made_of (last.Classed class style) xs y = classed (class_of class) (as_base (style_of style) (class_of class) y)
 made_of (last.Boxed b style) xs y = core (boxed_atom (box_of b) (as_base (style_of style) Ordinary y))
 made_of (last.Fraction rule own) xs y = fraction (fraction_rule_of rule) (option_map style_of own) (top xs) y.element
+made_of (last.Outlined o) xs y = outlined_fraction (outline_of o) (top xs) y.element
 made_of (last.Stack s style) xs y = stack (side_of s) y.class (top xs) (as_base (style_of style) y.class y).element
 made_of (last.StackedRelation style) xs y = stack Above Relation (top xs) (as_base (style_of style) Relation y).element
 made_of last.OverArrow xs y = core (atom (Plain Relation) true (pair Mover plain (top xs) y.element))
@@ -108,6 +109,7 @@ made_of last.OverAndUnderArrow xs y = labeled_arrow (top (drop 1 xs)) (top xs) y
 abbrev pub after_first : First → ℕ → Context → Context → Operand → Rule
 after_first (first.Fraction rule own) place c outer x =
     of_one place c (λ y. fraction (fraction_rule_of rule) (option_map style_of own) x.element y.element)
+after_first (first.Outlined o) place c outer x = of_one place c (λ y. outlined_fraction (outline_of o) x.element y.element)
 after_first (first.Stack s) place c outer x = of_one place outer (λ y. stack (side_of s) y.class x.element (as_base outer.style y.class y).element)
 after_first first.StackedRelation place c outer x = of_one place outer (λ y. stack Above Relation x.element (as_base outer.style Relation y).element)
 
@@ -169,6 +171,7 @@ ending_count e = 0
 abbrev pub last_count : Last → ℕ
 last_count last.Root = 1
 last_count (last.Fraction rule own) = 1
+last_count (last.Outlined o) = 1
 last_count (last.Stack s style) = 1
 last_count (last.StackedRelation style) = 1
 last_count last.OverArrow = 1

@@ -1,7 +1,7 @@
 -- The units that are left.
-use Rattle.std.specs.Prelude.{ℕ, suc, drop, map}
+use Rattle.std.specs.Prelude.{◌≡◌, ℕ, suc, List, Option, Some, None, drop, map}
 use Rattle.std.specs.Str.{chars}
-use Rattle.latex2mathml_tex_grammar.specs.{Cutting.units_of, Macros.before, Refusal.refusal_at, Units.Units}
+use Rattle.latex2mathml_tex_grammar.specs.{Cutting.units_of, Macros.before, Next.next_are, Refusal.refusal_at, Units.Units}
 use Rattle.latex2mathml_tex_grammar.specs.Units as units
 use Rattle.latex2mathml_tex.specs.Taking.{kind_of, unit_of}
 use Rattle.latex2mathml_tex.specs.{declared.input.Input.Input, declared.macros.whole.End.End, declared.reader.Reader.Reader, declared.unit.Next.Next}
@@ -30,6 +30,14 @@ units_behind i = before (map unit_of (drop i.passed i.units.now)) (end_of i.end)
 -- .. and with it
 abbrev pub units_at : Input → Units
 units_at i = put_back i.next (units_behind i)
+
+-- units that pass these tests stood next and were taken: this is their text
+abbrev pub TakesNext : List (units.Piece → Option (List ℕ)) → List ℕ → Input → Input → Type 0
+TakesNext tests text old new = next_are tests (units_at old) ≡ Some (text, units_at new)
+
+-- no such units stand next, and none is taken
+abbrev pub TakesNone : List (units.Piece → Option (List ℕ)) → Input → Input → Type 0
+TakesNone tests old new = (next_are tests (units_at old) ≡ None) × (units_at new ≡ units_at old)
 
 -- how many there are
 abbrev pub unit_count : Units → ℕ

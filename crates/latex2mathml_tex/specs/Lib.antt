@@ -8,6 +8,7 @@ pub mod ErrorTexts
 pub mod Errors
 pub mod Expanded
 pub mod Frames
+pub mod HandedOn
 pub mod Innermost
 pub mod Left
 pub mod Lengths
@@ -16,6 +17,7 @@ pub mod MacroTables
 pub mod Meanings
 pub mod Models
 pub mod Numbers
+pub mod Outlines
 pub mod Pending
 pub mod Positions
 pub mod Putting

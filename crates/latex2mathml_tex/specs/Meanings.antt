@@ -104,6 +104,7 @@ meaning_of code_meaning.SkipInBraces = meant.SkipInBraces
 meaning_of (code_meaning.Boxed x) = meant.Boxed (box_of x)
 meaning_of code_meaning.Smash = meant.Smash
 meaning_of code_meaning.ContinuedFraction = meant.ContinuedFraction
+meaning_of code_meaning.GeneralFraction = meant.GeneralFraction
 meaning_of code_meaning.Raise = meant.Raise
 meaning_of code_meaning.InColor = meant.InColor
 meaning_of code_meaning.Highlight = meant.Highlight

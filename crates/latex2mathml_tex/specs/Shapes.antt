@@ -1,10 +1,10 @@
 -- Changes of the uppermost elements.
-use Rattle.std.specs.Prelude.{◌≡◌, ℕ, zero, suc, List, [], ◌∷◌, Option, None, Some}
+use Rattle.std.specs.Prelude.{◌≡◌, ℕ, zero, suc, List, [], ◌∷◌, Option, None, Some, drop}
 use Rattle.std.specs.Str.{encode_utf8_all}
 use Rattle.latex2mathml_elements.specs.{Attributes.Attributes, Attributes.Stretch, Attributes.plain, Element.Element, Element.Mo, Element.token}
-use Rattle.latex2mathml_builder.specs.{Arounds.element_around, declared.around.Around.Around}
+use Rattle.latex2mathml_builder.specs.{Arounds.element_around, Built.Built, Built.elements_in, declared.around.Around.Around}
 use Rattle.latex2mathml_tex_grammar.specs.Makes
-use Rattle.latex2mathml_tex.specs.Models.{core_with}
+use Rattle.latex2mathml_tex.specs.Models.{core_with, top}
 use Rattle.latex2mathml_tex.specs.declared.atoms.Core.{Core as CodeCore}
 
 -- an operator with this text
@@ -26,6 +26,14 @@ changed_at f depth [] = []
 changed_at f zero (x ∷ xs) = f x ∷ xs
 changed_at f (suc depth) (x ∷ xs) = x ∷ changed_at f depth xs
 
+-- .. and all others stay
+abbrev pub ChangesAt : (Element → Element) → ℕ → Built → Built → Type 0
+ChangesAt f depth old new = elements_in new ≡ changed_at f depth (elements_in old)
+
+-- what this makes of the uppermost element stands in place of it
+abbrev pub ReplacesTop : (Element → Element) → Built → Built → Type 0
+ReplacesTop make old new = elements_in new ≡ make (top (elements_in old)) ∷ drop 1 (elements_in old)
+
 -- the first so many changed
 abbrev pub mapped_first : (Element → Element) → ℕ → List Element → List Element
 mapped_first f count [] = []
@@ -36,3 +44,7 @@ mapped_first f (suc count) (x ∷ xs) = f x ∷ mapped_first f count xs
 pub record IsPut (put : CodeCore) (k : Makes.Core) (old new : List Element) : Type 0 where
   pub element : new ≡ k.atom.element ∷ old
   pub is : core_with put k.atom.element ≡ k
+
+-- .. on the elements of a builder
+abbrev pub PutsCore : Makes.Core → Built → Built → CodeCore → Type 0
+PutsCore k old new put = IsPut put k (elements_in old) (elements_in new)

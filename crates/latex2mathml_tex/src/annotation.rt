@@ -11,7 +11,8 @@ use std::alloc::AllocError;
 
 /// Appends the text of a formula as its alternative text.
 pub(crate) fn append_alternative(tex: &str, out: &mut String) -> Result<(), AllocError>
-    ensures { OnOk result (string_bytes out.new ≡ string_bytes out.old ++ alternative (source_text (chars tex.now))) }
+    ensures { OnOk result (string_bytes out.new
+        ≡ string_bytes out.old ++ alternative (source_text (chars tex.now))) }
 {
     for c in tex.chars() {
         append_alternative_char(source_character(c), out)?;
@@ -21,7 +22,8 @@ pub(crate) fn append_alternative(tex: &str, out: &mut String) -> Result<(), Allo
 
 /// Appends a character of an alternative text, in which quotation marks are escaped as well.
 fn append_alternative_char(c: char, out: &mut String) -> Result<(), AllocError>
-    ensures { OnOk result (string_bytes out.new ≡ string_bytes out.old ++ alternative (encode_utf8 c)) }
+    ensures { OnOk result (string_bytes out.new
+        ≡ string_bytes out.old ++ alternative (encode_utf8 c)) }
 {
     if c == '"' {
         return out.push_str("&quot;");
@@ -31,7 +33,8 @@ fn append_alternative_char(c: char, out: &mut String) -> Result<(), AllocError>
 
 /// Appends the text of a formula as an annotation.
 pub(crate) fn append_annotation(tex: &str, out: &mut String) -> Result<(), AllocError>
-    ensures { OnOk result (string_bytes out.new ≡ string_bytes out.old ++ annotation_print (source_text (chars tex.now))) }
+    ensures { OnOk result (string_bytes out.new
+        ≡ string_bytes out.old ++ annotation_print (source_text (chars tex.now))) }
 {
     out.push_str("<annotation encoding=\"application/x-tex\">")?;
     append_source(tex, out)?;
@@ -41,7 +44,8 @@ pub(crate) fn append_annotation(tex: &str, out: &mut String) -> Result<(), Alloc
 
 /// Appends the text of a formula as contents.
 fn append_source(tex: &str, out: &mut String) -> Result<(), AllocError>
-    ensures { OnOk result (string_bytes out.new ≡ string_bytes out.old ++ content (source_text (chars tex.now))) }
+    ensures { OnOk result (string_bytes out.new
+        ≡ string_bytes out.old ++ content (source_text (chars tex.now))) }
 {
     for c in tex.chars() {
         append_content_char(source_character(c), out)?;

@@ -317,7 +317,14 @@ pub(crate) struct Scripts {
 impl Scripts {
     /// No scripts after an atom of this kind.
     pub(crate) fn none(kind: Kind, limits: LimitPlace) -> Scripts
-        ensures { result ≡ record { primes = 0; below = false; above = false; is_exchanged = false; limits = limits; takes_limits = Makes.takes_limits (kind_of kind) } }
+        ensures { result ≡ record {
+          primes = 0;
+          below = false;
+          above = false;
+          is_exchanged = false;
+          limits = limits;
+          takes_limits = Makes.takes_limits (kind_of kind);
+        } }
     {
         Scripts {
             primes: 0,

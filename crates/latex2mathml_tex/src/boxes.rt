@@ -1,9 +1,9 @@
 //! Boxes around the uppermost element, and black rectangles.
-ghost use Rattle.std.specs.Prelude.{◌≡◌, ◌≤◌, ◌∷◌, OnOk, drop, length};
+ghost use Rattle.std.specs.Prelude.{◌≡◌, ◌≤◌, OnOk, length};
 ghost use Rattle.latex2mathml_elements.specs.Element.{Element};
-ghost use Rattle.latex2mathml_builder.specs.{Arounds.element_around, Built.elements_in};
+ghost use Rattle.latex2mathml_builder.specs.{Arounds.element_around, Built.Puts, Built.elements_in};
 ghost use Rattle.latex2mathml_tex_grammar.specs.Makes;
-ghost use Rattle.latex2mathml_tex.specs.{Meanings.box_of, Models.top, Shapes.within_any};
+ghost use Rattle.latex2mathml_tex.specs.{Meanings.box_of, Shapes.ReplacesTop, Shapes.within_any};
 
 use crate::meaning::OperandBox;
 use latex2mathml_builder::around::{Around, Boxing};
@@ -14,8 +14,8 @@ use std::alloc::AllocError;
 /// The uppermost element in a box.
 pub(crate) fn put_in_box(builder: &mut Builder, operand_box: OperandBox) -> Result<(), AllocError>
     requires { 1 ≤ length (elements_in builder.old) }
-    ensures { OnOk result (elements_in builder.new
-        ≡ Makes.in_box (box_of operand_box) (top (elements_in builder.old)) ∷ drop 1 (elements_in builder.old)) }
+    ensures { OnOk result (ReplacesTop (Makes.in_box (box_of operand_box))
+        builder.old builder.new) }
 {
     let (inner, outer) = boxes(operand_box);
     if let Some(around) = inner {
@@ -62,8 +62,7 @@ pub(crate) fn put_bar(
     width: i32,
     height: i32,
 ) -> Result<(), AllocError>
-    ensures { OnOk result (elements_in builder.new
-        ≡ (Makes.bar raise width height).element ∷ elements_in builder.old) }
+    ensures { OnOk result (Puts (Makes.bar raise width height).element builder.old builder.new) }
 {
     builder.rectangle(Extent {
         width,

@@ -28,7 +28,8 @@ fn search(table: &[Entry], name: &str) -> Option<Meaning>
     requires ordered { IsTrue (ascending (map entry_of table.now)) }
     requires few { length table.now < 512 }
     ensures { MatchOption result (entry_meaning (map entry_of table.now) name.now ≡ None)
-        (λ meaning. entry_meaning (map entry_of table.now) name.now ≡ Some (Meanings.meaning_of meaning)) }
+        (λ meaning. entry_meaning (map entry_of table.now) name.now
+        ≡ Some (Meanings.meaning_of meaning)) }
 {
     let mut entries = table;
     while !entries.is_empty() {

@@ -1,10 +1,10 @@
 //! From the text of a formula to its markup.
-ghost use Rattle.std.specs.Prelude.{◌≡◌, ℕ, ◌++◌, ◌≤◌, [], IfOk, List, OnOk, length, reverse, string_bytes, take};
+ghost use Rattle.std.specs.Prelude.{◌≡◌, ℕ, ◌++◌, ◌≤◌, [], IfOk, List, OnOk, length, string_bytes};
 ghost use Rattle.std.specs.Str.{chars};
 ghost use Rattle.latex2mathml_elements.specs.{Characters.IsAllowed, Dollars.IsDollarFree, Element.children};
 ghost use Rattle.latex2mathml_elements.specs.Annotated.{IsAnnotatedMathElement, alternative_start, annotated_print};
 ghost use Rattle.latex2mathml_elements.specs.Print.{formula_print, math_tag};
-ghost use Rattle.latex2mathml_builder.specs.Built.{elements_in, nothing};
+ghost use Rattle.latex2mathml_builder.specs.Built.{elements_in, nothing, uppermost};
 ghost use Rattle.latex2mathml_trees.specs.MathSchema.{IsMathElement};
 ghost use Rattle.latex2mathml_tex.specs.{Answers.IsAnswer, Answers.IsAnswerWithSource, Answers.IsRefusal, Answers.style_in, Errors.IfRefused, Errors.is_outside_error, MacroTables.AreDefined, MacroTables.Holding};
 ghost use Rattle.latex2mathml_tex.specs.{Frames.ReadsAs, Left.units_at, Meanings.style_of, Models.top, ReadRows.AreUppermost, ReadRows.HasRead, Steps.left_of, Whole.whole_units};
@@ -61,7 +61,8 @@ pub fn tex_to_mathml<'a>(
     ensures refusal { Holding macros.now (λ table.
         IfRefused result (IsRefusal table tex.now (style_in display))) }
     ensures element { IfOk result (λ markup. IsMathElement (string_bytes markup)) }
-    ensures characters { AreDefined macros.now → IfOk result (λ markup. IsAllowed (string_bytes markup)) }
+    ensures characters { AreDefined macros.now
+        → IfOk result (λ markup. IsAllowed (string_bytes markup)) }
     ensures dollars { IfOk result (λ markup. IsDollarFree (string_bytes markup)) }
 {
     let mut markup = String::new(alloc);
@@ -97,7 +98,8 @@ pub fn tex_to_mathml_with_source<'a>(
     ensures refusal { Holding macros.now (λ table.
         IfRefused result (IsRefusal table tex.now (style_in display))) }
     ensures element { IfOk result (λ markup. IsAnnotatedMathElement (string_bytes markup)) }
-    ensures characters { AreDefined macros.now → IfOk result (λ markup. IsAllowed (string_bytes markup)) }
+    ensures characters { AreDefined macros.now
+        → IfOk result (λ markup. IsAllowed (string_bytes markup)) }
     ensures dollars { IfOk result (λ markup. IsDollarFree (string_bytes markup)) }
 {
     let mut markup = String::new(alloc);
@@ -194,7 +196,8 @@ impl<'a> Converter<'a> {
     /// rows.
     fn read_units(&mut self, whole: &Whole, style: Style) -> Result<usize, TexError>
         ensures reading { IfOk result (λ count.
-            HasRead (ReadsFormula (style_of style) (whole_units whole.now)) count (elements_in self.new.builder)) }
+            HasRead (ReadsFormula (style_of style) (whole_units whole.now)) count
+            (elements_in self.new.builder)) }
         ensures refusal { IfRefused result (λ r.
             ReadsFormula (style_of style) (whole_units whole.now) (Refused r)) }
     {
@@ -208,7 +211,8 @@ impl<'a> Converter<'a> {
     /// Reads a formula that expands to these units in this form.
     fn read_as(&mut self, form: Form, whole: &Whole, style: Style) -> Result<usize, TexError>
         ensures reading { IfOk result (λ count.
-            HasRead (ReadsAs form (style_of style) (whole_units whole.now)) count (elements_in self.new.builder)) }
+            HasRead (ReadsAs form (style_of style) (whole_units whole.now)) count
+            (elements_in self.new.builder)) }
         ensures refusal { IfRefused result (λ r.
             ReadsAs form (style_of style) (whole_units whole.now) (Refused r)) }
     {
@@ -251,7 +255,8 @@ fn is_outside_table(answer: &Result<usize, TexError>) -> bool
 fn read_formula(parser: &mut Parser, form: Form) -> Result<usize, TexError>
     requires { parser.old.frames.stack.items ≡ [] }
     ensures reading { IfOk result (λ count.
-        HasRead (ReadsAs form (style_of parser.old.style) (left_of parser.old)) count (elements_in parser.new.builder)) }
+        HasRead (ReadsAs form (style_of parser.old.style) (left_of parser.old)) count
+        (elements_in parser.new.builder)) }
     ensures refusal { IfRefused result (λ r.
         ReadsAs form (style_of parser.old.style) (left_of parser.old) (Refused r)) }
 {
@@ -271,7 +276,8 @@ fn write_math(
 ) -> Result<(), AllocError>
     requires { count ≤ length (elements_in builder.now) }
     ensures { OnOk result (string_bytes text.new ≡ string_bytes text.old
-        ++ formula_print (is_display (style_in display)) (children (reverse (take count (elements_in builder.now))))) }
+        ++ formula_print (is_display (style_in display))
+        (children (uppermost count builder.now))) }
 {
     text.push_str(opening_tag(display))?;
     builder.write(count, works, text)?;
@@ -289,7 +295,8 @@ fn write_annotated_math(
 ) -> Result<(), AllocError>
     requires { 1 ≤ length (elements_in builder.now) }
     ensures { OnOk result (string_bytes text.new ≡ string_bytes text.old
-        ++ annotated_print (is_display (style_in display)) (top (elements_in builder.now)) (source_text (chars tex.now))) }
+        ++ annotated_print (is_display (style_in display)) (top (elements_in builder.now))
+        (source_text (chars tex.now))) }
 {
     text.push_str(alternative_start(display))?;
     append_alternative(tex, text)?;

@@ -53,14 +53,16 @@ impl Layout {
 /// The environment of this name, if there is one.
 pub(crate) fn look_up(name: &str) -> Option<&'static Environment>
     ensures { MatchOption result (Environments.environment_of name.now ≡ None)
-        (λ e. (Environments.environment_of name.now ≡ Some (environment_of e.now)) × (e.now.name.now ≡ name.now)) }
+        (λ e. (Environments.environment_of name.now ≡ Some (environment_of e.now))
+        × (e.now.name.now ≡ name.now)) }
 {
     search(environments(), name)
 }
 
 fn search(table: &'static [Environment], name: &str) -> Option<&'static Environment>
-    ensures { MatchOption result (Environments.entry_environment (map entry_of table.now) name.now ≡ None)
-        (λ e. (Environments.entry_environment (map entry_of table.now) name.now ≡ Some (environment_of e.now)) × (e.now.name.now ≡ name.now)) }
+    ensures { let found = Environments.entry_environment (map entry_of table.now) name.now
+        in MatchOption result (found ≡ None)
+        (λ e. (found ≡ Some (environment_of e.now)) × (e.now.name.now ≡ name.now)) }
 {
     let mut entries = table;
     'entries: while !entries.is_empty() {
@@ -82,7 +84,7 @@ fn environments() -> &'static [Environment]
 }
 
 #[rattlefmt::skip]
-static ENVIRONMENTS: [Environment; 32] = [
+static ENVIRONMENTS: [Environment; 34] = [
     Environment { name: "Bmatrix", delimiters: Some((Some('{'), Some('}'))), layout: Layout::Centered, style: Style::InText, may_have_position: false, argument: None },
     Environment { name: "Vmatrix", delimiters: Some((Some('‖'), Some('‖'))), layout: Layout::Centered, style: Style::InText, may_have_position: false, argument: None },
     Environment { name: "align", delimiters: None, layout: Layout::InPairs, style: Style::InDisplay, may_have_position: false, argument: None },
@@ -95,6 +97,7 @@ static ENVIRONMENTS: [Environment; 32] = [
     Environment { name: "bmatrix", delimiters: Some((Some('['), Some(']'))), layout: Layout::Centered, style: Style::InText, may_have_position: false, argument: None },
     Environment { name: "cases", delimiters: Some((Some('{'), None)), layout: Layout::LeftAligned, style: Style::InText, may_have_position: false, argument: None },
     Environment { name: "dcases", delimiters: Some((Some('{'), None)), layout: Layout::LeftAligned, style: Style::InDisplay, may_have_position: false, argument: None },
+    Environment { name: "displaymath", delimiters: None, layout: Layout::Centered, style: Style::InDisplay, may_have_position: false, argument: None },
     Environment { name: "drcases", delimiters: Some((None, Some('}'))), layout: Layout::LeftAligned, style: Style::InDisplay, may_have_position: false, argument: None },
     Environment { name: "eqnarray", delimiters: None, layout: Layout::AroundRelation, style: Style::InDisplay, may_have_position: false, argument: None },
     Environment { name: "eqnarray*", delimiters: None, layout: Layout::AroundRelation, style: Style::InDisplay, may_have_position: false, argument: None },
@@ -105,6 +108,7 @@ static ENVIRONMENTS: [Environment; 32] = [
     Environment { name: "gather", delimiters: None, layout: Layout::Centered, style: Style::InDisplay, may_have_position: false, argument: None },
     Environment { name: "gather*", delimiters: None, layout: Layout::Centered, style: Style::InDisplay, may_have_position: false, argument: None },
     Environment { name: "gathered", delimiters: None, layout: Layout::Centered, style: Style::InDisplay, may_have_position: true, argument: None },
+    Environment { name: "math", delimiters: None, layout: Layout::Centered, style: Style::InText, may_have_position: false, argument: None },
     Environment { name: "matrix", delimiters: None, layout: Layout::Centered, style: Style::InText, may_have_position: false, argument: None },
     Environment { name: "multline", delimiters: None, layout: Layout::LeftAligned, style: Style::InDisplay, may_have_position: false, argument: None },
     Environment { name: "multline*", delimiters: None, layout: Layout::LeftAligned, style: Style::InDisplay, may_have_position: false, argument: None },

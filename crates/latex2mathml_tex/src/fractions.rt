@@ -24,6 +24,16 @@ pub(crate) fn put_fraction(
         ∷ drop 2 (elements_in builder.old)) }
 {
     put_quotient(builder, rule)?;
+    put_in_style(builder, own)
+}
+
+/// Puts the uppermost element in a style of its own, if there is one.
+pub(crate) fn put_in_style(builder: &mut Builder, own: Option<Style>) -> Result<(), AllocError>
+    requires { 1 ≤ length (elements_in builder.old) }
+    ensures { OnOk result (elements_in builder.new
+        ≡ Makes.in_style (option_map style_of own) (top (elements_in builder.old))
+        ∷ drop 1 (elements_in builder.old)) }
+{
     if let Some(style) = own {
         builder.container(Container::Mstyle, style_attributes(style), 1)?;
     }
@@ -69,7 +79,7 @@ fn put_between(builder: &mut Builder, opening: char, closing: char) -> Result<()
 }
 
 /// A fraction without its bar, of the two uppermost elements.
-fn put_without_bar(builder: &mut Builder) -> Result<(), AllocError>
+pub(crate) fn put_without_bar(builder: &mut Builder) -> Result<(), AllocError>
     requires { 2 ≤ length (elements_in builder.old) }
     ensures { OnOk result (elements_in builder.new
         ≡ Makes.without_bar (top (drop 1 (elements_in builder.old)))

@@ -1,9 +1,9 @@
 //! The units that are left, of which the next one is in sight.
 ghost use Rattle.std.specs.Prelude.{◌≡◌, ◌∷◌, [], false, IsTrue, MatchBool, MatchOption, None, Some};
 ghost use Rattle.latex2mathml_tex_grammar.specs.Delimiters.{delimiter_of, negated_of};
-ghost use Rattle.latex2mathml_tex_grammar.specs.{Dots.centers_dots, Next.follows, Next.next_are, Next.past_space};
+ghost use Rattle.latex2mathml_tex_grammar.specs.{Dots.centers_dots, Next.follows, Next.past_space};
 ghost use Rattle.latex2mathml_tex_grammar.specs.Rules.{a_character, a_digit, in_brackets};
-ghost use Rattle.latex2mathml_tex.specs.{Left.end_of, Left.put_back, Left.units_at, Left.units_behind, Whole.whole_units};
+ghost use Rattle.latex2mathml_tex.specs.{Left.TakesNext, Left.TakesNone, Left.end_of, Left.put_back, Left.units_at, Left.units_behind, Whole.whole_units};
 ghost use Rattle.latex2mathml_tex_grammar.specs.Units as units;
 ghost use Rattle.latex2mathml_tex.specs.Delimiters.{delimiter_text};
 
@@ -100,8 +100,8 @@ impl<'a> Input<'a> {
     /// Takes the delimiter that stands next, if one does. Otherwise nothing is passed over.
     pub(crate) fn take_delimiter(&mut self) -> Option<Option<char>>
         ensures { MatchOption result
-            ((next_are (delimiter_of ∷ []) (units_at self.old) ≡ None) × (units_at self.new ≡ units_at self.old))
-            (λ d. next_are (delimiter_of ∷ []) (units_at self.old) ≡ Some (delimiter_text d, units_at self.new)) }
+            (TakesNone (delimiter_of ∷ []) self.old self.new)
+            (λ d. TakesNext (delimiter_of ∷ []) (delimiter_text d) self.old self.new) }
     {
         let mut ahead = *self;
         ahead.skip_space();
@@ -118,8 +118,8 @@ impl<'a> Input<'a> {
     /// Takes the unit that stands next, if it has a sign of its own when it is negated: that sign.
     pub(crate) fn take_negated(&mut self) -> Option<char>
         ensures { MatchOption result
-            ((next_are (negated_of ∷ []) (units_at self.old) ≡ None) × (units_at self.new ≡ units_at self.old))
-            (λ c. next_are (negated_of ∷ []) (units_at self.old) ≡ Some (delimiter_text (Some c), units_at self.new)) }
+            (TakesNone (negated_of ∷ []) self.old self.new)
+            (λ c. TakesNext (negated_of ∷ []) (delimiter_text (Some c)) self.old self.new) }
     {
         let mut ahead = *self;
         ahead.skip_space();
@@ -136,8 +136,8 @@ impl<'a> Input<'a> {
     /// Takes this ASCII character, if it stands next.
     pub(crate) fn take_character(&mut self, c: char) -> bool
         ensures { MatchBool result
-            (next_are (a_character c ∷ []) (units_at self.old) ≡ Some (c ∷ [], units_at self.new))
-            ((next_are (a_character c ∷ []) (units_at self.old) ≡ None) × (units_at self.new ≡ units_at self.old)) }
+            (TakesNext (a_character c ∷ []) (c ∷ []) self.old self.new)
+            (TakesNone (a_character c ∷ []) self.old self.new) }
     {
         if let Next::Unit(unit) = self.next
             && let Piece::Character(d) = unit.piece
@@ -154,9 +154,8 @@ impl<'a> Input<'a> {
     /// The same, where white space may stand first.
     fn take_character_past_space(&mut self, c: char) -> bool
         ensures { MatchBool result
-            (next_are (a_character c ∷ []) (units_at self.old) ≡ Some (c ∷ [], units_at self.new))
-            ((next_are (a_character c ∷ []) (units_at self.old) ≡ None)
-            × (units_at self.new ≡ units_at self.old)) }
+            (TakesNext (a_character c ∷ []) (c ∷ []) self.old self.new)
+            (TakesNone (a_character c ∷ []) self.old self.new) }
     {
         let mut ahead = *self;
         ahead.skip_space();
@@ -174,8 +173,8 @@ impl<'a> Input<'a> {
     /// Takes this ASCII character in brackets, if it stands next.
     pub(crate) fn take_in_brackets(&mut self, c: char) -> bool
         ensures { MatchBool result
-            (next_are (in_brackets c) (units_at self.old) ≡ Some (91 ∷ c ∷ 93 ∷ [], units_at self.new))
-            ((next_are (in_brackets c) (units_at self.old) ≡ None) × (units_at self.new ≡ units_at self.old)) }
+            (TakesNext (in_brackets c) (91 ∷ c ∷ 93 ∷ []) self.old self.new)
+            (TakesNone (in_brackets c) self.old self.new) }
     {
         let mut ahead = *self;
         if ahead.take_character('[') && ahead.take_character(c) && ahead.take_character(']') {
@@ -188,8 +187,8 @@ impl<'a> Input<'a> {
     /// Takes the digit that stands next, if one does.
     pub(crate) fn take_digit(&mut self) -> Option<char>
         ensures { MatchOption result
-            ((next_are (a_digit ∷ []) (units_at self.old) ≡ None) × (units_at self.new ≡ units_at self.old))
-            (λ c. next_are (a_digit ∷ []) (units_at self.old) ≡ Some (c ∷ [], units_at self.new)) }
+            (TakesNone (a_digit ∷ []) self.old self.new)
+            (λ c. TakesNext (a_digit ∷ []) (c ∷ []) self.old self.new) }
     {
         if let Next::Unit(unit) = self.next
             && let Piece::Character(c) = unit.piece
@@ -206,9 +205,8 @@ impl<'a> Input<'a> {
     /// The same, where white space may stand first.
     fn take_digit_past_space(&mut self) -> Option<char>
         ensures { MatchOption result
-            ((next_are (a_digit ∷ []) (units_at self.old) ≡ None)
-            × (units_at self.new ≡ units_at self.old))
-            (λ c. next_are (a_digit ∷ []) (units_at self.old) ≡ Some (c ∷ [], units_at self.new)) }
+            (TakesNone (a_digit ∷ []) self.old self.new)
+            (λ c. TakesNext (a_digit ∷ []) (c ∷ []) self.old self.new) }
     {
         let mut ahead = *self;
         ahead.skip_space();
@@ -226,8 +224,8 @@ impl<'a> Input<'a> {
     /// Takes a point and the digit after it, if they stand next: the digit.
     pub(crate) fn take_point(&mut self) -> Option<char>
         ensures { MatchOption result
-            ((next_are (a_character 46 ∷ a_digit ∷ []) (units_at self.old) ≡ None) × (units_at self.new ≡ units_at self.old))
-            (λ c. next_are (a_character 46 ∷ a_digit ∷ []) (units_at self.old) ≡ Some (46 ∷ c ∷ [], units_at self.new)) }
+            (TakesNone (a_character 46 ∷ a_digit ∷ []) self.old self.new)
+            (λ c. TakesNext (a_character 46 ∷ a_digit ∷ []) (46 ∷ c ∷ []) self.old self.new) }
     {
         let mut ahead = *self;
         if ahead.take_character('.')

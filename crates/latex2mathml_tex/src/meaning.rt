@@ -159,6 +159,8 @@ pub(crate) enum Meaning {
     Fraction(FractionRule, Option<Style>),
     /// A fraction in the style of a block, whose numerator may be pushed to a side.
     ContinuedFraction,
+    /// A fraction whose delimiters, line and style its author says.
+    GeneralFraction,
     Root,
     /// A mark on one operand.
     Accent(Side, char, Stretch),

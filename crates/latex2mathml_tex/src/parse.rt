@@ -13,6 +13,7 @@ mod deliver;
 mod fractions;
 pub(crate) mod frames;
 mod leaves;
+mod outlines;
 mod rows;
 pub(crate) mod scripts;
 mod symbols;

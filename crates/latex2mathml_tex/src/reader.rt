@@ -45,7 +45,8 @@ impl<'a> Reader<'a> {
 /// Takes the unit at the start of a text that begins at this place. Returns it with what follows it, and the place of that.
 fn take_from<'a>(text: &'a str, start: usize) -> (Next<'a>, &'a str, usize)
     requires { start + length text.now < 2 ^ 64 }
-    ensures takes { Takes result.0 (units_of start (chars text.now)) (units_of result.2 (chars result.1.now)) }
+    ensures takes { Takes result.0 (units_of start (chars text.now))
+        (units_of result.2 (chars result.1.now)) }
     ensures end { result.2 + length result.1.now ≡ start + length text.now }
 {
     let mut text = text;

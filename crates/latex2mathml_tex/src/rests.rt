@@ -157,7 +157,8 @@ pub(crate) fn recolor(
 ) -> Result<Row, AllocError>
     requires { row_count row ≤ length (elements_in builder.old) }
     ensures row { IfOk result (λ begun. row_with begun (elements_in builder.new)
-        ≡ Rests.recolored (color_of color) (style_of style) (row_with row (elements_in builder.old))) }
+        ≡ Rests.recolored (color_of color) (style_of style)
+        (row_with row (elements_in builder.old))) }
     ensures below { IfOk result (λ begun. drop (row_count begun) (elements_in builder.new)
         ≡ drop (row_count row) (elements_in builder.old)) }
     ensures count { IfOk result (λ begun. row_count begun ≤ length (elements_in builder.new)) }

@@ -21,7 +21,7 @@ pub(crate) enum Argument {
     Name,
     /// The columns of a table.
     ColumnList,
-    /// A number, which means nothing here.
+    /// A number.
     Number,
     /// The name of a color.
     ColorName,
@@ -117,7 +117,7 @@ fn character_deed(argument: Argument, c: char) -> Deed
         Argument::Name if c == '$' => Deed::Misses,
         Argument::Name => Deed::Adds(c, Spot::InArgument(Argument::Name)),
         Argument::ColumnList => column_deed(c),
-        Argument::Number => passes_if(c.is_ascii_digit(), Spot::InArgument(Argument::Number)),
+        Argument::Number => adds_if(c.is_ascii_digit(), c, Spot::InArgument(Argument::Number)),
         Argument::ColorName if c.is_ascii_alphanumeric() || c == '#' => {
             Deed::Adds(c, Spot::InArgument(Argument::ColorName))
         }
@@ -126,7 +126,8 @@ fn character_deed(argument: Argument, c: char) -> Deed
 }
 
 fn argument_deed(argument: Argument, piece: Piece) -> Deed
-    ensures { deed_of result ≡ Scanning.argument_deed (argument_of argument) (piece_of piece.entry) }
+    ensures { deed_of result
+        ≡ Scanning.argument_deed (argument_of argument) (piece_of piece.entry) }
 {
     match piece {
         Piece::Character(c) => character_deed(argument, c),
@@ -166,7 +167,8 @@ fn width_deed(piece: Piece) -> Deed
 }
 
 fn brace_deed(opened: Deed, otherwise: Deed, piece: Piece) -> Deed
-    ensures { deed_of result ≡ Scanning.brace_deed (deed_of opened) (deed_of otherwise) (piece_of piece.entry) }
+    ensures { deed_of result
+        ≡ Scanning.brace_deed (deed_of opened) (deed_of otherwise) (piece_of piece.entry) }
 {
     match piece {
         Piece::Open => opened,

@@ -2,7 +2,7 @@
 ghost use Rattle.std.specs.Prelude.{◌≡◌, ◌+◌, ◌≤◌, ◌&&◌, ◌∷◌, [], false, true, IfOk, OnOk, drop, length, option_map, take};
 ghost use Rattle.latex2mathml_elements.specs.{Attributes.plain, Element.Element, Element.pair};
 ghost use Rattle.latex2mathml_elements.specs.Attributes as attributes;
-ghost use Rattle.latex2mathml_builder.specs.Built.{elements_in};
+ghost use Rattle.latex2mathml_builder.specs.Built.{Puts, elements_in};
 ghost use Rattle.latex2mathml_builder.specs.Names.{attributes_of, pair_of, side_of, size_of, space_of, stretch_of};
 ghost use Rattle.latex2mathml_tex_grammar.specs.Atoms;
 ghost use Rattle.latex2mathml_tex_grammar.specs.Makes;
@@ -10,7 +10,7 @@ ghost use Rattle.latex2mathml_tex_grammar.specs.Meaning;
 ghost use Rattle.latex2mathml_tex_grammar.specs.Rows;
 ghost use Rattle.latex2mathml_tex.specs.Meanings.{class_of, style_of};
 ghost use Rattle.latex2mathml_tex.specs.Models.{before_of, core_with, kind_of, row_rest, row_with, top};
-ghost use Rattle.latex2mathml_tex.specs.Shapes.{changed_at, delimiter_element, mapped_first, mark_element};
+ghost use Rattle.latex2mathml_tex.specs.Shapes.{ChangesAt, ReplacesTop, delimiter_element, mapped_first, mark_element};
 ghost use Rattle.latex2mathml_tex.specs.Delimiters.{delimiter_text};
 
 use crate::atoms::{Before, Core, Kind, Row};
@@ -26,8 +26,8 @@ pub(crate) fn put_delimiter(
     attributes: Attributes,
     delimiter: Option<char>,
 ) -> Result<(), AllocError>
-    ensures { OnOk result (elements_in builder.new
-        ≡ delimiter_element (attributes_of attributes) (delimiter_text delimiter) ∷ elements_in builder.old) }
+    ensures { OnOk result (Puts (delimiter_element
+        (attributes_of attributes) (delimiter_text delimiter)) builder.old builder.new) }
 {
     match delimiter {
         Some(c) => builder.character(Token::Mo, attributes, c),
@@ -37,7 +37,8 @@ pub(crate) fn put_delimiter(
 
 /// A delimiter within others.
 pub(crate) fn put_divider(builder: &mut Builder, delimiter: Option<char>) -> Result<(), AllocError>
-    ensures { OnOk result (elements_in builder.new ≡ (Makes.divider (delimiter_text delimiter)).element ∷ elements_in builder.old) }
+    ensures { OnOk result (Puts (Makes.divider (delimiter_text delimiter)).element
+        builder.old builder.new) }
 {
     let attributes = Attributes {
         stretch: Some(Stretch::Stretching),
@@ -55,8 +56,9 @@ pub(crate) fn put_sized(
     class: Class,
     delimiter: Option<char>,
 ) -> Result<(), AllocError>
-    ensures { OnOk result (elements_in builder.new
-        ≡ (Makes.sized (size_of size) (class_of class) (delimiter_text delimiter)).atom.element ∷ elements_in builder.old) }
+    ensures { OnOk result (Puts
+        (Makes.sized (size_of size) (class_of class) (delimiter_text delimiter)).atom.element
+        builder.old builder.new) }
 {
     let form = match class {
         Class::Opening => Some(Form::Prefix),
@@ -77,7 +79,8 @@ pub(crate) fn put_sized(
 pub(crate) fn put_row(builder: &mut Builder, count: usize) -> Result<(), AllocError>
     requires { count ≤ length (elements_in builder.old) }
     ensures { OnOk result (elements_in builder.new
-        ≡ Rows.row_element (take count (elements_in builder.old)) ∷ drop count (elements_in builder.old)) }
+        ≡ Rows.row_element (take count (elements_in builder.old))
+        ∷ drop count (elements_in builder.old)) }
 {
     if count == 1 {
         return Ok(());
@@ -93,8 +96,9 @@ pub(crate) fn enclose(
     closing: Option<char>,
 ) -> Result<(), AllocError>
     requires { 1 ≤ length (elements_in builder.old) }
-    ensures { OnOk result (elements_in builder.new
-        ≡ Makes.fenced high (delimiter_text opening) (delimiter_text closing) (top (elements_in builder.old)) ∷ drop 1 (elements_in builder.old)) }
+    ensures { OnOk result (ReplacesTop
+        (Makes.fenced high (delimiter_text opening) (delimiter_text closing))
+        builder.old builder.new) }
 {
     let stretch = if high {
         Stretch::Stretching
@@ -124,7 +128,8 @@ pub(crate) fn enclose(
 
 /// Makes the dividers among the uppermost elements, which are so many, no higher than a letter.
 pub(crate) fn lower_dividers(builder: &mut Builder, count: usize)
-    ensures { elements_in builder.new ≡ mapped_first Makes.lowered_divider count (elements_in builder.old) }
+    ensures { elements_in builder.new
+        ≡ mapped_first Makes.lowered_divider count (elements_in builder.old) }
 {
     'elements: for depth in 0..count {
         lower_divider(builder, depth);
@@ -133,7 +138,7 @@ pub(crate) fn lower_dividers(builder: &mut Builder, count: usize)
 
 /// Makes the element below so many others no higher than a letter, if it is a divider.
 fn lower_divider(builder: &mut Builder, depth: usize)
-    ensures { elements_in builder.new ≡ changed_at Makes.lowered_divider depth (elements_in builder.old) }
+    ensures { ChangesAt Makes.lowered_divider depth builder.old builder.new }
 {
     if let Some((_, attributes)) = builder.token_at(depth)
         && attributes.fence
@@ -150,7 +155,7 @@ fn lower_divider(builder: &mut Builder, depth: usize)
 
 /// Keeps the browser from moving the limits of the operator below so many elements.
 pub(crate) fn fix_limits(builder: &mut Builder, depth: usize)
-    ensures { elements_in builder.new ≡ changed_at (Makes.fixed_base Meaning.Stacked) depth (elements_in builder.old) }
+    ensures { ChangesAt (Makes.fixed_base Meaning.Stacked) depth builder.old builder.new }
 {
     let Some((tag, attributes)) = builder.token_at(depth) else {
         return;
@@ -168,7 +173,7 @@ pub(crate) fn fix_limits(builder: &mut Builder, depth: usize)
 
 /// In scripts a sign has no space around it.
 fn tighten(builder: &mut Builder, style: Style)
-    ensures { elements_in builder.new ≡ changed_at (Atoms.tight (style_of style)) 0 (elements_in builder.old) }
+    ensures { ChangesAt (Atoms.tight (style_of style)) 0 builder.old builder.new }
 {
     match style {
         Style::InScript => remove_space(builder),
@@ -177,7 +182,7 @@ fn tighten(builder: &mut Builder, style: Style)
 }
 
 fn remove_space(builder: &mut Builder)
-    ensures { elements_in builder.new ≡ changed_at Atoms.without_space 0 (elements_in builder.old) }
+    ensures { ChangesAt Atoms.without_space 0 builder.old builder.new }
 {
     if let Some((_, attributes)) = builder.token_at(0) {
         builder.give(
@@ -191,7 +196,7 @@ fn remove_space(builder: &mut Builder)
 }
 
 fn make_prefix(builder: &mut Builder)
-    ensures { elements_in builder.new ≡ changed_at Atoms.as_prefix 0 (elements_in builder.old) }
+    ensures { ChangesAt Atoms.as_prefix 0 builder.old builder.new }
 {
     if let Some((_, attributes)) = builder.token_at(0) {
         builder.give(
@@ -206,7 +211,9 @@ fn make_prefix(builder: &mut Builder)
 
 /// Makes the uppermost element, an operand of its own class, what an atom of another class is made of.
 pub(crate) fn make_base(builder: &mut Builder, style: Style, class: Class, own: Class)
-    ensures elements { elements_in builder.new ≡ changed_at (Atoms.element_as (style_of style) (class_of class) (class_of own)) 0 (elements_in builder.old) }
+    ensures elements { ChangesAt
+        (Atoms.element_as (style_of style) (class_of class) (class_of own)) 0
+        builder.old builder.new }
     ensures length { length (elements_in builder.new) ≡ length (elements_in builder.old) }
 {
     match own {
@@ -217,7 +224,8 @@ pub(crate) fn make_base(builder: &mut Builder, style: Style, class: Class, own: 
 
 /// A sign that is all of an atom of this class stands before no operand.
 fn free_sign(builder: &mut Builder, style: Style, class: Class)
-    ensures { elements_in builder.new ≡ changed_at (Atoms.lone_sign (style_of style) (class_of class)) 0 (elements_in builder.old) }
+    ensures { ChangesAt (Atoms.lone_sign (style_of style) (class_of class)) 0
+        builder.old builder.new }
 {
     let Some((tag, attributes)) = builder.token_at(0) else {
         return;
@@ -236,7 +244,8 @@ fn free_sign(builder: &mut Builder, style: Style, class: Class)
 
 /// The space around a sign that is all of an atom of this class.
 fn space_as(style: Style, class: Class, space: Option<Space>) -> Option<Space>
-    ensures { option_map space_of result ≡ Atoms.space_as (style_of style) (class_of class) (option_map space_of space) }
+    ensures { option_map space_of result
+        ≡ Atoms.space_as (style_of style) (class_of class) (option_map space_of space) }
 {
     match style {
         Style::InScript => Some(Space::NoSpace),
@@ -254,7 +263,9 @@ fn space_as(style: Style, class: Class, space: Option<Space>) -> Option<Space>
 
 /// Gives the uppermost element what its atom has there: a prefix, or no space.
 fn adapt(builder: &mut Builder, style: Style, before: Before, kind: Kind)
-    ensures { elements_in builder.new ≡ changed_at (Atoms.element_there (style_of style) (before_of before) (kind_of kind)) 0 (elements_in builder.old) }
+    ensures { ChangesAt
+        (Atoms.element_there (style_of style) (before_of before) (kind_of kind)) 0
+        builder.old builder.new }
 {
     match kind {
         Kind::SignOf(class) => match before.class_there(class) {
@@ -281,8 +292,10 @@ pub(crate) fn with_atom(
 ) -> Result<Row, AllocError>
     requires { row.count + 1 ≤ length (elements_in builder.old) }
     ensures row { IfOk result (λ longer. row_with longer (elements_in builder.new)
-        ≡ Rows.with_atom (style_of style) (row_with row (drop 1 (elements_in builder.old))) (core_with core (top (elements_in builder.old))).atom) }
-    ensures below { IfOk result (λ longer. drop longer.count (elements_in builder.new) ≡ drop (row.count + 1) (elements_in builder.old)) }
+        ≡ Rows.with_atom (style_of style) (row_with row (drop 1 (elements_in builder.old)))
+        (core_with core (top (elements_in builder.old))).atom) }
+    ensures below { IfOk result (λ longer. drop longer.count (elements_in builder.new)
+        ≡ drop (row.count + 1) (elements_in builder.old)) }
     ensures rest { IfOk result (λ longer. row_rest longer ≡ row_rest row) }
     ensures count { IfOk result (λ longer. longer.count ≤ length (elements_in builder.new)) }
 {
@@ -312,8 +325,11 @@ fn put_behind(
 ) -> Result<usize, AllocError>
     requires { row.count + 1 ≤ length (elements_in builder.old) }
     ensures elements { IfOk result (λ count. take count (elements_in builder.new)
-        ≡ Rows.put (row.ends_in_word && Atoms.is_letters (kind_of kind)) (style_of style) (before_of row.before) (Atoms.atom (kind_of kind) false (top (elements_in builder.old))) (take row.count (drop 1 (elements_in builder.old)))) }
-    ensures below { IfOk result (λ count. drop count (elements_in builder.new) ≡ drop (row.count + 1) (elements_in builder.old)) }
+        ≡ Rows.put (row.ends_in_word && Atoms.is_letters (kind_of kind)) (style_of style)
+        (before_of row.before) (Atoms.atom (kind_of kind) false (top (elements_in builder.old)))
+        (take row.count (drop 1 (elements_in builder.old)))) }
+    ensures below { IfOk result (λ count. drop count (elements_in builder.new)
+        ≡ drop (row.count + 1) (elements_in builder.old)) }
     ensures count { IfOk result (λ count. count ≤ length (elements_in builder.new)) }
 {
     if continues_word(row, kind) {
@@ -342,8 +358,10 @@ fn continues_word(row: Row, kind: Kind) -> bool
 fn join_word(builder: &mut Builder, count: usize) -> usize
     requires { count + 1 ≤ length (elements_in builder.old) }
     ensures elements { take result (elements_in builder.new)
-        ≡ Rows.join (top (elements_in builder.old)) (take count (drop 1 (elements_in builder.old))) }
-    ensures below { drop result (elements_in builder.new) ≡ drop (count + 1) (elements_in builder.old) }
+        ≡ Rows.join (top (elements_in builder.old))
+        (take count (drop 1 (elements_in builder.old))) }
+    ensures below { drop result (elements_in builder.new)
+        ≡ drop (count + 1) (elements_in builder.old) }
     ensures count { result ≤ length (elements_in builder.new) }
 {
     if count > 0 && builder.join() {
@@ -361,8 +379,9 @@ pub(crate) fn put_accent(
     stretch: Stretch,
 ) -> Result<(), AllocError>
     requires { 1 ≤ length (elements_in builder.old) }
-    ensures { OnOk result (elements_in builder.new
-        ≡ (Makes.accent (side_of side) mark (stretch_of stretch) (top (elements_in builder.old))).atom.element ∷ drop 1 (elements_in builder.old)) }
+    ensures { OnOk result (ReplacesTop
+        (λ x. (Makes.accent (side_of side) mark (stretch_of stretch) x).atom.element)
+        builder.old builder.new) }
 {
     let attributes = Attributes {
         accent: Some(side),
@@ -374,8 +393,8 @@ pub(crate) fn put_accent(
 /// A brace on the uppermost element.
 pub(crate) fn put_brace(builder: &mut Builder, side: Side, mark: char) -> Result<(), AllocError>
     requires { 1 ≤ length (elements_in builder.old) }
-    ensures { OnOk result (elements_in builder.new
-        ≡ (Makes.brace (side_of side) mark (top (elements_in builder.old))).atom.element ∷ drop 1 (elements_in builder.old)) }
+    ensures { OnOk result (ReplacesTop (λ x. (Makes.brace (side_of side) mark x).atom.element)
+        builder.old builder.new) }
 {
     put_mark(
         builder,
@@ -394,8 +413,9 @@ fn put_mark(
     attributes: Attributes,
 ) -> Result<(), AllocError>
     requires { 1 ≤ length (elements_in builder.old) }
-    ensures { OnOk result (elements_in builder.new
-        ≡ Makes.on_side (side_of side) (attributes_of attributes) (top (elements_in builder.old)) (mark_element mark (stretch_of stretch)) ∷ drop 1 (elements_in builder.old)) }
+    ensures { OnOk result (ReplacesTop
+        (λ x. Makes.on_side (side_of side) (attributes_of attributes) x
+        (mark_element mark (stretch_of stretch))) builder.old builder.new) }
 {
     builder.character(
         Token::Mo,
@@ -410,7 +430,7 @@ fn put_mark(
 
 /// Puts an arrow that is as long as what stands above and below it.
 pub(crate) fn put_arrow(builder: &mut Builder, sign: char) -> Result<(), AllocError>
-    ensures { OnOk result (elements_in builder.new ≡ Makes.arrow_sign sign ∷ elements_in builder.old) }
+    ensures { OnOk result (Puts (Makes.arrow_sign sign) builder.old builder.new) }
 {
     let attributes = Attributes {
         stretch: Some(Stretch::Stretching),
@@ -423,14 +443,15 @@ pub(crate) fn put_arrow(builder: &mut Builder, sign: char) -> Result<(), AllocEr
 pub(crate) fn put_stack(builder: &mut Builder, side: Side) -> Result<(), AllocError>
     requires { 2 ≤ length (elements_in builder.old) }
     ensures { OnOk result (elements_in builder.new
-        ≡ Makes.on_side (side_of side) plain (top (elements_in builder.old)) (top (drop 1 (elements_in builder.old))) ∷ drop 2 (elements_in builder.old)) }
+        ≡ Makes.on_side (side_of side) plain (top (elements_in builder.old))
+        (top (drop 1 (elements_in builder.old))) ∷ drop 2 (elements_in builder.old)) }
 {
     builder.pair(pair_on(side), Attributes::plain(), true)
 }
 
 /// Puts a mark for so many primes.
 pub(crate) fn put_primes(builder: &mut Builder, primes: usize) -> Result<(), AllocError>
-    ensures { OnOk result (elements_in builder.new ≡ Makes.prime_mark primes ∷ elements_in builder.old) }
+    ensures { OnOk result (Puts (Makes.prime_mark primes) builder.old builder.new) }
 {
     let attributes = Attributes {
         space: Some(Space::NoSpace),
@@ -452,7 +473,8 @@ pub(crate) fn put_primes(builder: &mut Builder, primes: usize) -> Result<(), All
 
 /// The element of a mark on this side of its base.
 fn pair_on(side: Side) -> Pair
-    ensures { (a : attributes.Attributes) (x y : Element) → Makes.on_side (side_of side) a x y ≡ pair (pair_of result) a x y }
+    ensures { (a : attributes.Attributes) (x y : Element)
+        → Makes.on_side (side_of side) a x y ≡ pair (pair_of result) a x y }
 {
     match side {
         Side::Above => Pair::Mover,

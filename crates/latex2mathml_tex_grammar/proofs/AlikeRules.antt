@@ -7,16 +7,16 @@ use Rattle.latex2mathml_elements.specs.Columns.{Columns}
 use Rattle.latex2mathml_tex_grammar.specs.Environments.{Environment, environment_of}
 use Rattle.latex2mathml_tex_grammar.specs.Scanning.{Spot, Argument, Name, ColumnList, Number, ColorName, InLength, AtBracket, AtUnit, BeforeLengthInBraces}
 use Rattle.latex2mathml_tex_grammar.specs.Tables.{Lines}
-use Rattle.latex2mathml_tex_grammar.specs.{Commands.meaning_of, Commands.symbol_of, Delimiters.delimiter_of, Makes.Core, Refusal.Refusal, Rows.Row, Rows.Operand, Symbols.Alphabet, Symbols.Symbol, Words.Words}
-use Rattle.latex2mathml_tex_grammar.specs.Meaning.{Meaning, Shows, FunctionName, Dots, Spacing, Styled, Words as TakesWordsIn, Fraction, Root, Accent, Brace, Stack, StackedRelation, OperatorName, Negation, Slash, Sized, Left, Middle, Right, Limits, NoLimits, Classed, Changes, BeginTable, EndTable, LineBreak, Substack, Skip, SkipInBraces, Boxed, Smash, ContinuedFraction, Raise, InColor, Highlight, Rectangle, Arrow}
-use Rattle.latex2mathml_tex_grammar.specs.Rules.{Context, Ending, WholeText, InBraces, InBrackets, InDollars, InDelimiters, Rule, gives, refuses, reads_operand, reads_core, reads_atoms, reads_words, takes_if, if_follows, takes_digits, takes_delimiter, of_one, of_two, decimal, after_digits, a_number, a_symbol, begins_none, character_rule, struck_atom, command_rule, rule, TableEnd, ByName, ByBrace, InCell, takes_found, passes_over, reads_rows, ended_table, rows_rule, listed_rule, argument_rule, position_rule, environment_rule, most_columns, ByText, in_brackets, with_value, a_length, a_bar, a_color}
+use Rattle.latex2mathml_tex_grammar.specs.{Commands.meaning_of, Commands.symbol_of, Delimiters.delimiter_of, Makes.Core, Makes.Outline, Refusal.Refusal, Rows.Row, Rows.Operand, Symbols.Alphabet, Symbols.Style, Symbols.Symbol, Words.Words}
+use Rattle.latex2mathml_tex_grammar.specs.Meaning.{Meaning, Shows, FunctionName, Dots, Spacing, Styled, Words as TakesWordsIn, Fraction, Root, Accent, Brace, Stack, StackedRelation, OperatorName, Negation, Slash, Sized, Left, Middle, Right, Limits, NoLimits, Classed, Changes, BeginTable, EndTable, LineBreak, Substack, Skip, SkipInBraces, Boxed, Smash, ContinuedFraction, GeneralFraction, Raise, InColor, Highlight, Rectangle, Arrow}
+use Rattle.latex2mathml_tex_grammar.specs.Rules.{Context, Ending, WholeText, InBraces, InBrackets, InDollars, InDelimiters, Rule, gives, refuses, reads_operand, reads_core, reads_atoms, reads_words, takes_if, if_follows, takes_digits, takes_delimiter, of_one, of_two, decimal, after_digits, a_number, a_symbol, begins_none, character_rule, struck_atom, command_rule, rule, TableEnd, ByName, ByBrace, InCell, takes_found, passes_over, reads_rows, ended_table, rows_rule, listed_rule, argument_rule, position_rule, environment_rule, most_columns, ByText, in_brackets, with_value, a_length, a_bar, a_color, a_left_brace, a_right_brace, empty_braces, an_outer_delimiter, has_width, a_line, numbered_style, a_style, an_outlined_fraction}
 use Rattle.latex2mathml_tex_grammar.specs.{Colors.color_of, Lengths.width_of}
 use Rattle.latex2mathml_elements.specs.Colors.{Color}
 use Rattle.latex2mathml_tex_grammar.specs.Spacing.{Standing, BeforeWords, InWords, BetweenDollars, standing_behind, behind_unit, takes_words, AreAlike, same_piece}
 use Rattle.latex2mathml_tex_grammar.specs.Starts.{atom_start, ends, unended, is_close, is_character, is_command, left_behind, is_break}
 use Rattle.latex2mathml_tex_grammar.specs.Units.{Piece, Space, Open, Close, Command, Character, Unit, Units}
 use Rattle.latex2mathml_tex_grammar.proofs.{OneList.is_byte, Plain.a_character_plain, Plain.close_plain, Plain.delimiter_plain, Plain.named, Plain.open_plain, Plain.negated_of_plain, Plain.right_plain, Plain.takes_none, Plain.TakesNone, Plain.break_plain, Plain.cr_plain, Plain.newline_plain, Plain.end_plain, Scans.either_holds}
-use Rattle.latex2mathml_tex_grammar.proofs.Spaces.{IsCalm, in_formula, in_dollars, IsPlain, AllPlain, character_plain, digit_plain}
+use Rattle.latex2mathml_tex_grammar.proofs.Spaces.{IsCalm, in_formula, in_dollars, IsPlain, ArePlain, AllPlain, character_plain, digit_plain}
 
 -- Endings
 
@@ -263,6 +263,38 @@ color_too p q h = scanned_too (λ name. with_value_too _ _ refl h (color_of name
 in_brackets_plain : (c : ℕ) → (byte "$" == c) ≡ false → AllPlain (in_brackets c)
 in_brackets_plain c h = (a_character_plain (byte "[") refl, (a_character_plain c h, (a_character_plain (byte "]") refl, tt)))
 
+-- fractions whose outline is said
+
+left_brace_plain : ArePlain a_left_brace
+left_brace_plain Open found e = open_plain
+left_brace_plain Space found e = cc
+left_brace_plain Close found e = cc
+left_brace_plain (Command name) found e = cc
+left_brace_plain (Character c) found e = cc
+
+right_brace_plain : ArePlain a_right_brace
+right_brace_plain Close found e = close_plain
+right_brace_plain Space found e = cc
+right_brace_plain Open found e = cc
+right_brace_plain (Command name) found e = cc
+right_brace_plain (Character c) found e = cc
+
+empty_braces_plain : AllPlain empty_braces
+empty_braces_plain = (left_brace_plain, (right_brace_plain, tt))
+
+outer_delimiter_too : {at : Standing} (p q : ℕ) {f g : List ℕ → Rule} → ((text : List ℕ) → AlikeRules at at (f text) (g text)) → AlikeRules at at (an_outer_delimiter p f) (an_outer_delimiter q g)
+outer_delimiter_too p q h =
+    if_too (delimiter_plain, tt) h (if_too (left_brace_plain, (delimiter_plain, (right_brace_plain, tt))) h (if_too empty_braces_plain h (refuses_too refl)))
+
+line_too : {at : Standing} (p q : ℕ) {f g : Bool → Rule} → ((has_line : Bool) → AlikeRules at at (f has_line) (g has_line)) → AlikeRules at at (a_line p f) (a_line q g)
+line_too p q h = if_too empty_braces_plain (λ usual. h true) (length_too p q BeforeLengthInBraces (λ width. h (has_width width)))
+
+style_too : {at : Standing} (p q : ℕ) {f g : Option Style → Rule} → ((own : Option Style) → AlikeRules at at (f own) (g own)) → AlikeRules at at (a_style p f) (a_style q g)
+style_too p q h = scanned_too (λ number. with_value_too _ _ refl h (numbered_style number))
+
+outlined_too : {at : Standing} (p q : ℕ) (c : Context) (o : Outline) → AlikeRules at at (an_outlined_fraction p c o) (an_outlined_fraction q c o)
+outlined_too p q c o = two_too
+
 -- a command that takes no words leaves it as it is where units stand
 as_is : {at : Standing} {r s : Rule} → IsCalm at → AlikeRules at at r s → AlikeRules at (behind_unit at) r s
 as_is in_formula h = h
@@ -298,6 +330,9 @@ command_too p q c name (Some (TakesWordsIn alphabet)) calm = words_follow calm (
 command_too p q c name (Some (Fraction bar own)) calm = as_is calm two_too
 command_too p q c name (Some ContinuedFraction) calm =
     as_is calm (if_too (in_brackets_plain (byte "l") refl) (λ left. two_too) (if_too (in_brackets_plain (byte "r") refl) (λ right. two_too) two_too))
+command_too p q c name (Some GeneralFraction) calm =
+    as_is calm (outer_delimiter_too p q (λ opening. outer_delimiter_too p q (λ closing. line_too p q (λ has_line. style_too p q (λ own.
+    outlined_too p q c (record { opening = opening; closing = closing; has_line = has_line; own = own }))))))
 command_too p q c name (Some Root) calm = as_is calm (if_too (a_character_plain (byte "[") refl, tt) (λ bracket. atoms_too both_brackets refl (λ degree. one_too)) one_too)
 command_too p q c name (Some (Accent side mark width)) calm = as_is calm one_too
 command_too p q c name (Some (Brace side mark)) calm = as_is calm one_too

@@ -211,7 +211,7 @@ stack_allowed side class mark base h k = on_side_allowed side _ base mark k h
 
 -- Fractions and delimiters
 
-in_style_allowed : (style : Option Style) (x : Element) → HasAllowedTexts x → HasAllowedTexts (in_style style x)
+pub in_style_allowed : (style : Option Style) (x : Element) → HasAllowedTexts x → HasAllowedTexts (in_style style x)
 in_style_allowed None x h = h
 in_style_allowed (Some style) x h = (h, tt)
 

@@ -4,23 +4,23 @@ use Rattle.std.specs.{Bool.⊤, Char.is_ascii_digit, Str.byte}
 use Rattle.latex2mathml_elements.specs.{Element.Element, Element.token, Element.space, Element.rectangle, Element.container, Element.pair, Element.triple, Element.table}
 use Rattle.latex2mathml_elements.specs.Characters.{is_forbidden, IsAllowed, HasAllowedTexts}
 use Rattle.latex2mathml_elements.proofs.{Characters.allowed_both, Characters.allowed_char, Characters.allowed_plain, Plain.IsPlain}
-use Rattle.latex2mathml_tex_grammar.specs.{Commands.meaning_of, Commands.symbol_of, Delimiters.negated_of, Delimiters.delimiter_of, Dots.centered_dots, Dots.low_dots}
-use Rattle.latex2mathml_tex_grammar.specs.Makes.{Core, core, Scripts, letter, symbol, spacing, struck, text, in_box, raised_by, black, arrow}
+use Rattle.latex2mathml_tex_grammar.specs.{Commands.meaning_of, Commands.symbol_of, Delimiters.entry_of_name, Delimiters.negated_of, Delimiters.delimiter_of, TextCommands.text_commands, Dots.centered_dots, Dots.low_dots}
+use Rattle.latex2mathml_tex_grammar.specs.Makes.{Core, core, Scripts, letter, symbol, spacing, struck, text, in_box, raised_by, black, arrow, Outline, quotient, between_any, outlined_fraction}
 use Rattle.latex2mathml_tex_grammar.specs.Refusal.{Refusal, OutsideTable, MisplacedCharacter, CharacterInWords, refusal_at}
-use Rattle.latex2mathml_tex_grammar.specs.Meaning.{Meaning, Shows, FunctionName, Dots, Spacing, Styled, Words as TakesWordsIn, Fraction, Root, Accent, Brace, Stack, StackedRelation, OperatorName, Negation, Slash, Sized, Left, Middle, Right, Limits, NoLimits, Classed, Changes, BeginTable, EndTable, LineBreak, Substack, Skip, SkipInBraces, Boxed, Smash, ContinuedFraction, Bar, FractionRule, Box, Phantom, PhantomWidth, PhantomHeight, Smashed, WithoutHeight, WithoutDepth, OverRight, OverLeft, OverBoth, Frame, StrikeUp, StrikeDown, StrikeTwice, Raise, InColor, Highlight, Rectangle, Arrow, Raised, Colored, OnColor}
+use Rattle.latex2mathml_tex_grammar.specs.Meaning.{Meaning, Shows, FunctionName, Dots, Spacing, Styled, Words as TakesWordsIn, Fraction, Root, Accent, Brace, Stack, StackedRelation, OperatorName, Negation, Slash, Sized, Left, Middle, Right, Limits, NoLimits, Classed, Changes, BeginTable, EndTable, LineBreak, Substack, Skip, SkipInBraces, Boxed, Smash, ContinuedFraction, GeneralFraction, Bar, FractionRule, Box, Phantom, PhantomWidth, PhantomHeight, Smashed, WithoutHeight, WithoutDepth, OverRight, OverLeft, OverBoth, Frame, StrikeUp, StrikeDown, StrikeTwice, Raise, InColor, Highlight, Rectangle, Arrow, Raised, Colored, OnColor}
 use Rattle.latex2mathml_tex_grammar.specs.{Colors.color_of, Lengths.width_of}
 use Rattle.latex2mathml_tex_grammar.specs.Rows.{Operand, row_element}
-use Rattle.latex2mathml_tex_grammar.specs.Rules.{Context, Rule, gives, refuses, takes_if, a_character, a_digit, decimal, after_digits, a_number, a_symbol, begins_none, character_rule, struck_atom, slashed, a_box, a_fraction, meaning_rule, command_rule, rule, with_value, a_bar}
+use Rattle.latex2mathml_tex_grammar.specs.Rules.{Context, Rule, gives, refuses, takes_if, a_character, a_digit, decimal, after_digits, a_number, a_symbol, begins_none, character_rule, struck_atom, slashed, a_box, a_fraction, meaning_rule, command_rule, rule, with_value, a_bar, a_left_brace, a_right_brace, empty_braces, an_outer_delimiter, has_width, a_line, numbered_style, a_style, an_outlined_fraction, a_general_fraction}
 use Rattle.latex2mathml_tex_grammar.specs.Starts.{OperandStart, NoStart, GroupStart, DigitStart, operand_start, start_of_digit, Mark, Prime, Below, Above as AboveMark, LimitsAt, step_of, step_of_mark}
 use Rattle.latex2mathml_tex_grammar.specs.Symbols.{InDisplay, InText, InScript, Ordinary, Relation, Alphabet, Style, Symbol}
 use Rattle.latex2mathml_tex_grammar.specs.Units.{Piece, Space, Open, Close, Command, Character}
-use Rattle.latex2mathml_tex_grammar.specs.Words.{Word, Shown, Formula, WordRule, IsWord, BeginsFormula, NoWord, Words, is_escape, word_space, word_character, with_text, with_word, words_element, word_rule, character_rule as word_of_character, meaning_rule as word_of_meaning}
+use Rattle.latex2mathml_tex_grammar.specs.Words.{Word, Shown, Formula, WordRule, IsWord, BeginsFormula, NoWord, Words, word_space, word_character, with_text, with_word, words_element, word_rule, character_rule as word_of_character, meaning_rule as word_of_meaning, command_rule as word_of_command}
 use Rattle.latex2mathml_tex_grammar.proofs.Allowed.{IsAllowedPiece, AreAllowedElements, IsAllowedElement, IsAllowedCore, IsAllowedOperand, AreAllowedScripts, AreAllowedWords, IsAllowedWord, IsAllowedWordRule, IsAllowedStep, IsAllowedRule, AreGiven}
-use Rattle.latex2mathml_tex_grammar.proofs.AllowedMakes.{letter_allowed, upright_letter_allowed, symbol_allowed, number_allowed, row_element_allowed, single_allowed, struck_allowed, as_base_allowed, classed_allowed, accent_allowed, brace_allowed, stack_allowed, fraction_allowed, between_allowed, behind_primes_allowed}
+use Rattle.latex2mathml_tex_grammar.proofs.AllowedMakes.{letter_allowed, upright_letter_allowed, symbol_allowed, number_allowed, row_element_allowed, single_allowed, struck_allowed, as_base_allowed, classed_allowed, accent_allowed, brace_allowed, stack_allowed, fraction_allowed, fenced_allowed, in_style_allowed, between_allowed, behind_primes_allowed}
 use Rattle.latex2mathml_elements.specs.Columns.{Alike, Dense}
 use Rattle.latex2mathml_tex_grammar.specs.Environments.{environment_of}
 use Rattle.latex2mathml_tex_grammar.proofs.AllowedRows.{a_table_allowed, environment_allowed, environment_passes}
-use Rattle.latex2mathml_tex_grammar.proofs.AllowedTables.{IsAllowedText, Passes, allowed_text, in_alphabet_allowed, is_allowed_meaning, is_allowed_symbol, meaning_passes, negated_allowed, delimiter_allowed, not_forbidden, symbol_passes}
+use Rattle.latex2mathml_tex_grammar.proofs.AllowedTables.{IsAllowedText, Passes, allowed_text, in_alphabet_allowed, is_allowed, is_allowed_meaning, is_allowed_symbol, meaning_passes, negated_allowed, delimiter_allowed, not_forbidden, symbol_passes, text_command_passes}
 use Rattle.latex2mathml_tex_grammar.proofs.AllowedUnits.{a_digit_plain, a_point_plain, digit_plain, plain_both, point_plain}
 use Rattle.latex2mathml_tex_grammar.proofs.Choices.{of_chosen, of_either}
 
@@ -39,6 +39,30 @@ module _ (test : Piece → Option (List ℕ)) (allowed : (piece : Piece) → IsA
   pub text_given : (given : List ℕ) → AreGiven (test ∷ []) given → IsAllowed given
   text_given given (piece, (first, (rest, (e, (whole, none))))) =
       subst IsAllowed (sym (whole ∙ ap (λ k. first ++ k) none ∙ append-nil first)) (subst IsAllowedText e (allowed piece))
+
+-- braces give nothing
+
+left_brace_empty : (piece : Piece) (text : List ℕ) → a_left_brace piece ≡ Some text → text ≡ []
+left_brace_empty Open text e = cc
+left_brace_empty Space text e = cc
+left_brace_empty Close text e = cc
+left_brace_empty (Command name) text e = cc
+left_brace_empty (Character c) text e = cc
+
+right_brace_empty : (piece : Piece) (text : List ℕ) → a_right_brace piece ≡ Some text → text ≡ []
+right_brace_empty Close text e = cc
+right_brace_empty Space text e = cc
+right_brace_empty Open text e = cc
+right_brace_empty (Command name) text e = cc
+right_brace_empty (Character c) text e = cc
+
+closing_given : (given : List ℕ) → AreGiven (a_right_brace ∷ []) given → given ≡ []
+closing_given given (piece, (first, (rest, (e, (whole, none))))) =
+    whole ∙ ap (λ t. t ++ rest) (right_brace_empty piece first e) ∙ none
+
+empty_given : (given : List ℕ) → AreGiven empty_braces given → IsAllowed given
+empty_given given (piece, (first, (rest, (e, (whole, closed))))) =
+    subst IsAllowed (sym (whole ∙ ap (λ t. t ++ rest) (left_brace_empty piece first e) ∙ closing_given rest closed)) (allowed_plain [] refl)
 
 pub delimiter_given : (given : List ℕ) → AreGiven (delimiter_of ∷ []) given → IsAllowed given
 delimiter_given = text_given delimiter_of delimiter_allowed
@@ -138,6 +162,66 @@ a_box_allowed place c box = λ x k. in_box_allowed box _ (as_base_allowed c.styl
 a_fraction_allowed : (place : ℕ) (c : Context) (rule : FractionRule) (own : Option Style) → IsAllowedRule (a_fraction place c rule own)
 a_fraction_allowed place c rule own = λ above k below i. fraction_allowed rule own above.element below.element k i
 
+-- an outline whose delimiters are allowed
+abbrev IsAllowedOutline : Outline → Type 0
+IsAllowedOutline o = IsAllowed o.opening × IsAllowed o.closing
+
+quotient_allowed : (has_line : Bool) (above below : Element) → HasAllowedTexts above → HasAllowedTexts below → HasAllowedTexts (quotient has_line above below)
+quotient_allowed true above below h k = (h, k)
+quotient_allowed false above below h k = (h, k)
+
+between_any_allowed : (opening closing : List ℕ) (x : Element) → IsAllowed opening → IsAllowed closing → HasAllowedTexts x → HasAllowedTexts (between_any opening closing x)
+between_any_allowed [] [] x h k i = i
+between_any_allowed [] (c ∷ cs) x h k i = fenced_allowed true [] (c ∷ cs) x h k i
+between_any_allowed (c ∷ cs) closing x h k i = fenced_allowed true (c ∷ cs) closing x h k i
+
+outlined_allowed : (o : Outline) (above below : Element) → IsAllowedOutline o → HasAllowedTexts above → HasAllowedTexts below → IsAllowedCore (outlined_fraction o above below)
+outlined_allowed o above below (h, k) i j =
+    in_style_allowed o.own _ (between_any_allowed o.opening o.closing _ h k (quotient_allowed o.has_line above below i j))
+
+-- what stands between braces
+braced_given : (given : List ℕ) → AreGiven (a_left_brace ∷ delimiter_of ∷ a_right_brace ∷ []) given → IsAllowed given
+braced_given given (piece, (first, (rest, (e, (whole, (inner, (text, (last, (f, (behind, closed)))))))))) =
+    let none = left_brace_empty piece first e in
+    let end = closing_given last closed in
+    subst IsAllowed (sym (whole ∙ ap (λ t. t ++ rest) none ∙ behind ∙ ap (λ t. text ++ t) end ∙ append-nil text)) (subst IsAllowedText f (delimiter_allowed inner))
+
+outer_delimiter_allowed : (place : ℕ) (more : List ℕ → Rule) → ((text : List ℕ) → IsAllowed text → IsAllowedRule (more text)) → IsAllowedRule (an_outer_delimiter place more)
+outer_delimiter_allowed place more h =
+    (λ text given. h text (delimiter_given text given), (λ text given. h text (braced_given text given), (λ text given. h text (empty_given text given), tt)))
+
+line_allowed : (place : ℕ) (more : Bool → Rule) → ((has_line : Bool) → IsAllowedRule (more has_line)) → IsAllowedRule (a_line place more)
+line_allowed place more h = (λ usual given. h true, λ text. with_value_allowed _ _ (λ width. h (has_width width)) (width_of text))
+
+style_allowed : (place : ℕ) (more : Option Style → Rule) → ((own : Option Style) → IsAllowedRule (more own)) → IsAllowedRule (a_style place more)
+style_allowed place more h = λ number. with_value_allowed _ _ h (numbered_style number)
+
+outlined_rule_allowed : (place : ℕ) (c : Context) (o : Outline) → IsAllowedOutline o → IsAllowedRule (an_outlined_fraction place c o)
+outlined_rule_allowed place c o h = λ above i below j. outlined_allowed o above.element below.element h i j
+
+module _ (place : ℕ) (c : Context) where
+  -- what stands behind a line, and behind delimiters
+  abbrev behind_line : List ℕ → List ℕ → Bool → Option Style → Rule
+  behind_line opening closing has_line own =
+      an_outlined_fraction place c (record { opening = opening; closing = closing; has_line = has_line; own = own })
+
+  abbrev behind_delimiters : List ℕ → List ℕ → Bool → Rule
+  behind_delimiters opening closing has_line = a_style place (behind_line opening closing has_line)
+
+  abbrev behind_opening : List ℕ → List ℕ → Rule
+  behind_opening opening closing = a_line place (behind_delimiters opening closing)
+
+  outline_allowed : (opening closing : List ℕ) → IsAllowed opening → IsAllowed closing → (has_line : Bool) → IsAllowedRule (behind_delimiters opening closing has_line)
+  outline_allowed opening closing h k has_line =
+      style_allowed place (behind_line opening closing has_line)
+      (λ own. outlined_rule_allowed place c (record { opening = opening; closing = closing; has_line = has_line; own = own }) (h, k))
+
+  general_fraction_allowed : IsAllowedRule (a_general_fraction place c)
+  general_fraction_allowed =
+      outer_delimiter_allowed place (λ opening. an_outer_delimiter place (behind_opening opening))
+      (λ opening h. outer_delimiter_allowed place (behind_opening opening)
+      (λ closing k. line_allowed place (behind_delimiters opening closing) (outline_allowed opening closing h k)))
+
 meaning_rule_allowed : (place : ℕ) (c : Context) (meaning : Meaning) → is_allowed_meaning meaning ≡ true → IsAllowedRule (meaning_rule place c meaning)
 meaning_rule_allowed place c (Shows s) h = symbol_allowed c.alphabet s h
 meaning_rule_allowed place c (FunctionName limits name) h = allowed_text name h
@@ -162,6 +246,7 @@ meaning_rule_allowed place c (TakesWordsIn alphabet) h = λ ws k. words_element_
 meaning_rule_allowed place c (Fraction rule own) h = a_fraction_allowed place c rule own
 meaning_rule_allowed place c ContinuedFraction h =
     (λ left given. a_fraction_allowed place c Bar (Some InDisplay), (λ right given. a_fraction_allowed place c Bar (Some InDisplay), a_fraction_allowed place c Bar (Some InDisplay)))
+meaning_rule_allowed place c GeneralFraction h = general_fraction_allowed place c
 meaning_rule_allowed place c Root h =
     (λ bracket given degree k x i. (i, row_element_allowed degree.elements k), λ x k. (k, tt))
 meaning_rule_allowed place c (Accent side mark width) h = λ x k. accent_allowed side mark width x.element (not_forbidden mark h) k
@@ -279,19 +364,23 @@ word_of_meaning_allowed name (Some SkipInBraces) h = tt
 word_of_meaning_allowed name (Some (Boxed box)) h = tt
 word_of_meaning_allowed name (Some Smash) h = tt
 word_of_meaning_allowed name (Some ContinuedFraction) h = tt
+word_of_meaning_allowed name (Some GeneralFraction) h = tt
 word_of_meaning_allowed name (Some Raise) h = tt
 word_of_meaning_allowed name (Some InColor) h = tt
 word_of_meaning_allowed name (Some Highlight) h = tt
 word_of_meaning_allowed name (Some Rectangle) h = tt
 word_of_meaning_allowed name (Some (Arrow sign_character)) h = tt
 
+word_of_command_allowed : (name : List ℕ) (found : Option ℕ) → Passes is_allowed found → IsAllowedWordRule (word_of_command name found)
+word_of_command_allowed name (Some c) h = allowed_char c (not_forbidden c h)
+word_of_command_allowed name None h = word_of_meaning_allowed name (meaning_of name) (meaning_passes name)
+
 pub word_rule_allowed : (alphabet : Option Alphabet) (piece : Piece) → IsAllowedPiece piece → IsAllowedWordRule (word_rule alphabet piece)
 word_rule_allowed alphabet Space h = word_space_allowed
 word_rule_allowed alphabet Open h = tt
 word_rule_allowed alphabet Close h = tt
 word_rule_allowed alphabet (Character c) h = word_of_character_allowed alphabet c h
-word_rule_allowed alphabet (Command name) h =
-    of_either IsAllowedWordRule (is_escape name) h (word_of_meaning_allowed name (meaning_of name) (meaning_passes name))
+word_rule_allowed alphabet (Command name) h = word_of_command_allowed name (entry_of_name text_commands name) (text_command_passes name)
 
 with_text_allowed : (ends_in_text : Bool) (more : List ℕ) (xs : List Element) → IsAllowed more → AreAllowedElements xs → AreAllowedElements (with_text ends_in_text more xs)
 with_text_allowed true more [] h k = (h, k)

@@ -3,7 +3,7 @@ use Rattle.std.proofs.Common.{◌≡◌, ◌==◌, ◌||◌, ℕ, Bool, true, fa
 use Rattle.std.proofs.{lemmas.Bool.cases_Bool}
 use Rattle.std.specs.{Char.encode_utf8, Str.byte}
 use Rattle.latex2mathml_tex_grammar.specs.{Commands.command_entries, Commands.meaning_of, CommandsFromM.commands_from_m, CommandsUpToL.commands_up_to_l}
-use Rattle.latex2mathml_tex_grammar.specs.Meaning.{Meaning, Shows, FunctionName, Dots, Spacing, Styled, Words as TakesWordsIn, Fraction, Root, Accent, Brace, Stack, StackedRelation, OperatorName, Negation, Slash, Sized, Left, Middle, Right, Limits, NoLimits, Classed, Changes, BeginTable, EndTable, LineBreak, Substack, Skip, SkipInBraces, Boxed, Smash, ContinuedFraction, Raise, InColor, Highlight, Rectangle, Arrow}
+use Rattle.latex2mathml_tex_grammar.specs.Meaning.{Meaning, Shows, FunctionName, Dots, Spacing, Styled, Words as TakesWordsIn, Fraction, Root, Accent, Brace, Stack, StackedRelation, OperatorName, Negation, Slash, Sized, Left, Middle, Right, Limits, NoLimits, Classed, Changes, BeginTable, EndTable, LineBreak, Substack, Skip, SkipInBraces, Boxed, Smash, ContinuedFraction, GeneralFraction, Raise, InColor, Highlight, Rectangle, Arrow}
 use Rattle.latex2mathml_tex_grammar.specs.Refusal.{UnknownColumn, Refusal}
 use Rattle.latex2mathml_tex_grammar.specs.Scanning.{Name, ColumnList, Number, ColorName, Spot, BeforeArgument, InArgument, BeforeGap, InGap, BeforeWidth, InWidth, BeforeBrace, BeforePosition, InPosition, BehindPosition, BeforeStar, BehindStar, BeforeLength, BeforeLengthInBraces, InLength, BehindSign, InNumber, InDecimals, BehindLetter, BehindLength, AtBracket, AtBrace, AtUnit, BeforeRow, Deed, Passes, Adds, Ends, Leaves, Misses, Refuses, deed, done, is_spacing, is_line, may_end, found_at_end, with_character, Found, Given, Missing, scan, behind_found, past, past_break}
 use Rattle.latex2mathml_tex_grammar.specs.Spacing.{Standing, standing_behind, takes_words, AreAlike, both_end, both_stop, same_piece, space_before, space_behind}
@@ -92,6 +92,7 @@ spaces_take_none (Some SkipInBraces) h = cc
 spaces_take_none (Some (Boxed box)) h = cc
 spaces_take_none (Some Smash) h = cc
 spaces_take_none (Some ContinuedFraction) h = cc
+spaces_take_none (Some GeneralFraction) h = cc
 spaces_take_none (Some Raise) h = cc
 spaces_take_none (Some InColor) h = cc
 spaces_take_none (Some Highlight) h = cc

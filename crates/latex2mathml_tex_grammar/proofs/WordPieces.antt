@@ -2,13 +2,13 @@
 use Rattle.std.proofs.Common.{◌≡◌, ℕ, Bool, true, false, inl, inr, List, Option, Some, None, codes, refl, ◌==◌, if◌then◌else◌, ◌||◌}
 use Rattle.std.proofs.lemmas.Bool.{cases_Bool}
 use Rattle.std.specs.Str.{byte, bytes_eq}
-use Rattle.latex2mathml_tex_grammar.specs.{Commands.command_entries, Commands.meaning_of, CommandsFromM.commands_from_m, CommandsUpToL.commands_up_to_l}
-use Rattle.latex2mathml_tex_grammar.specs.Meaning.{Meaning, Shows, FunctionName, Dots, Spacing, Styled, Words as TakesWordsIn, Fraction, Root, Accent, Brace, Stack, StackedRelation, OperatorName, Negation, Slash, Sized, Left, Middle, Right, Limits, NoLimits, Classed, Changes, BeginTable, EndTable, LineBreak, Substack, Skip, SkipInBraces, Boxed, Smash, ContinuedFraction, Raise, InColor, Highlight, Rectangle, Arrow}
+use Rattle.latex2mathml_tex_grammar.specs.{Commands.meaning_of, Delimiters.entry_of_name, TextCommands.text_commands}
+use Rattle.latex2mathml_tex_grammar.specs.Meaning.{Meaning, Shows, FunctionName, Dots, Spacing, Styled, Words as TakesWordsIn, Fraction, Root, Accent, Brace, Stack, StackedRelation, OperatorName, Negation, Slash, Sized, Left, Middle, Right, Limits, NoLimits, Classed, Changes, BeginTable, EndTable, LineBreak, Substack, Skip, SkipInBraces, Boxed, Smash, ContinuedFraction, GeneralFraction, Raise, InColor, Highlight, Rectangle, Arrow}
 use Rattle.latex2mathml_tex_grammar.specs.{Next.is_space_piece, Refusal.Kind, Symbols.Alphabet}
 use Rattle.latex2mathml_tex_grammar.specs.Spacing.{Standing, BeforeWords, InWords, BetweenDollars, standing_behind, is_in_words, takes_words}
 use Rattle.latex2mathml_tex_grammar.specs.Units.{Piece, Space, Open, Close, Command, Character}
-use Rattle.latex2mathml_tex_grammar.specs.Words.{Word, WordRule, IsWord, BeginsGroup, EndsGroup, BeginsFormula, TakesWords, NoWord, word_rule, meaning_rule, is_escape}
-use Rattle.latex2mathml_tex_grammar.proofs.{AlikeRules.WordsStand, AlikeRules.before_words, AlikeRules.within_words, Plain.TakesNone, Plain.is_named}
+use Rattle.latex2mathml_tex_grammar.specs.Words.{Word, WordRule, IsWord, BeginsGroup, EndsGroup, BeginsFormula, TakesWords, NoWord, word_rule, command_rule, meaning_rule}
+use Rattle.latex2mathml_tex_grammar.proofs.{AlikeRules.WordsStand, AlikeRules.before_words, AlikeRules.within_words, Plain.TakesNone, Plain.text_command_plain}
 
 -- the piece is all of the words before which it stands, or one part of those in braces
 abbrev pub EndsWord : Piece → Type 0
@@ -39,32 +39,6 @@ data InAWord : Piece → WordRule → Type 0 where
   no_word_here : {piece : Piece} {kind : Kind} → InAWord piece (NoWord kind)
   opens : InAWord Open BeginsGroup
   closes : InAWord Close EndsGroup
-
--- the names that are one character in words take none
-escape_plain : (name : List ℕ) → is_escape name ≡ true → TakesNone name
-unfolding meaning_of command_entries commands_up_to_l commands_from_m
-escape_plain name h = elim (cases_Bool (bytes_eq name (codes "%"))) [
-  | inl s ↦ is_named (codes "%") name refl s
-  | inr s ↦ elim (cases_Bool (bytes_eq name (codes "_"))) [
-    | inl s1 ↦ is_named (codes "_") name refl s1
-    | inr s1 ↦ elim (cases_Bool (bytes_eq name (codes "&"))) [
-      | inl s2 ↦ is_named (codes "&") name refl s2
-      | inr s2 ↦ elim (cases_Bool (bytes_eq name (codes "#"))) [
-        | inl s3 ↦ is_named (codes "#") name refl s3
-        | inr s3 ↦ elim (cases_Bool (bytes_eq name (codes "$"))) [
-          | inl s4 ↦ is_named (codes "$") name refl s4
-          | inr s4 ↦ elim (cases_Bool (bytes_eq name (codes "{"))) [
-            | inl s5 ↦ is_named (codes "{") name refl s5
-            | inr s5 ↦ elim (cases_Bool (bytes_eq name (codes "}"))) [
-              | inl s6 ↦ is_named (codes "}") name refl s6
-              | inr s6 ↦ absurd (cc (rw (s, s1, s2, s3, s4, s5, s6) at h))
-            ]
-          ]
-        ]
-      ]
-    ]
-  ]
-]
 
 by_meaning : (name : List ℕ) (meaning : Option Meaning) → meaning_of name ≡ meaning → InAWord (Command name) (meaning_rule name meaning)
 by_meaning name None e = no_word_here
@@ -100,6 +74,7 @@ by_meaning name (Some SkipInBraces) e = no_word_here
 by_meaning name (Some (Boxed box)) e = no_word_here
 by_meaning name (Some Smash) e = no_word_here
 by_meaning name (Some ContinuedFraction) e = no_word_here
+by_meaning name (Some GeneralFraction) e = no_word_here
 by_meaning name (Some Raise) e = no_word_here
 by_meaning name (Some InColor) e = no_word_here
 by_meaning name (Some Highlight) e = no_word_here
@@ -111,6 +86,10 @@ either : {piece : Piece} {r s : WordRule} (b : Bool) → (b ≡ true → InAWord
 either true x y = x refl
 either false x y = y refl
 
+by_entry : (name : List ℕ) (found : Option ℕ) → entry_of_name text_commands name ≡ found → InAWord (Command name) (command_rule name found)
+by_entry name (Some c) e = a_word (command_ends name (text_command_plain name c e))
+by_entry name None e = by_meaning name (meaning_of name) refl
+
 in_a_word : (a : Option Alphabet) (piece : Piece) → InAWord piece (word_rule a piece)
 in_a_word a Space = a_word space_ends
 in_a_word a Open = opens
@@ -119,7 +98,7 @@ in_a_word a (Character c) =
     either (c == byte "$") a_formula (λ h.
     either (c == byte "~") (λ e. a_word (character_ends c h)) (λ e.
     either (c == byte "_" || c == byte "^" || c == byte "&" || c == byte "#") (λ e. no_word_here) (λ e. a_word (character_ends c h))))
-in_a_word a (Command name) = either (is_escape name) (λ e. a_word (command_ends name (escape_plain name e))) (λ e. by_meaning name (meaning_of name) refl)
+in_a_word a (Command name) = by_entry name (entry_of_name text_commands name) refl
 
 word_is : {piece : Piece} {r : WordRule} {w : Word} → InAWord piece r → r ≡ IsWord w → EndsWord piece
 word_is (a_word ends) e = ends

@@ -1,7 +1,7 @@
 -- The commands up to those that begin with l, in the order of their names' bytes. A name is its bytes, without the
 -- backslash; a character is its code point, and stands after its line as well.
 use Rattle.std.specs.Prelude.{ℕ, pos, negsuc, List, [], ◌∷◌, Some, None, codes}
-use Rattle.latex2mathml_tex_grammar.specs.Meaning.{Meaning, Dots, Shows, FunctionName, Spacing, Styled, Words, Fraction, Accent, Sized, Left, Limits, Changes, ToAlphabet, ToStyle, Divides, words_apart, BeginTable, EndTable, LineBreak, Skip, SkipInBraces, ContinuedFraction, Boxed, PhantomWidth, StrikeUp, StrikeDown, Beside, ByStyle, Bar, NoBar, Braced, Bracketed, Bare, Frame, ToColor}
+use Rattle.latex2mathml_tex_grammar.specs.Meaning.{Meaning, Dots, Shows, FunctionName, Spacing, Styled, Words, Fraction, Accent, Sized, Left, Limits, Changes, ToAlphabet, ToStyle, Divides, words_apart, BeginTable, EndTable, LineBreak, Skip, SkipInBraces, ContinuedFraction, GeneralFraction, Boxed, PhantomWidth, StrikeUp, StrikeDown, Beside, ByStyle, Bar, NoBar, Braced, Bracketed, Bare, Frame, ToColor}
 use Rattle.latex2mathml_tex_grammar.specs.Symbols.{Letter, UprightLetter, Sign, BigOperator, Integral, Ordinary, Binary, Relation, Opening, Closing, Punctuation, Inner, Italic, Bold, BoldItalic, DoubleStruck, Fraktur, Calligraphic, InDisplay}
 use Rattle.latex2mathml_elements.specs.Attributes.{Above, Rigid, Big, Bigger, VeryBig, Biggest}
 
@@ -297,6 +297,7 @@ commands_up_to_l =
     (codes "gamma", Shows (Letter 0x03B3)) ∷  -- γ
     (codes "gcd", FunctionName ByStyle (codes "gcd")) ∷
     (codes "ge", Shows (Sign Relation 0x2265)) ∷  -- ≥
+    (codes "genfrac", GeneralFraction) ∷
     (codes "geq", Shows (Sign Relation 0x2265)) ∷  -- ≥
     (codes "geqq", Shows (Sign Relation 0x2267)) ∷  -- ≧
     (codes "geqslant", Shows (Sign Relation 0x2A7E)) ∷  -- ⩾

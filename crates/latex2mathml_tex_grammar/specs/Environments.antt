@@ -69,6 +69,7 @@ environments =
     (codes "bmatrix", between (codes "[") (codes "]") matrix) ∷
     (codes "cases", between (codes "{") [] (cells_in (Alike LeftAligned) InText)) ∷
     (codes "dcases", between (codes "{") [] (cells_in (Alike LeftAligned) InDisplay)) ∷
+    (codes "displaymath", lines) ∷
     (codes "drcases", between [] (codes "}") (cells_in (Alike LeftAligned) InDisplay)) ∷
     (codes "eqnarray", around_relation) ∷
     (codes "eqnarray*", around_relation) ∷
@@ -79,6 +80,7 @@ environments =
     (codes "gather", lines) ∷
     (codes "gather*", lines) ∷
     (codes "gathered", placed lines) ∷
+    (codes "math", matrix) ∷
     (codes "matrix", matrix) ∷
     (codes "multline", cells_in (Alike LeftAligned) InDisplay) ∷
     (codes "multline*", cells_in (Alike LeftAligned) InDisplay) ∷

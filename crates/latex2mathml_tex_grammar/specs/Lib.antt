@@ -37,6 +37,7 @@ pub mod SpacingExamples
 pub mod Starts
 pub mod Symbols
 pub mod Tables
+pub mod TextCommands
 pub mod Units
 pub mod UsualMacros
 pub mod Words

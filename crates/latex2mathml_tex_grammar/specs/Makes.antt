@@ -247,6 +247,27 @@ fraction_element Bare above below = without_bar above below
 abbrev pub fraction : FractionRule → Option Style → Element → Element → Core
 fraction rule own above below = core (atom (Plain Inner) true (in_style own (fraction_element rule above below)))
 
+-- how an author says that a fraction is drawn: its delimiters, of which an empty text is none, whether it has a line, and its
+-- style, where it has one of its own
+pub record Outline : Type 0 where
+  pub opening : List ℕ
+  pub closing : List ℕ
+  pub has_line : Bool
+  pub own : Option Style
+
+abbrev pub quotient : Bool → Element → Element → Element
+quotient true above below = pair Mfrac plain above below
+quotient false above below = without_bar above below
+
+-- an element between delimiters, where there is any
+abbrev pub between_any : List ℕ → List ℕ → Element → Element
+between_any [] [] x = x
+between_any opening closing x = fenced true opening closing x
+
+abbrev pub outlined_fraction : Outline → Element → Element → Core
+outlined_fraction o above below =
+    core (atom (Plain Inner) true (in_style o.own (between_any o.opening o.closing (quotient o.has_line above below))))
+
 abbrev pub square_root : Element → Core
 square_root x = core (atom (Plain Ordinary) true (container Msqrt plain (children (x ∷ []))))
 

@@ -89,6 +89,8 @@ pub data Meaning : Type 0 where
   Fraction : FractionRule → Option Style → Meaning
   -- a fraction in the style of a block, whose numerator may be pushed to a side
   ContinuedFraction : Meaning
+  -- a fraction whose delimiters, line and style its author says
+  GeneralFraction : Meaning
   Root : Meaning
   -- a mark on one operand
   Accent : Side → ℕ → Stretch → Meaning

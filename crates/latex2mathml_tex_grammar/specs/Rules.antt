@@ -1,17 +1,17 @@
 -- The rules of formulas: what a unit begins, as one table. A rule says what is read from left to right, and at its end
 -- an atom or a refusal.
-use Rattle.std.specs.Prelude.{ℕ, ℤ, pos, ◌==◌, ◌||◌, Bool, nat_le, length, true, false, List, [], ◌∷◌, ◌++◌, Option, Some, None, if◌then◌else◌}
+use Rattle.std.specs.Prelude.{ℕ, zero, ℤ, pos, ◌==◌, ◌||◌, Bool, nat_le, length, true, false, List, [], ◌∷◌, ◌++◌, Option, Some, None, if◌then◌else◌}
 use Rattle.std.specs.{Char.is_ascii_alphabetic, Char.is_ascii_digit, Str.byte, Str.bytes_eq}
 use Rattle.latex2mathml_elements.specs.{Attributes.Above, Columns.Columns, Columns.Dense, Columns.Alike, Columns.Listed, Element.Element}
-use Rattle.latex2mathml_tex_grammar.specs.{Atoms.Plain, Atoms.atom, Commands.meaning_of, Commands.symbol_of, Delimiters.negated_of, Dots.centered_dots, Dots.centers_dots, Dots.low_dots, Rows.Row, Rows.Operand, Rows.as_base, Rows.operand_of, Rows.row_element}
+use Rattle.latex2mathml_tex_grammar.specs.{Atoms.Plain, Atoms.atom, Commands.meaning_of, Commands.symbol_of, Delimiters.delimiter_of, Delimiters.negated_of, Dots.centered_dots, Dots.centers_dots, Dots.low_dots, Rows.Row, Rows.Operand, Rows.as_base, Rows.operand_of, Rows.row_element}
 use Rattle.latex2mathml_tex_grammar.specs.Environments.{Environment, columns_of, environment_of, pairs}
-use Rattle.latex2mathml_tex_grammar.specs.Makes.{Core, core, letter, upright_letter, number, relation, symbol, function_name, spacing, group, classed, no_letters, operator_name, accent, brace, stack, fraction, square_root, root, between_delimiters, sized, struck, blank, boxed_atom, bar, arrow}
-use Rattle.latex2mathml_tex_grammar.specs.Meaning.{Meaning, Shows, FunctionName, Dots, Spacing, Styled, Words as TakesWordsIn, Fraction, Root, Accent, Brace, Stack, StackedRelation, OperatorName, Negation, Slash, Sized, Left, Middle, Right, Limits, NoLimits, Classed, Changes, Beside, ByStyle, FractionRule, BeginTable, EndTable, LineBreak, Substack, Skip, SkipInBraces, Box, Smashed, WithoutHeight, WithoutDepth, Boxed, Smash, Raise, InColor, Highlight, Rectangle, Arrow, Raised, Colored, OnColor, ContinuedFraction, Bar}
-use Rattle.latex2mathml_tex_grammar.specs.Refusal.{UnknownCommand, MissingArgument, ChangeAsArgument, UnopenedBrace, RightWithoutLeft, MiddleWithoutLeft, LimitsWithoutOperator, NothingToNegate, OutsideTable, MisplacedCharacter, Refusal, refusal_at, UnknownEnvironment, EndWithoutBegin, OtherName, TooManyColumns, LengthTooLarge, UnknownColor}
+use Rattle.latex2mathml_tex_grammar.specs.Makes.{Core, core, letter, upright_letter, number, relation, symbol, function_name, spacing, group, classed, no_letters, operator_name, accent, brace, stack, fraction, square_root, root, between_delimiters, sized, struck, blank, boxed_atom, bar, arrow, Outline, outlined_fraction}
+use Rattle.latex2mathml_tex_grammar.specs.Meaning.{Meaning, Shows, FunctionName, Dots, Spacing, Styled, Words as TakesWordsIn, Fraction, Root, Accent, Brace, Stack, StackedRelation, OperatorName, Negation, Slash, Sized, Left, Middle, Right, Limits, NoLimits, Classed, Changes, Beside, ByStyle, FractionRule, BeginTable, EndTable, LineBreak, Substack, Skip, SkipInBraces, Box, Smashed, WithoutHeight, WithoutDepth, Boxed, Smash, Raise, InColor, Highlight, Rectangle, Arrow, Raised, Colored, OnColor, ContinuedFraction, GeneralFraction, Bar}
+use Rattle.latex2mathml_tex_grammar.specs.Refusal.{UnknownCommand, MissingArgument, MissingDelimiter, ChangeAsArgument, UnopenedBrace, RightWithoutLeft, MiddleWithoutLeft, LimitsWithoutOperator, NothingToNegate, OutsideTable, MisplacedCharacter, Refusal, refusal_at, UnknownEnvironment, EndWithoutBegin, OtherName, TooManyColumns, LengthTooLarge, UnknownColor}
 use Rattle.latex2mathml_tex_grammar.specs.Scanning.{Spot, Argument, Name, ColumnList, Number, BeforeArgument, BeforeBrace, BeforePosition, AtUnit, BeforeLengthInBraces, BeforeStar, InLength, AtBracket, ColorName}
 use Rattle.latex2mathml_tex_grammar.specs.{Colors.color_of, Lengths.width_of}
 use Rattle.latex2mathml_elements.specs.Colors.{Color}
-use Rattle.latex2mathml_tex_grammar.specs.Symbols.{Style, InDisplay, InScript, smaller, Alphabet, Upright, Ordinary, Relation, Symbol}
+use Rattle.latex2mathml_tex_grammar.specs.Symbols.{Style, InDisplay, InText, InScript, smaller, Alphabet, Upright, Ordinary, Relation, Symbol}
 use Rattle.latex2mathml_tex_grammar.specs.Tables.{Lines, a_table}
 use Rattle.latex2mathml_tex_grammar.specs.Units.{Piece, Space, Open, Close, Command, Character}
 use Rattle.latex2mathml_tex_grammar.specs.Words.{Words, words_atom}
@@ -265,6 +265,60 @@ a_continued_fraction place c =
     let whole = a_fraction place c Bar (Some InDisplay) in
     takes_if (in_brackets (byte "l")) (λ left. whole) (takes_if (in_brackets (byte "r")) (λ right. whole) whole)
 
+-- Fractions whose delimiters, line and style their authors say
+
+abbrev pub a_left_brace : Piece → Option (List ℕ)
+a_left_brace Open = Some []
+a_left_brace piece = None
+
+abbrev pub a_right_brace : Piece → Option (List ℕ)
+a_right_brace Close = Some []
+a_right_brace piece = None
+
+-- braces with nothing in them
+abbrev pub empty_braces : List (Piece → Option (List ℕ))
+empty_braces = a_left_brace ∷ a_right_brace ∷ []
+
+-- a delimiter, which may stand in braces; empty braces are none
+abbrev pub an_outer_delimiter : ℕ → (List ℕ → Rule) → Rule
+an_outer_delimiter place more =
+    takes_if (delimiter_of ∷ []) more
+    (takes_if (a_left_brace ∷ delimiter_of ∷ a_right_brace ∷ []) more
+    (takes_if empty_braces more (refuses (refusal_at MissingDelimiter place))))
+
+-- whether there is a line: not where its width in braces is zero
+abbrev pub has_width : ℤ → Bool
+has_width (pos zero) = false
+has_width width = true
+
+abbrev pub a_line : ℕ → (Bool → Rule) → Rule
+a_line place more = takes_if empty_braces (λ usual. more true) (a_length place BeforeLengthInBraces (λ width. more (has_width width)))
+
+-- the style of this number, where there is one; none is the style around the fraction
+abbrev pub numbered_style : List ℕ → Option (Option Style)
+numbered_style [] = Some None
+numbered_style (c ∷ []) =
+    if c == byte "0" then Some (Some InDisplay)
+    else if c == byte "1" then Some (Some InText)
+    else if c == byte "2" || c == byte "3" then Some (Some InScript)
+    else None
+numbered_style digits = None
+
+abbrev pub a_style : ℕ → (Option Style → Rule) → Rule
+a_style place more = takes_found (BeforeArgument Number) place (λ number. with_value (refusal_at MissingArgument place) more (numbered_style number))
+
+abbrev pub an_outline : ℕ → (Outline → Rule) → Rule
+an_outline place more =
+    an_outer_delimiter place (λ opening. an_outer_delimiter place (λ closing. a_line place (λ has_line. a_style place (λ own.
+    more (record { opening = opening; closing = closing; has_line = has_line; own = own })))))
+
+abbrev pub an_outlined_fraction : ℕ → Context → Outline → Rule
+an_outlined_fraction place c o =
+    let part = styled c (smaller (own_style o.own c.style)) in of_two place part part (λ above below. outlined_fraction o above.element below.element)
+
+abbrev pub a_general_fraction : ℕ → Context → Rule
+a_general_fraction place c = an_outline place (an_outlined_fraction place c)
+
 -- the rule of a command with this meaning, at this place
 abbrev pub meaning_rule : ℕ → Context → Meaning → Rule
 meaning_rule place c (Shows s) = gives (symbol c.alphabet s)
@@ -284,6 +338,7 @@ meaning_rule place c (Styled alphabet) = of_one place (in_context c.style (Some 
 meaning_rule place c (TakesWordsIn alphabet) = reads_words place alphabet (λ ws. gives (core (words_atom ws)))
 meaning_rule place c (Fraction rule own) = a_fraction place c rule own
 meaning_rule place c ContinuedFraction = a_continued_fraction place c
+meaning_rule place c GeneralFraction = a_general_fraction place c
 meaning_rule place c Root = a_root place c
 meaning_rule place c (Accent side mark width) = of_one place c (λ x. accent side mark width x.element)
 meaning_rule place c (Brace side mark) = of_one place c (λ x. brace side mark x.element)

@@ -12,7 +12,7 @@ pub data Argument : Type 0 where
   Name : Argument
   -- the columns of a table
   ColumnList : Argument
-  -- a number, which means nothing here
+  -- a number
   Number : Argument
   -- the name of a color
   ColorName : Argument
@@ -102,7 +102,7 @@ column_deed c =
 abbrev pub character_deed : Argument → ℕ → Deed
 character_deed Name c = name_deed c
 character_deed ColumnList c = column_deed c
-character_deed Number c = passes_if (is_ascii_digit c) (InArgument Number)
+character_deed Number c = adds_if (is_ascii_digit c) c (InArgument Number)
 character_deed ColorName c = adds_if (is_ascii_alphanumeric c || c == byte "#") c (InArgument ColorName)
 
 -- any unit but a character and the brace that ends the argument

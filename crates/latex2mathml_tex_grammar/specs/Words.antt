@@ -1,8 +1,8 @@
 -- Words: what stands in `\text` and its like, character by character.
-use Rattle.std.specs.Prelude.{ℕ, ◌==◌, ◌||◌, Bool, true, false, List, [], ◌∷◌, ◌++◌, Option, Some, None, codes, if◌then◌else◌}
-use Rattle.std.specs.{Str.byte, Str.bytes_eq}
+use Rattle.std.specs.Prelude.{ℕ, ◌==◌, ◌||◌, Bool, true, false, List, [], ◌∷◌, ◌++◌, Option, Some, None, if◌then◌else◌}
+use Rattle.std.specs.Str.{byte}
 use Rattle.latex2mathml_elements.specs.{Attributes.plain, Element.Element, Element.Mtext, Element.token}
-use Rattle.latex2mathml_tex_grammar.specs.{Alphabets.in_alphabet, Atoms.Atom, Atoms.Plain, Atoms.atom, Commands.meaning_of, Dots.low_dots, Makes.symbol, Makes.text, Rows.row_element, Rows.single}
+use Rattle.latex2mathml_tex_grammar.specs.{Alphabets.in_alphabet, Atoms.Atom, Atoms.Plain, Atoms.atom, Commands.meaning_of, Delimiters.entry_of_name, Dots.low_dots, Makes.symbol, Makes.text, Rows.row_element, Rows.single, TextCommands.text_commands}
 use Rattle.latex2mathml_tex_grammar.specs.Meaning.{Meaning, Shows, Dots, Spacing, Words as TakesWordsIn}
 use Rattle.latex2mathml_tex_grammar.specs.Refusal.{Kind, CommandInWords, CharacterInWords, UnknownCommand}
 use Rattle.latex2mathml_tex_grammar.specs.Symbols.{Alphabet, Ordinary, InText}
@@ -43,10 +43,7 @@ character_rule alphabet c =
     else if c == byte "_" || c == byte "^" || c == byte "&" || c == byte "#" then NoWord (CharacterInWords c)
     else IsWord (Shown (text (word_character alphabet c)))
 
--- a command that is one character in words
-abbrev pub is_escape : List ℕ → Bool
-is_escape name = bytes_eq name (codes "%") || bytes_eq name (codes "_") || bytes_eq name (codes "&") || bytes_eq name (codes "#") || bytes_eq name (codes "$") || bytes_eq name (codes "{") || bytes_eq name (codes "}")
-
+-- what a command is in words, by its meaning
 abbrev pub meaning_rule : List ℕ → Option Meaning → WordRule
 meaning_rule name (Some (Spacing width)) = IsWord word_space
 meaning_rule name (Some (Shows sign)) = IsWord (Formula (single InText (symbol None sign).atom).element)
@@ -55,13 +52,18 @@ meaning_rule name (Some (TakesWordsIn alphabet)) = TakesWords alphabet
 meaning_rule name (Some meaning) = NoWord (CommandInWords name)
 meaning_rule name None = NoWord (UnknownCommand name)
 
+-- .. that is one character in words, where it is
+abbrev pub command_rule : List ℕ → Option ℕ → WordRule
+command_rule name (Some c) = IsWord (Shown (text c))
+command_rule name None = meaning_rule name (meaning_of name)
+
 -- what a unit is in words of this alphabet
 abbrev pub word_rule : Option Alphabet → Piece → WordRule
 word_rule alphabet Space = IsWord word_space
 word_rule alphabet Open = BeginsGroup
 word_rule alphabet Close = EndsGroup
 word_rule alphabet (Character c) = character_rule alphabet c
-word_rule alphabet (Command name) = if is_escape name then IsWord (Shown name) else meaning_rule name (meaning_of name)
+word_rule alphabet (Command name) = command_rule name (entry_of_name text_commands name)
 
 -- Words so far: their elements, the last one first, and whether the last one is a text.
 pub record Words : Type 0 where

@@ -26,7 +26,8 @@ pub trait TextFiles {
     /// - [`FileFault::NotText`] if its bytes are not UTF-8.
     /// - [`FileFault::Refused`] if memory runs out.
     fn read(&self, alloc: Global, name: &str) -> Result<String, FileFault>
-        ensures whole { IfOk result (λ text. IsKnownAs (bytes_of self.now name.now) (string_bytes text)) }
+        ensures whole { IfOk result (λ text.
+            IsKnownAs (bytes_of self.now name.now) (string_bytes text)) }
         ensures fault { IfErr result (IsUnread (bytes_of self.now name.now)) };
 }
 
@@ -68,7 +69,8 @@ pub(crate) fn macros_of<'a, 't>(
     definitions: &'t str,
 ) -> Result<Macros<'t>, Fault<'a>>
     ensures hold { IfOk result (λ macros. (table : Table)
-        × Hold request.entry.definitions definitions.now table × SameMacros table (macros_in macros)) }
+        × Hold request.entry.definitions definitions.now table
+        × SameMacros table (macros_in macros)) }
     ensures fault { IfErr result (IsRefusedFault request.entry.definitions definitions.now) }
 {
     let Some(name) = request.definitions else {

@@ -142,7 +142,8 @@ fn append_refusal(
 
 /// Appends a line that says what kind of reply it is, what the reply says, and a NUL.
 fn append_said(replies: &mut String, kind: &str, said: &str) -> Result<(), AllocError>
-    ensures { OnOk result (string_bytes replies.new ≡ string_bytes replies.old ++ (kind.now ++ (said.now ++ 0 ∷ []))) }
+    ensures { OnOk result (string_bytes replies.new
+        ≡ string_bytes replies.old ++ (kind.now ++ (said.now ++ 0 ∷ []))) }
 {
     replies.push_str(kind)?;
     replies.push_str(said)?;

@@ -65,7 +65,8 @@ pub fn requested<'a>(alloc: Global, words: &'a [String]) -> Result<Request<'a>, 
 
 /// Returns `--display DISPLAY`.
 fn display_argument<'a>(alloc: Global) -> Arg<'a>
-    ensures rule { (choice : ValueParser) × IsChoice choice × (rule_of result ≡ display_rule choice) }
+    ensures rule { (choice : ValueParser) × IsChoice choice
+        × (rule_of result ≡ display_rule choice) }
     ensures local { result.global ≡ false }
 {
     Arg::new(alloc, "display")

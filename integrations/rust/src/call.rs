@@ -3,7 +3,7 @@
 //! Its conditions hold for every `&str`: its pointer is not null also where it is empty, its length is at most
 //! `isize::MAX`, and nobody changes it during the call. The room is this module's own.
 
-use crate::LatexError;
+use crate::{LatexError, Refusal, TexError};
 use std::os::raw::c_char;
 
 const DONE: u32 = 0;
@@ -48,30 +48,38 @@ extern "C" {
 
 pub fn formula(latex: &str, block: bool) -> Result<String, LatexError> {
     // SAFETY: the module's comment says why the conditions of the header hold.
-    convert(latex.len(), |room, length, needed| unsafe {
+    plain(latex.len(), |room, length, needed| unsafe {
         latex2mathml_formula(latex.as_ptr().cast(), latex.len(), block, room, length, needed)
     })
 }
 
 pub fn document(document: &str) -> Result<String, LatexError> {
     // SAFETY: as above.
-    convert(document.len(), |room, length, needed| unsafe {
+    plain(document.len(), |room, length, needed| unsafe {
         latex2mathml_document(document.as_ptr().cast(), document.len(), room, length, needed)
     })
 }
 
-pub fn tex(tex: &str, block: bool, definitions: &str) -> Result<String, LatexError> {
+/// A call that tells no place.
+fn plain(length: usize, call: impl FnMut(*mut c_char, usize, *mut usize) -> u32) -> Result<String, LatexError> {
+    let (code, text) = convert(length, call).ok_or(LatexError::OutOfMemory)?;
+    match code {
+        DONE => Ok(text),
+        _ => Err(LatexError::Refused(text)),
+    }
+}
+
+pub fn tex(tex: &str, block: bool, definitions: &str) -> Result<String, TexError> {
     tex_with(0, tex, block, definitions)
 }
 
-pub fn tex_with_source(tex: &str, block: bool, definitions: &str) -> Result<String, LatexError> {
+pub fn tex_with_source(tex: &str, block: bool, definitions: &str) -> Result<String, TexError> {
     tex_with(ANNOTATION, tex, block, definitions)
 }
 
-fn tex_with(flags: u32, tex: &str, block: bool, definitions: &str) -> Result<String, LatexError> {
-    convert(tex.len(), |room, length, needed| {
-        // The reason has the place too.
-        let mut place = 0;
+fn tex_with(flags: u32, tex: &str, block: bool, definitions: &str) -> Result<String, TexError> {
+    let mut place = 0;
+    let outcome = convert(tex.len(), |room, length, needed| {
         // SAFETY: as above.
         unsafe {
             latex2mathml_tex(
@@ -87,12 +95,18 @@ fn tex_with(flags: u32, tex: &str, block: bool, definitions: &str) -> Result<Str
                 &mut place,
             )
         }
-    })
+    });
+    let (code, text) = outcome.ok_or(TexError::OutOfMemory)?;
+    match code {
+        DONE => Ok(text),
+        DEFINITION_REFUSED => Err(TexError::RefusedDefinitions(Refusal::new(text, definitions, place))),
+        _ => Err(TexError::Refused(Refusal::new(text, tex, place))),
+    }
 }
 
-/// Makes the call with room for what it comes to. A second time, where the first room is too small, is the last: the call
-/// then has what it asked for.
-fn convert(length: usize, call: impl Fn(*mut c_char, usize, *mut usize) -> u32) -> Result<String, LatexError> {
+/// Makes the call with room for what it comes to, and returns its code with the text, unless memory ran out. A second time, where
+/// the first room is too small, is the last: the call then has what it asked for.
+fn convert(length: usize, mut call: impl FnMut(*mut c_char, usize, *mut usize) -> u32) -> Option<(u32, String)> {
     let mut text: Vec<u8> = Vec::new();
     // Where so much is not found, the call with no room tells how much it takes.
     let _ = text.try_reserve_exact(likely_room(length));
@@ -100,22 +114,17 @@ fn convert(length: usize, call: impl Fn(*mut c_char, usize, *mut usize) -> u32) 
         let mut needed = 0;
         let code = call(text.as_mut_ptr().cast(), text.capacity(), &mut needed);
         if code == TOO_SMALL {
-            text.try_reserve_exact(needed).map_err(|_| LatexError::OutOfMemory)?;
+            text.try_reserve_exact(needed).ok()?;
             continue;
         }
-        // SAFETY: after these four codes the first `needed` bytes of the room hold a text in UTF-8, and after any other
-        // `needed` is 0.
+        // SAFETY: after a code with a text the first `needed` bytes of the room hold it, in UTF-8, and after any other `needed`
+        // is 0.
         let mut text = unsafe {
             text.set_len(needed);
             String::from_utf8_unchecked(text)
         };
         text.shrink_to_fit();
-        return match code {
-            DONE => Ok(text),
-            REFUSED | NOT_UTF8 => Err(LatexError::Refused(text)),
-            DEFINITION_REFUSED => Err(LatexError::RefusedDefinitions(text)),
-            _ => Err(LatexError::OutOfMemory),
-        };
+        return matches!(code, DONE | REFUSED | NOT_UTF8 | DEFINITION_REFUSED).then(|| (code, text));
     }
 }
 
@@ -127,13 +136,12 @@ fn likely_room(length: usize) -> usize {
 #[cfg(test)]
 mod tests {
     use super::*;
-    use std::cell::RefCell;
 
     /// A call that comes to a text, and tells the rooms that it was given.
-    fn answer_of(text: &str, code: u32) -> (Result<String, LatexError>, Vec<usize>) {
-        let rooms = RefCell::new(Vec::new());
+    fn answer_of(text: &str, code: u32) -> (Option<(u32, String)>, Vec<usize>) {
+        let mut rooms = Vec::new();
         let answer = convert(1, |room, length, needed| {
-            rooms.borrow_mut().push(length);
+            rooms.push(length);
             // SAFETY: `needed` is that of `convert`, and the text is put into a room that has room for it.
             unsafe {
                 *needed = text.len();
@@ -144,28 +152,40 @@ mod tests {
             }
             code
         });
-        (answer, rooms.into_inner())
+        (answer, rooms)
     }
 
     #[test]
     fn a_room_that_is_too_small() {
         let text = "é".repeat(1000);
         let (answer, rooms) = answer_of(&text, DONE);
-        assert_eq!(answer, Ok(text));
+        assert_eq!(answer, Some((DONE, text)));
         assert_eq!(rooms.len(), 2);
         assert!(rooms[0] < 2000 && rooms[1] >= 2000, "{:?}", rooms);
     }
 
     #[test]
     fn each_code() {
-        assert_eq!(answer_of("why", REFUSED).0, Err(LatexError::Refused("why".to_owned())));
-        assert_eq!(answer_of("why", NOT_UTF8).0, Err(LatexError::Refused("why".to_owned())));
-        assert_eq!(
-            answer_of("why", DEFINITION_REFUSED).0,
-            Err(LatexError::RefusedDefinitions("why".to_owned()))
-        );
-        assert_eq!(answer_of("", DONE).0, Ok(String::new()));
-        assert_eq!(answer_of("", 4).0, Err(LatexError::OutOfMemory));
+        for code in [DONE, REFUSED, NOT_UTF8, DEFINITION_REFUSED] {
+            assert_eq!(answer_of("why", code).0, Some((code, "why".to_owned())));
+        }
+        assert_eq!(answer_of("", DONE).0, Some((DONE, String::new())));
+        assert_eq!(answer_of("", 4).0, None);
+    }
+
+    #[test]
+    fn each_error() {
+        let error_of = |code| {
+            plain(0, |_, _, needed| {
+                // SAFETY: `needed` is that of `convert`.
+                unsafe { *needed = 0 };
+                code
+            })
+        };
+        assert_eq!(error_of(DONE), Ok(String::new()));
+        assert_eq!(error_of(REFUSED), Err(LatexError::Refused(String::new())));
+        assert_eq!(error_of(NOT_UTF8), Err(LatexError::Refused(String::new())));
+        assert_eq!(error_of(4), Err(LatexError::OutOfMemory));
     }
 
     #[test]
@@ -176,6 +196,6 @@ mod tests {
             assert_eq!(length, 0);
             DONE
         });
-        assert_eq!(answer, Ok(String::new()));
+        assert_eq!(answer, Some((DONE, String::new())));
     }
 }

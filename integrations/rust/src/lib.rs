@@ -19,8 +19,9 @@ use std::fmt;
 
 mod call;
 mod error;
+mod marks;
 
-pub use error::LatexError;
+pub use error::{LatexError, Refusal, TexError};
 
 /// Where a formula is shown.
 #[derive(Debug, Clone, Copy, PartialEq, Eq)]
@@ -41,7 +42,7 @@ impl fmt::Display for DisplayStyle {
 }
 
 /// Returns the `math` element of one formula, which has no dollar signs around it. An unknown command is not an error:
-/// it is marked in the markup, as `[PARSE ERROR: ..]`.
+/// it is marked in the markup, as `[PARSE ERROR: ..]`. [`latex_to_mathml_strict`] refuses it.
 ///
 /// # Errors
 ///
@@ -63,20 +64,41 @@ pub fn latex_to_mathml(latex: &str, display: DisplayStyle) -> Result<String, Lat
     call::formula(latex, display == DisplayStyle::Block)
 }
 
+/// The same, without marked errors: a formula with an unknown command is refused.
+///
+/// # Errors
+///
+/// As those of [`latex_to_mathml`], and [`LatexError::Refused`] for what it would mark as an error. The reason then names all
+/// that is marked.
+///
+/// # Examples
+///
+/// ```
+/// use latex2mathml::{latex_to_mathml_strict, DisplayStyle};
+///
+/// assert!(latex_to_mathml_strict(r"x \leq y", DisplayStyle::Inline).is_ok());
+///
+/// let refusal = latex_to_mathml_strict(r"x \le y", DisplayStyle::Inline).unwrap_err();
+/// assert_eq!(refusal.to_string(), r#"marked as an error: Undefined("Command(\"le\")")"#);
+/// ```
+pub fn latex_to_mathml_strict(latex: &str, display: DisplayStyle) -> Result<String, LatexError> {
+    marks::refuse_marks(latex_to_mathml(latex, display)?)
+}
+
 /// Returns the `math` element of a formula in LaTeX as authors write it, which has no dollar signs around it. It may use the usual
 /// macros of LaTeX and those of a text of definitions, which may be empty.
 ///
 /// # Errors
 ///
-/// [`LatexError::Refused`] if the formula cannot be read, for example because a command is unknown. The reason ends in the place:
-/// the byte of the formula where what is refused begins.
-/// [`LatexError::RefusedDefinitions`] if the definitions cannot be read. The place is then a byte of the definitions.
-/// [`LatexError::OutOfMemory`] if memory runs out.
+/// [`TexError::Refused`] if the formula cannot be read, for example because a command is unknown. It says where in the formula what
+/// is refused begins.
+/// [`TexError::RefusedDefinitions`] if the definitions cannot be read. The place is then one of the definitions.
+/// [`TexError::OutOfMemory`] if memory runs out.
 ///
 /// # Examples
 ///
 /// ```
-/// use latex2mathml::{tex_to_mathml, DisplayStyle};
+/// use latex2mathml::{tex_to_mathml, DisplayStyle, TexError};
 ///
 /// let markup = tex_to_mathml(r"x_i^2", DisplayStyle::Inline, "")?;
 /// assert!(markup.contains("<msubsup><mi>x</mi><mi>i</mi><mn>2</mn></msubsup>"));
@@ -84,11 +106,15 @@ pub fn latex_to_mathml(latex: &str, display: DisplayStyle) -> Result<String, Lat
 /// let markup = tex_to_mathml(r"\R", DisplayStyle::Block, r"\newcommand{\R}{\mathbb{R}}")?;
 /// assert!(markup.contains("<mi>ℝ</mi>"));
 ///
-/// let refusal = tex_to_mathml(r"x + \foo", DisplayStyle::Inline, "").unwrap_err();
-/// assert_eq!(refusal.to_string(), r"unknown command \foo at 4");
-/// # Ok::<(), latex2mathml::LatexError>(())
+/// if let Err(TexError::Refused(refusal)) = tex_to_mathml(r"x + \foo", DisplayStyle::Inline, "") {
+///     assert_eq!(refusal.message, r"unknown command \foo at 4");
+///     assert_eq!((refusal.place, refusal.line, refusal.column), (4, 1, 5));
+/// } else {
+///     panic!("it is not refused");
+/// }
+/// # Ok::<(), TexError>(())
 /// ```
-pub fn tex_to_mathml(tex: &str, display: DisplayStyle, definitions: &str) -> Result<String, LatexError> {
+pub fn tex_to_mathml(tex: &str, display: DisplayStyle, definitions: &str) -> Result<String, TexError> {
     call::tex(tex, display == DisplayStyle::Block, definitions)
 }
 
@@ -105,9 +131,9 @@ pub fn tex_to_mathml(tex: &str, display: DisplayStyle, definitions: &str) -> Res
 ///
 /// let markup = tex_to_mathml_with_source("x<y", DisplayStyle::Inline, "")?;
 /// assert!(markup.contains(r#"<annotation encoding="application/x-tex">x&lt;y</annotation>"#));
-/// # Ok::<(), latex2mathml::LatexError>(())
+/// # Ok::<(), latex2mathml::TexError>(())
 /// ```
-pub fn tex_to_mathml_with_source(tex: &str, display: DisplayStyle, definitions: &str) -> Result<String, LatexError> {
+pub fn tex_to_mathml_with_source(tex: &str, display: DisplayStyle, definitions: &str) -> Result<String, TexError> {
     call::tex_with_source(tex, display == DisplayStyle::Block, definitions)
 }
 
@@ -130,4 +156,26 @@ pub fn tex_to_mathml_with_source(tex: &str, display: DisplayStyle, definitions: 
 /// ```
 pub fn replace(document: &str) -> Result<String, LatexError> {
     call::document(document)
+}
+
+/// The same, without marked errors: a document with an unknown command in a formula is refused.
+///
+/// # Errors
+///
+/// As those of [`replace`], and [`LatexError::Refused`] for what it would mark as errors. The reason then names all that is
+/// marked.
+///
+/// # Examples
+///
+/// ```
+/// assert!(latex2mathml::replace_strict(r"Let $x \leq y$ be.").is_ok());
+///
+/// let refusal = latex2mathml::replace_strict(r"Let $x \le y$ be $\foo$.").unwrap_err();
+/// assert_eq!(
+///     refusal.to_string(),
+///     r#"marked as an error: Undefined("Command(\"le\")"), Undefined("Command(\"foo\")")"#
+/// );
+/// ```
+pub fn replace_strict(document: &str) -> Result<String, LatexError> {
+    marks::refuse_marks(replace(document)?)
 }

@@ -1,6 +1,6 @@
 //! What formulas in LaTeX as authors write it come to. The cases of the library itself are in cases/tex.
 
-use latex2mathml::{tex_to_mathml, tex_to_mathml_with_source, DisplayStyle, LatexError};
+use latex2mathml::{tex_to_mathml, tex_to_mathml_with_source, DisplayStyle, Refusal, TexError};
 
 const DEFINITIONS: &str = r"\newcommand{\R}{\mathbb{R}} \newcommand{\half}[1]{\frac{#1}{2}}";
 
@@ -60,10 +60,9 @@ fn annotations() {
             );
         }
     }
-    assert_eq!(
-        tex_to_mathml_with_source(r"x + \foo", DisplayStyle::Inline, ""),
-        Err(LatexError::Refused(r"unknown command \foo at 4".to_owned()))
-    );
+    let refused = tex_to_mathml_with_source(r"x + \foo", DisplayStyle::Inline, "");
+    assert_eq!(refused, tex_to_mathml(r"x + \foo", DisplayStyle::Inline, ""));
+    assert!(refused.is_err());
 }
 
 #[test]
@@ -74,27 +73,63 @@ fn styles() {
 }
 
 #[test]
+fn brackets_behind_commands_are_not_drawn() {
+    for tex in [r"\smash[b]{x}", r"\cfrac[l]{a}{b}"] {
+        let markup = tex_to_mathml(tex, DisplayStyle::Inline, "").unwrap();
+        assert!(!markup.contains('[') && !markup.contains(']'), "{}", markup);
+    }
+}
+
+#[test]
 fn a_definition_holds_in_its_formula_alone() {
     assert!(tex_to_mathml(r"\def\foo{x}\foo", DisplayStyle::Inline, "").is_ok());
     assert!(tex_to_mathml(r"\foo", DisplayStyle::Inline, "").is_err());
 }
 
+/// What a refusal says.
+fn said(refusal: &Refusal) -> (&str, usize, usize, usize) {
+    (&refusal.message, refusal.place, refusal.line, refusal.column)
+}
+
 #[test]
 fn refusals() {
-    for (tex, reason) in [(r"é\foo", r"unknown command \foo at 2"), ("{x", "{ is not closed at 0")] {
-        let wanted = Err(LatexError::Refused(reason.to_owned()));
-        assert_eq!(tex_to_mathml(tex, DisplayStyle::Inline, DEFINITIONS), wanted);
+    for (tex, wanted) in [
+        ("{x", ("{ is not closed at 0", 0, 1, 1)),
+        (r"é\foo", (r"unknown command \foo at 2", 2, 1, 2)),
+        ("x\né\n 𝟙\\foo", (r"unknown command \foo at 10", 10, 3, 3)),
+        (r"x\", ("a backslash ends the formula at 1", 1, 1, 2)),
+    ] {
+        let error = tex_to_mathml(tex, DisplayStyle::Inline, DEFINITIONS).unwrap_err();
+        assert_eq!(error.to_string(), wanted.0);
+        match error {
+            TexError::Refused(refusal) => assert_eq!(said(&refusal), wanted),
+            other => panic!("{:?}", other),
+        }
     }
 }
 
 #[test]
 fn refused_definitions() {
-    for (definitions, reason) in [
-        ("x", "not a definition at 0"),
-        (r"\def\a{x} y", "not a definition at 10"),
+    for (definitions, wanted) in [
+        ("x", ("not a definition at 0", 0, 1, 1)),
+        (r"\def\a{x} y", ("not a definition at 10", 10, 1, 11)),
+        ("% é\n\\def\\a{x}\ny", ("not a definition at 15", 15, 3, 1)),
     ] {
-        let wanted = Err(LatexError::RefusedDefinitions(reason.to_owned()));
-        assert_eq!(tex_to_mathml("x", DisplayStyle::Inline, definitions), wanted);
-        assert_eq!(tex_to_mathml("{", DisplayStyle::Inline, definitions), wanted);
+        for tex in ["x", "{"] {
+            let error = tex_to_mathml(tex, DisplayStyle::Inline, definitions).unwrap_err();
+            assert_eq!(error.to_string(), wanted.0);
+            match error {
+                TexError::RefusedDefinitions(refusal) => assert_eq!(said(&refusal), wanted),
+                other => panic!("{:?}", other),
+            }
+        }
     }
+}
+
+#[test]
+fn an_error_passes_through_a_box_and_between_threads() {
+    fn convert(tex: &str) -> Result<String, Box<dyn std::error::Error + Send + Sync>> {
+        Ok(tex_to_mathml(tex, DisplayStyle::Inline, "")?)
+    }
+    assert!(convert("}").unwrap_err().downcast_ref::<TexError>().is_some());
 }

@@ -18,7 +18,7 @@ pub(crate) fn entries() -> &'static [Entry]
 
 /// An entry for each command, in the order of their names' bytes.
 #[rattlefmt::skip]
-static ENTRIES: [Entry; 410] = [
+static ENTRIES: [Entry; 411] = [
     Entry { name: " ", meaning: Meaning::Spacing(6) },
     Entry { name: "!", meaning: Meaning::Spacing(-3) },
     Entry { name: "#", meaning: Meaning::Shows(Symbol::Sign(Class::Ordinary, '#')) },
@@ -309,6 +309,7 @@ static ENTRIES: [Entry; 410] = [
     Entry { name: "gamma", meaning: Meaning::Shows(Symbol::Letter('γ')) },
     Entry { name: "gcd", meaning: Meaning::FunctionName(LimitPlace::ByStyle, "gcd") },
     Entry { name: "ge", meaning: Meaning::Shows(Symbol::Sign(Class::Relation, '≥')) },
+    Entry { name: "genfrac", meaning: Meaning::GeneralFraction },
     Entry { name: "geq", meaning: Meaning::Shows(Symbol::Sign(Class::Relation, '≥')) },
     Entry { name: "geqq", meaning: Meaning::Shows(Symbol::Sign(Class::Relation, '≧')) },
     Entry { name: "geqslant", meaning: Meaning::Shows(Symbol::Sign(Class::Relation, '⩾')) },

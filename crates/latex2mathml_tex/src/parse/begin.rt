@@ -212,6 +212,7 @@ impl<'a> Parser<'a> {
             Meaning::Words(alphabet) => self.text(place, alphabet),
             Meaning::Fraction(rule, own) => self.open_fraction(rule, own, place, context),
             Meaning::ContinuedFraction => self.continued_fraction(place, context),
+            Meaning::GeneralFraction => self.general_fraction(place, context),
             Meaning::Root => self.root(place, context),
             Meaning::Accent(side, mark, stretch) => {
                 self.open(Frame::Last(Last::Accent(side, mark, stretch), place, context))

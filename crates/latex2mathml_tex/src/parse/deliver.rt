@@ -14,6 +14,7 @@ use crate::boxes::put_in_box;
 use crate::error::TexErrorKind;
 use crate::fractions::put_fraction;
 use crate::meaning::{Class, LimitPlace};
+use crate::outlines::put_outlined;
 use crate::parse::frames::{First, Frame, Last};
 use crate::parse::{Parser, State};
 use crate::shapes::{make_base, put_accent, put_brace, put_stack, with_atom};
@@ -91,6 +92,7 @@ impl<'a> Parser<'a> {
         let outer = self.frames.innermost(self.style).context();
         self.open(match first {
             First::Fraction(rule, own) => Frame::Last(Last::Fraction(rule, own), place, context),
+            First::Outlined(outline) => Frame::Last(Last::Outlined(outline), place, context),
             First::Stack(side) => Frame::Last(Last::Stack(side, outer.style), place, outer),
             First::StackedRelation => Frame::Last(Last::StackedRelation(outer.style), place, outer),
         })
@@ -150,6 +152,10 @@ impl<'a> Parser<'a> {
             }
             Last::Fraction(rule, own) => {
                 put_fraction(&mut self.builder, rule, own)?;
+                Ok(State::Core(Core::new(Kind::Plain(Class::Inner), true)))
+            }
+            Last::Outlined(outline) => {
+                put_outlined(&mut self.builder, outline)?;
                 Ok(State::Core(Core::new(Kind::Plain(Class::Inner), true)))
             }
             Last::Stack(side, style) => {

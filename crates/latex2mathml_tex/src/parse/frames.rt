@@ -13,6 +13,7 @@ use crate::atoms::{Before, Context, Core, Row, Scripts, Words};
 use crate::environments::Environment;
 use crate::error::TexErrorKind;
 use crate::meaning::{Alphabet, Class, FractionRule, LimitPlace, OperandBox, Style};
+use crate::outlines::Outline;
 use crate::unit::Piece;
 use latex2mathml_builder::attributes::{Side, Stretch};
 use latex2mathml_builder::columns::{Column, Columns};
@@ -80,6 +81,8 @@ pub(crate) enum Last {
     Boxed(OperandBox, Style),
     /// A denominator; the numerator stands below.
     Fraction(FractionRule, Option<Style>),
+    /// The same, where the author says how the fraction is drawn.
+    Outlined(Outline),
     /// A base, in this style; its mark stands below.
     Stack(Side, Style),
     /// A base, in this style; what stands above it stands below.
@@ -95,6 +98,8 @@ pub(crate) enum Last {
 pub(crate) enum First {
     /// A numerator.
     Fraction(FractionRule, Option<Style>),
+    /// A numerator, where the author says how the fraction is drawn.
+    Outlined(Outline),
     /// A mark.
     Stack(Side),
     /// What stands above a relation.

@@ -1,13 +1,13 @@
 //! What is put for a symbol: one element, which is all of an atom.
 ghost use Rattle.std.specs.Prelude.{◌≡◌, true, IfOk, Some, option_map};
-ghost use Rattle.latex2mathml_builder.specs.{Built.elements_in, Names.attributes_of, Names.form_of, Names.token_of};
+ghost use Rattle.latex2mathml_builder.specs.{Names.attributes_of, Names.element_with_text, Names.form_of};
 ghost use Rattle.latex2mathml_elements.specs.{Attributes.plain, Element.Mo, Element.token};
 ghost use Rattle.latex2mathml_tex_grammar.specs.Makes;
 ghost use Rattle.latex2mathml_tex_grammar.specs.Makes.{core};
 ghost use Rattle.latex2mathml_tex_grammar.specs.{Atoms.Plain, Atoms.atom, Symbols.Operator};
 ghost use Rattle.latex2mathml_tex.specs.{Meanings.alphabet_of, Meanings.class_of, Meanings.limit_place_of, Models.core_with, Models.kind_of};
 ghost use Rattle.latex2mathml_tex.specs.Meanings;
-ghost use Rattle.latex2mathml_tex.specs.Shapes.{IsPut};
+ghost use Rattle.latex2mathml_tex.specs.Shapes.{PutsCore};
 
 use crate::alphabets::in_alphabet;
 use crate::atoms::{Core, Kind};
@@ -23,7 +23,9 @@ pub(crate) fn put_symbol(
     alphabet: Option<Alphabet>,
     symbol: Symbol,
 ) -> Result<Core, AllocError>
-    ensures { IfOk result (λ put. IsPut put (Makes.symbol (option_map alphabet_of alphabet) (Meanings.symbol_of symbol)) (elements_in builder.old) (elements_in builder.new)) }
+    ensures { IfOk result (PutsCore
+        (Makes.symbol (option_map alphabet_of alphabet) (Meanings.symbol_of symbol))
+        builder.old builder.new) }
 {
     match symbol {
         Symbol::Letter(c) => put_letter(builder, alphabet, c),
@@ -40,7 +42,8 @@ pub(crate) fn put_letter(
     alphabet: Option<Alphabet>,
     c: char,
 ) -> Result<Core, AllocError>
-    ensures { IfOk result (λ put. IsPut put (core (Makes.letter (option_map alphabet_of alphabet) c)) (elements_in builder.old) (elements_in builder.new)) }
+    ensures { IfOk result (PutsCore (core (Makes.letter (option_map alphabet_of alphabet) c))
+        builder.old builder.new) }
 {
     match alphabet {
         Some(alphabet) => put_letter_in(builder, alphabet, c),
@@ -53,7 +56,8 @@ pub(crate) fn put_letter(
 
 /// Puts a letter in an alphabet.
 fn put_letter_in(builder: &mut Builder, alphabet: Alphabet, c: char) -> Result<Core, AllocError>
-    ensures { IfOk result (λ put. IsPut put (core (Makes.letter (Some (alphabet_of alphabet)) c)) (elements_in builder.old) (elements_in builder.new)) }
+    ensures { IfOk result (PutsCore (core (Makes.letter (Some (alphabet_of alphabet)) c))
+        builder.old builder.new) }
 {
     match alphabet {
         Alphabet::Upright => {
@@ -74,7 +78,9 @@ pub(crate) fn put_upright_letter(
     alphabet: Option<Alphabet>,
     c: char,
 ) -> Result<Core, AllocError>
-    ensures { IfOk result (λ put. IsPut put (core (Makes.upright_letter (option_map alphabet_of alphabet) c)) (elements_in builder.old) (elements_in builder.new)) }
+    ensures { IfOk result (PutsCore
+        (core (Makes.upright_letter (option_map alphabet_of alphabet) c))
+        builder.old builder.new) }
 {
     match alphabet {
         Some(_) => put_letter(builder, alphabet, c),
@@ -87,7 +93,8 @@ pub(crate) fn put_upright_letter(
 
 /// Puts a sign of this class.
 fn put_sign(builder: &mut Builder, class: Class, c: char) -> Result<Core, AllocError>
-    ensures { IfOk result (λ put. IsPut put (core (Makes.sign (class_of class) c)) (elements_in builder.old) (elements_in builder.new)) }
+    ensures { IfOk result (PutsCore (core (Makes.sign (class_of class) c))
+        builder.old builder.new) }
 {
     let sign = Core::new(sign_kind(class, c), false);
     put_character(builder, Token::Mo, sign_attributes(class, c), c, sign)
@@ -95,7 +102,8 @@ fn put_sign(builder: &mut Builder, class: Class, c: char) -> Result<Core, AllocE
 
 /// Puts an operator that is high.
 fn put_operator(builder: &mut Builder, c: char, limits: LimitPlace) -> Result<Core, AllocError>
-    ensures { IfOk result (λ put. IsPut put (Makes.operator (limit_place_of limits) (atom (Plain Operator) true (token Mo plain (Makes.text c)))) (elements_in builder.old) (elements_in builder.new)) }
+    ensures { IfOk result (PutsCore (Makes.operator (limit_place_of limits)
+        (atom (Plain Operator) true (token Mo plain (Makes.text c)))) builder.old builder.new) }
 {
     let operator = Core {
         kind: Kind::Plain(Class::Operator),
@@ -113,8 +121,9 @@ fn put_character(
     c: char,
     core: Core,
 ) -> Result<Core, AllocError>
-    ensures { (k : Makes.Core) → core_with core (token (token_of tag) (attributes_of attributes) (Makes.text c)) ≡ k
-        → IfOk result (λ put. IsPut put k (elements_in builder.old) (elements_in builder.new)) }
+    ensures { (k : Makes.Core)
+        → core_with core (element_with_text tag attributes (Makes.text c)) ≡ k
+        → IfOk result (PutsCore k builder.old builder.new) }
 {
     builder.character(tag, attributes, c)?;
     Ok(core)

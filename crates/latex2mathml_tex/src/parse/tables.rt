@@ -387,7 +387,8 @@ impl<'a> Parser<'a> {
     ) -> Result<State, AllocError>
         requires can { CanMake core_made rows self.old }
         requires some { 0 < rows }
-        ensures holds { LeadsOn (MakesTable delimiters columns style rows) self.old self.new result }
+        ensures holds { LeadsOn (MakesTable delimiters columns style rows)
+            self.old self.new result }
         ensures step { IsStep 5 self.old self.new result }
     {
         let around = self.frames.innermost(self.style).context();
@@ -443,7 +444,8 @@ fn cell_end(piece: Piece) -> CellEnd
 fn put_last(builder: &mut Builder, count: usize, cells: usize) -> Result<(), AllocError>
     requires { count + cells ≤ length (elements_in builder.old) }
     ensures { OnOk result (elements_in builder.new
-        ≡ a_row (row_element (take count (elements_in builder.old)) ∷ take cells (drop count (elements_in builder.old)))
+        ≡ a_row (row_element (take count (elements_in builder.old))
+        ∷ take cells (drop count (elements_in builder.old)))
         ∷ drop cells (drop count (elements_in builder.old))) }
 {
     put_row(builder, count)?;
@@ -479,7 +481,8 @@ fn listed(letters: &str) -> Option<Columns>
 
 /// The style that a table says, where its cells have the first one, and the second stands around it.
 fn said_style(style: Style, around: Style) -> Option<MathStyle>
-    ensures { option_map math_style_of result ≡ Tables.said_style (style_of style) (style_of around) }
+    ensures { option_map math_style_of result
+        ≡ Tables.said_style (style_of style) (style_of around) }
 {
     match (style, around) {
         (Style::InText, Style::InDisplay | Style::InText) => None,

@@ -3,7 +3,7 @@ ghost use Rattle.std.specs.Prelude.{◌≡◌, ◌≢◌, ◌==◌, ◌||◌, fa
 ghost use Rattle.std.specs.Str.{byte};
 ghost use Rattle.latex2mathml_tex_grammar.specs.Makes;
 ghost use Rattle.latex2mathml_tex_grammar.specs.Makes.{core};
-ghost use Rattle.latex2mathml_tex_grammar.specs.Words.{Formula, Shown, is_escape, words_atom};
+ghost use Rattle.latex2mathml_tex_grammar.specs.Words.{Formula, Shown, words_atom};
 ghost use Rattle.latex2mathml_tex_grammar.specs.Words as words;
 ghost use Rattle.latex2mathml_tex_grammar.specs.Refusal.{CommandInWords, refusal_at};
 ghost use Rattle.latex2mathml_tex_grammar.specs.{Rows.single, Rules.gives, Symbols.InText, Units.Character, Units.Close, Units.Command};
@@ -20,6 +20,7 @@ use crate::parse::frames::{Ending, Frame};
 use crate::parse::symbols::put_symbol;
 use crate::parse::{Parser, State};
 use crate::shapes::{put_row, with_atom};
+use crate::text_commands::text_character;
 use crate::unit::{Next, Piece, Unit};
 use latex2mathml_builder::attributes::Attributes;
 use latex2mathml_builder::tag::Token;
@@ -123,7 +124,7 @@ impl<'a> Parser<'a> {
             self.old self.new result }
         ensures step { IsStep 13 self.old self.new result }
     {
-        if let Some(c) = escaped(name) {
+        if let Some(c) = text_character(name) {
             return self.show(words, c);
         }
         match commands::look_up(name) {
@@ -254,22 +255,5 @@ fn word_character(alphabet: Option<Alphabet>, c: char) -> char
         (None, '`') => '‘',
         (None, '\'') => '’',
         (None, c) => c,
-    }
-}
-
-/// The character that a command is in words.
-fn escaped(name: &str) -> Option<char>
-    ensures { MatchOption result (is_escape name.now ≡ false)
-        (λ c. (is_escape name.now ≡ true) × (name.now ≡ Makes.text c)) }
-{
-    match name {
-        "%" => Some('%'),
-        "_" => Some('_'),
-        "&" => Some('&'),
-        "#" => Some('#'),
-        "$" => Some('$'),
-        "{" => Some('{'),
-        "}" => Some('}'),
-        _ => None,
     }
 }

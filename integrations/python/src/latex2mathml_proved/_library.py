@@ -6,6 +6,8 @@ import platform
 import re
 from typing import Any, Callable, List, Tuple
 
+from latex2mathml_proved.places import place_of
+
 DONE, REFUSED, NOT_UTF8, TOO_SMALL, OUT_OF_MEMORY, DEFINITION_REFUSED = range(6)
 
 # The flag that asks for the formula as an annotation.
@@ -26,26 +28,30 @@ class TexRefused(Refused):
     """A formula in LaTeX as authors write it is refused, or the definitions for it are.
 
     `reason` says why. What is refused begins at the character `place` of the definitions if `is_definition` is true, and
-    otherwise of the formula. The message has both, as in `unknown command \\foo at 4`.
+    otherwise of the formula. The message has both, as in `unknown command \\foo at 4`. `line` and `column` are the same place,
+    and count from 1.
     """
 
     __module__ = "latex2mathml_proved"
 
-    def __init__(self, reason: str, place: int, is_definition: bool):
-        super().__init__(reason, place, is_definition)
+    def __init__(self, reason: str, place: int, is_definition: bool, line: int, column: int):
+        super().__init__(reason, place, is_definition, line, column)
         self.reason, self.place, self.is_definition = reason, place, is_definition
+        self.line, self.column = line, column
 
     def __str__(self) -> str:
         return f"{self.reason} at {self.place}"
 
 
+PATH = pathlib.Path(__file__).with_name("liblatex2mathml.so")
+
+
 def _load() -> ctypes.CDLL:
-    path = pathlib.Path(__file__).with_name("liblatex2mathml.so")
     machine = f"{platform.system()} {platform.machine()}"
     if machine != "Linux x86_64":
         raise ImportError(f"latex2mathml_proved runs on Linux x86_64, and this is {machine}")
     try:
-        library = ctypes.CDLL(str(path))
+        library = ctypes.CDLL(str(PATH))
     except OSError as error:
         raise ImportError(f"latex2mathml_proved needs the GNU C library, of the version that its wheel names: {error}") from error
     room: List[Any] = [ctypes.c_char_p, ctypes.c_size_t, ctypes.POINTER(ctypes.c_size_t)]
@@ -135,5 +141,6 @@ def tex(formula: str, block: bool = False, definitions: str = "", annotation: bo
     if code == DONE:
         return answer
     is_definition = code == DEFINITION_REFUSED
-    read = (macros if is_definition else source)[:place.value]
-    raise TexRefused(answer.removesuffix(f" at {place.value}"), len(read.decode()), is_definition)
+    text, read = (definitions, macros) if is_definition else (formula, source)
+    index = len(read[:place.value].decode())
+    raise TexRefused(answer.removesuffix(f" at {place.value}"), index, is_definition, *place_of(text, index))

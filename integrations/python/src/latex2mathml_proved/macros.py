@@ -8,7 +8,6 @@ import re
 from typing import Any, Mapping, Sequence, Tuple, Union
 
 from latex2mathml_proved._library import TexRefused, tex
-from latex2mathml_proved.places import place_of
 
 # What the option may be: names with their bodies, or the path of a file.
 Macros = Union[Mapping[str, Any], str, "os.PathLike[str]"]
@@ -43,8 +42,7 @@ def _read(file: pathlib.Path) -> str:
     try:
         tex("", definitions=definitions)
     except TexRefused as refused:
-        place = place_of(definitions, refused.place)
-        raise MacroError(f"{file}:{place.line}:{place.column}: {refused.reason}") from refused
+        raise MacroError(f"{file}:{refused.line}:{refused.column}: {refused.reason}") from refused
     return definitions
 
 

@@ -18,29 +18,23 @@ from markdown.preprocessors import NormalizeWhitespace, Preprocessor
 from markdown.treeprocessors import Treeprocessor
 from markdown.util import ETX, STX, AtomicString, code_escape
 
+from latex2mathml_proved.delimiters import between_brackets, between_dollars, formulas
 from latex2mathml_proved.fences import fences
 from latex2mathml_proved.macros import definitions_of
 from latex2mathml_proved.rendering import Fault, FaultyFormula, Renderer
 
 NAME = "latex2mathml"
 
-# What formulas hold: a backslash takes the next character with it. STX marks what Python-Markdown has put aside, as code.
-# Between \( and \) stands no other \(, so that each is looked at once where nothing closes them.
-_CHARACTER = rf"(?:\\[^{STX}]|[^\\${STX}])"
-_IN_PARENTHESES = rf"(?:\\[^\({STX}]|[^\\{STX}])"
-_IN_BRACKETS = rf"(?:\\[^\[{STX}]|[^\\{STX}])"
+# What formulas hold. STX marks what Python-Markdown has put aside, as code.
+_CHARACTER = between_dollars(STX)
+_IN_PARENTHESES = between_brackets("(", STX)
+_IN_BRACKETS = between_brackets("[", STX)
 
 # What stands for a formula until the tree is whole. No text of an author holds STX.
 _PLACE = re.compile(rf"{STX}{NAME}:([0-9]+){ETX}")
 _WRITTEN_PLACE = re.compile(rf"(?:<{NAME}>)?{_PLACE.pattern}(?:</{NAME}>)?")
 
-_INLINE = (
-    r"\\[\\$]"
-    rf"|\$\$(?P<dollars>{_CHARACTER}+?)\$\$"
-    rf"|\\\[(?P<brackets>{_IN_BRACKETS}+?)\\\]"
-    rf"|\$(?P<dollar>(?!\s){_CHARACTER}+?(?<!\s))\$(?![0-9])"
-    rf"|\\\((?P<parentheses>{_IN_PARENTHESES}+?)\\\)"
-)
+_INLINE = formulas(STX)
 _BLOCK = re.compile(
     rf"^[ ]*(?P<place>{_PLACE.pattern})[ ]*$"
     rf"|^[ ]{{0,3}}(?:\$\$(?P<dollars>{_CHARACTER}+?)\$\$|\\\[(?P<brackets>{_IN_BRACKETS}+?)\\\])[ ]*$",

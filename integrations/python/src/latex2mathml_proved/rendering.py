@@ -23,6 +23,7 @@ class Fault:
     reason: str
     place: Place
     source: str
+    index: int  # of the character that the place is of
 
     @property
     def explanation(self) -> str:
@@ -32,10 +33,7 @@ class Fault:
 
     def __str__(self) -> str:
         """One line for a warning: the formula, cut if it is long, and the explanation."""
-        formula = " ".join(self.source.split())
-        if len(formula) > SHOWN:
-            formula = formula[:SHOWN] + "..."
-        return f"{formula}: {self.explanation}"
+        return f"{shortened(self.source)}: {self.explanation}"
 
 
 class Rendering(NamedTuple):
@@ -64,9 +62,15 @@ class Renderer:
         try:
             return Rendering(tex(latex, block, **self._options), None)
         except TexRefused as refused:
-            fault = Fault(refused.reason, place_of(source, refused.place), source)
+            fault = Fault(refused.reason, place_of(source, refused.place), source, refused.place)
         code = f'<code class="latex2mathml-refused" title="{escape(fault.explanation)}">{escape(source)}</code>'
         return Rendering(code, fault)
+
+
+def shortened(formula: str) -> str:
+    """Returns a formula as a warning shows it: in one line, and cut if it is long."""
+    line = " ".join(formula.split())
+    return f"{line[:SHOWN]}..." if len(line) > SHOWN else line
 
 
 def escape(text: str) -> str:

@@ -1,5 +1,5 @@
 use mir.Val.{SFits}
-use Rattle.std.proofs.Common.{◌≡◌, ◌∙◌, ◌++◌, ℤ, ap, arith, codes, of_z, refl, rules, string_bytes, to_z, w32}
+use Rattle.std.proofs.Common.{◌≡◌, ◌∙◌, ◌++◌, ap, arith, codes, of_z, refl, rules, string_bytes, to_z, w32}
 use Rattle.std.proofs.lemmas.Int.{ints}
 use Rattle.latex2mathml_elements.specs.Extents.{length_if_any}
 use Rattle.latex2mathml_builder.proofs.Appended.{then}

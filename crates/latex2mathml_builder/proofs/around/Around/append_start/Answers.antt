@@ -1,4 +1,4 @@
-use Rattle.std.proofs.Common.{◌≡◌, ◌∙◌, ◌++◌, ap, string_bytes, sym}
+use Rattle.std.proofs.Common.{◌∙◌, ◌++◌, ap, string_bytes, sym}
 use Rattle.std.proofs.lemmas.Result.{on_ok_weaker}
 use Rattle.latex2mathml_elements.specs.Print.{container_name, start_tag}
 use Rattle.latex2mathml_builder.specs.Arounds.{around_attributes, around_name}

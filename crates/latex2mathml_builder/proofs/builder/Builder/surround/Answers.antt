@@ -1,4 +1,4 @@
-use Rattle.std.proofs.Common.{◌≡◌, ◌∷◌, ◌∙◌, List, OnOk, [], ap, arith, drop, length, false, refl, reverse, sym, take}
+use Rattle.std.proofs.Common.{◌≡◌, ◌∷◌, ◌∙◌, List, [], ap, drop, length, false, refl, reverse, take}
 use Rattle.std.proofs.lemmas.Result.{on_ok_weaker}
 use Rattle.latex2mathml_elements.specs.Element.{Element}
 use Rattle.latex2mathml_builder.specs.{Arounds.around_first, Built.elements_in, declared.around.Around.Around}

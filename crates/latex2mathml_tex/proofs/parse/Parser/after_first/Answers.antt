@@ -1,8 +1,8 @@
 use Rattle.latex2mathml_tex.specs.Levels.{Leads}
 use Rattle.latex2mathml_tex.specs.Steps.{left_of, level_within}
-use Rattle.latex2mathml_tex.proofs.Seconds.{IsOuter, base_due, denominator_due, relation_due}
+use Rattle.latex2mathml_tex.proofs.Seconds.{IsOuter, base_due, denominator_due, outlined_due, relation_due}
 use Rattle.latex2mathml_tex.proofs.parse.Parser.after_first.Goals as goal
-use Rattle.latex2mathml_tex.proofs.parse.Parser.after_first.Goals.{in-Fraction, in-Stack, in-StackedRelation}
+use Rattle.latex2mathml_tex.proofs.parse.Parser.after_first.Goals.{in-Fraction, in-Outlined, in-Stack, in-StackedRelation}
 
 pub returns-clause-holds : goal.returns-clause-holds
 returns-clause-holds c = λ s operand g.
@@ -12,6 +12,7 @@ returns-clause-holds c = λ s operand g.
     let outer : IsOuter s p one place c.args.context operand c.context-outer.result = (c.innermost.result, c.context-outer.ensures, c.innermost.ensures) in
     let due : Leads (level_within c.match-first.open 0 s p) (left_of p) = elim c.match-first.branch [
       | in-Fraction w ↦ rw w.open-is (denominator_due s p one place c.args.context operand w.in-Fraction.rule w.in-Fraction.own w.in-Fraction.is g)
+      | in-Outlined w ↦ rw w.open-is (outlined_due s p one place c.args.context operand w.in-Outlined.outline w.in-Outlined.is g)
       | in-Stack w ↦ rw w.open-is (base_due s p one place c.args.context operand w.in-Stack.side c.context-outer.result w.in-Stack.is outer g)
       | in-StackedRelation w ↦ rw w.open-is (relation_due s p one place c.args.context operand c.context-outer.result w.in-StackedRelation.is outer g)
     ] in

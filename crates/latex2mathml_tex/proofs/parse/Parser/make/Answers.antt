@@ -84,6 +84,11 @@ returns-in_ok-put_fraction-in-Fraction-clause-holds c = λ s g.
     let p = c.args.self.now in
     rw c.new.ensures (made_held s p c.args.last c.args.operand c.put_fraction.new.builder _ (record { element = rw c.in-Fraction.is c.in_ok-put_fraction-in-Fraction.ensures; is = rw c.in-Fraction.is refl }) g)
 
+pub returns-in_ok-put_outlined-in-Outlined-clause-holds : goal.returns-in_ok-put_outlined-in-Outlined-clause-holds
+returns-in_ok-put_outlined-in-Outlined-clause-holds c = λ s g.
+    let p = c.args.self.now in
+    rw c.new-in-Outlined.ensures (made_held s p c.args.last c.args.operand c.put_outlined.new.builder _ (record { element = rw c.in-Outlined.is c.in_ok-put_outlined-in-Outlined.ensures; is = rw c.in-Outlined.is refl }) g)
+
 pub returns-in_ok-put_stack-in-Stack-clause-holds : goal.returns-in_ok-put_stack-in-Stack-clause-holds
 returns-in_ok-put_stack-in-Stack-clause-holds c = λ s g.
     let p = c.args.self.now in

@@ -50,6 +50,9 @@ returns-in-Fraction-clause-holds c = λ s g. c.open_fraction.ensures.holds s (be
 pub returns-in-ContinuedFraction-clause-holds : goal.returns-in-ContinuedFraction-clause-holds
 returns-in-ContinuedFraction-clause-holds c = λ s g. c.continued_fraction.ensures.holds s (begun (rw c.in-ContinuedFraction.is at g))
 
+pub returns-in-GeneralFraction-clause-holds : goal.returns-in-GeneralFraction-clause-holds
+returns-in-GeneralFraction-clause-holds c = λ s g. c.general_fraction.ensures.holds s (begun (rw c.in-GeneralFraction.is at g))
+
 pub returns-in-Accent-clause-holds : goal.returns-in-Accent-clause-holds
 returns-in-Accent-clause-holds c = λ s g.
     c.open-in-Accent.ensures.holds s g.style (operand_due (λ x. gives (accent (side_of c.in-Accent.side) c.in-Accent.mark (stretch_of c.in-Accent.stretch) x.element)) (rw c.in-Accent.is at g.leads))

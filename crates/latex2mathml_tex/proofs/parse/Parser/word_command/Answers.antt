@@ -1,4 +1,4 @@
-use Rattle.std.proofs.Common.{◌≡◌, ◌≤◌, ◌∙◌, None, Option, Some, ap, option_map, arith, refl}
+use Rattle.std.proofs.Common.{◌≡◌, ◌≤◌, ◌∙◌, None, Option, Some, ap, option_map, arith, refl, sym}
 use Rattle.latex2mathml_tex_grammar.specs.Makes
 use Rattle.latex2mathml_tex_grammar.specs.Refusal.{UnknownCommand, refusal_at}
 use Rattle.latex2mathml_tex_grammar.specs.{Dots.low_dots, Rows.single, Symbols.Alphabet, Symbols.InText, Units.Command}
@@ -7,7 +7,7 @@ use Rattle.latex2mathml_tex.specs.{Errors.refusal_of, Left.unit_count, Left.unit
 use Rattle.latex2mathml_tex.specs.Meanings
 use Rattle.latex2mathml_tex.specs.Meanings.{alphabet_of, symbol_of}
 use Rattle.latex2mathml_tex.proofs.Nexts.{no_more_past_space}
-use Rattle.latex2mathml_tex.proofs.WordRules.{IsNoWord, command_meant, command_refused, command_step, escape_shown, not_in_words, unknown}
+use Rattle.latex2mathml_tex.proofs.WordRules.{IsNoWord, command_meant, command_refused, command_step, character_shown, not_in_words, unknown}
 use Rattle.latex2mathml_tex.proofs.Wording.{in_alphabet_due, no_part, stands}
 use Rattle.latex2mathml_tex.proofs.parse.Parser.word_command.Goals as goal
 
@@ -16,14 +16,14 @@ returns-in-Some-clause-holds c = λ s g.
     let a : Option Alphabet = option_map alphabet_of c.args.alphabet in
     let name = c.args.name.now in
     let text = Makes.text c.in-Some.c in
-    c.show.ensures.holds s (stands s c.args.self.now c.args.words (Command name) c.args.place a (Shown text) (escape_shown a name text c.in-Some.ensures.0 c.in-Some.ensures.1) g)
+    c.show.ensures.holds s (stands s c.args.self.now c.args.words (Command name) c.args.place a (Shown text) (character_shown a name c.in-Some.c (sym c.in-Some.ensures)) g)
 
 pub returns-in-Spacing-clause-holds : goal.returns-in-Spacing-clause-holds
 returns-in-Spacing-clause-holds c = λ s g.
     let a : Option Alphabet = option_map alphabet_of c.args.alphabet in
     let name = c.args.name.now in
     let meant = c.in-Some-look_up.ensures ∙ ap (λ m. Some (Meanings.meaning_of m)) c.in-Spacing.is in
-    c.show-in-Spacing.ensures.holds s (stands s c.args.self.now c.args.words (Command name) c.args.place a word_space (command_meant a name c.in_default.ensures _ meant) g)
+    c.show-in-Spacing.ensures.holds s (stands s c.args.self.now c.args.words (Command name) c.args.place a word_space (command_meant a name (sym c.in_default.ensures) _ meant) g)
 
 pub returns-in-Shows-clause-holds : goal.returns-in-Shows-clause-holds
 returns-in-Shows-clause-holds c = λ s g.
@@ -31,7 +31,7 @@ returns-in-Shows-clause-holds c = λ s g.
     let name = c.args.name.now in
     let meant = c.in-Some-look_up.ensures ∙ ap (λ m. Some (Meanings.meaning_of m)) c.in-Shows.is in
     let x = (single InText (Makes.symbol None (symbol_of c.in-Shows.symbol)).atom).element in
-    c.show_symbol.ensures.holds s (stands s c.args.self.now c.args.words (Command name) c.args.place a (Formula x) (command_meant a name c.in_default.ensures _ meant) g)
+    c.show_symbol.ensures.holds s (stands s c.args.self.now c.args.words (Command name) c.args.place a (Formula x) (command_meant a name (sym c.in_default.ensures) _ meant) g)
 
 pub returns-in-Dots-clause-holds : goal.returns-in-Dots-clause-holds
 returns-in-Dots-clause-holds c = λ s g.
@@ -39,14 +39,14 @@ returns-in-Dots-clause-holds c = λ s g.
     let name = c.args.name.now in
     let meant = c.in-Some-look_up.ensures ∙ ap (λ m. Some (Meanings.meaning_of m)) c.in-Dots.is in
     let x = (single InText (Makes.symbol None low_dots).atom).element in
-    c.show_symbol-in-Dots.ensures.holds s (stands s c.args.self.now c.args.words (Command name) c.args.place a (Formula x) (command_meant a name c.in_default.ensures _ meant) g)
+    c.show_symbol-in-Dots.ensures.holds s (stands s c.args.self.now c.args.words (Command name) c.args.place a (Formula x) (command_meant a name (sym c.in_default.ensures) _ meant) g)
 
 pub returns-in-Words-clause-holds : goal.returns-in-Words-clause-holds
 returns-in-Words-clause-holds c = λ s g.
     let a : Option Alphabet = option_map alphabet_of c.args.alphabet in
     let name = c.args.name.now in
     let meant = c.in-Some-look_up.ensures ∙ ap (λ m. Some (Meanings.meaning_of m)) c.in-Words.is in
-    in_alphabet_due s c.args.self.now c.args.words (Command name) c.args.place a c.skip_space.new.self c.in-Words.alphabet c.skip_space.ensures (command_meant a name c.in_default.ensures _ meant) g
+    in_alphabet_due s c.args.self.now c.args.words (Command name) c.args.place a c.skip_space.new.self c.in-Words.alphabet c.skip_space.ensures (command_meant a name (sym c.in_default.ensures) _ meant) g
 
 pub returns-in-Words-clause-step : goal.returns-in-Words-clause-step
 returns-in-Words-clause-step c =
@@ -66,7 +66,7 @@ returns-in_default-meaning c =
     let says = c.refuse_command.ensures in
     let other = c.in_default-meaning in
     let none : IsNoWord c.in-Some-look_up.meaning = record { no_sign = other.not-Shows; no_dots = other.not-Dots; no_space = other.not-Spacing; no_words = other.not-Words } in
-    let rule = not_in_words a name c.in_default.ensures c.in-Some-look_up.meaning c.in-Some-look_up.ensures none in
+    let rule = not_in_words a name (sym c.in_default.ensures) c.in-Some-look_up.meaning c.in-Some-look_up.ensures none in
     record {
       holds = λ s g. command_refused p q says.parser s c.args.words name c.args.place a c.refuse_command.result says.state says.refusal rule g;
       step = command_step p q says.parser c.args.words.count c.refuse_command.result says.state c.requires.elements;
@@ -80,5 +80,5 @@ returns-in_ok-name-in-None-clause-holds c = λ s g.
     let name = c.args.name.now in
     let reason : refusal_of q.refusal ≡ Some (refusal_at (UnknownCommand name) c.args.place) =
     rw c.refuse.ensures.parser (ap (λ t. Some (refusal_at (UnknownCommand t) c.args.place)) c.in_ok-name-in-None.ensures.ok) in
-    let rule = unknown a name c.in_default.ensures c.in-None.ensures in
+    let rule = unknown a name (sym c.in_default.ensures) c.in-None.ensures in
     rw c.refuse.ensures.state (no_part s p c.args.words (Command name) c.args.place a q (UnknownCommand name) (rw c.refuse.ensures.parser refl) reason rule g)

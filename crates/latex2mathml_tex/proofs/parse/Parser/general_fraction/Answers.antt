@@ -1,0 +1,50 @@
+use Rattle.std.proofs.Common.{◌≡◌, ◌∙◌, Option, ap, arith, option_map, subst, sym}
+use Rattle.latex2mathml_tex_grammar.specs.{Makes.outlined_fraction, Symbols.smaller}
+use Rattle.latex2mathml_tex_grammar.specs.Rules.{an_outline, an_outlined_fraction, in_context, of_two, own_style}
+use Rattle.latex2mathml_tex.specs.{Frames.after_first, Frames.context_at, HandedOn.TookBy, Meanings.style_of, Models.context_of, Outlines.outline_of}
+use Rattle.latex2mathml_tex.specs.Steps.{Begins, level}
+use Rattle.latex2mathml_tex.specs.declared.outlines.Outline.{Outline}
+use Rattle.latex2mathml_tex.specs.declared.parse.frames.First.TheVariants as first
+use Rattle.latex2mathml_tex.proofs.{HandingOn.handed_on, HandingOn.handed_within, HandingOn.stopped, HandingOn.stopped_within, Leading.operand_due, RuleSteps.own_style_is}
+use Rattle.latex2mathml_tex.proofs.parse.Parser.general_fraction.Goals as goal
+
+pub returns-in_default-clause-holds : goal.returns-in_default-clause-holds
+returns-in_default-clause-holds c = λ s g.
+    let p = c.args.self.now in
+    let q = c.take_outline.new.self in
+    let place = c.args.place in
+    let took = subst (λ (x : Option Outline). TookBy (an_outline place) p q (option_map outline_of x)) c.in_default.is c.in_ok-outline.ensures in
+    stopped (an_outline place) p q s (an_outlined_fraction place (context_of c.args.context)) took g
+
+pub returns-in_default-clause-step : goal.returns-in_default-clause-step
+returns-in_default-clause-step c =
+    let p = c.args.self.now in
+    let q = c.take_outline.new.self in
+    let place = c.args.place in
+    let took = subst (λ (x : Option Outline). TookBy (an_outline place) p q (option_map outline_of x)) c.in_default.is c.in_ok-outline.ensures in
+    stopped_within (an_outline place) p q 13 (omega arith) c.requires.begin.elements took
+
+pub returns-clause-holds : goal.returns-clause-holds
+returns-clause-holds c = λ s g.
+    let p = c.args.self.now in
+    let q = c.take_outline.new.self in
+    let place = c.args.place in
+    let outline = c.in-Some.outline in
+    let own = option_map style_of outline.own in
+    let alphabet = (context_of c.args.context).alphabet in
+    let took = subst (λ (x : Option Outline). TookBy (an_outline place) p q (option_map outline_of x)) c.in-Some.is c.in_ok-outline.ensures in
+    let begins = handed_on (an_outline place) p q (outline_of outline) s (an_outlined_fraction place (context_of c.args.context)) took g in
+    let chosen : style_of c.unwrap_or.result ≡ own_style own (style_of c.args.context.style) = ap style_of c.unwrap_or.ensures ∙ own_style_is outline.own c.args.context.style in
+    let style : smaller (own_style own (style_of c.args.context.style)) ≡ style_of c.smaller-style.result = sym (c.smaller-style.ensures ∙ ap smaller chosen) in
+    let part = in_context (style_of c.smaller-style.result) alphabet in
+    let due = subst (λ st. Begins (of_two place (in_context st alphabet) (in_context st alphabet) (λ above below. outlined_fraction (outline_of outline) above.element below.element)) 0 s q) style begins in
+    c.open.ensures.holds s due.style (rw c.styled.ensures (operand_due (after_first (first.Outlined outline) place part (context_at (level 0 s q))) due.leads))
+
+pub returns-clause-step : goal.returns-clause-step
+returns-clause-step c =
+    let p = c.args.self.now in
+    let q = c.take_outline.new.self in
+    let place = c.args.place in
+    let outline = c.in-Some.outline in
+    let took = subst (λ (x : Option Outline). TookBy (an_outline place) p q (option_map outline_of x)) c.in-Some.is c.in_ok-outline.ensures in
+    handed_within (an_outline place) p q (outline_of outline) 10 13 c.open.new.self c.open.result took (omega arith) c.open.ensures.step

@@ -1,0 +1,45 @@
+-- The commands that are one character in words, in the order of their names' bytes. A name is its bytes, without the backslash;
+-- a character is its code point, and stands after its line as well.
+use Rattle.std.specs.Prelude.{ℕ, List, [], ◌∷◌, codes}
+
+unfoldable pub text_commands : List (List ℕ × ℕ)
+text_commands =
+    (codes "#", 0x23) ∷  -- #
+    (codes "$", 0x24) ∷  -- $
+    (codes "%", 0x25) ∷  -- %
+    (codes "&", 0x26) ∷  -- &
+    (codes "AA", 0xC5) ∷  -- Å
+    (codes "AE", 0xC6) ∷  -- Æ
+    (codes "O", 0xD8) ∷  -- Ø
+    (codes "OE", 0x0152) ∷  -- Œ
+    (codes "_", 0x5F) ∷  -- _
+    (codes "aa", 0xE5) ∷  -- å
+    (codes "ae", 0xE6) ∷  -- æ
+    (codes "i", 0x0131) ∷  -- ı
+    (codes "j", 0x0237) ∷  -- ȷ
+    (codes "o", 0xF8) ∷  -- ø
+    (codes "oe", 0x0153) ∷  -- œ
+    (codes "ss", 0xDF) ∷  -- ß
+    (codes "textasciicircum", 0x5E) ∷  -- ^
+    (codes "textasciitilde", 0x7E) ∷  -- ~
+    (codes "textbackslash", 0x5C) ∷  -- \
+    (codes "textbar", 0x7C) ∷  -- |
+    (codes "textbraceleft", 0x7B) ∷  -- {
+    (codes "textbraceright", 0x7D) ∷  -- }
+    (codes "textdegree", 0xB0) ∷  -- °
+    (codes "textdollar", 0x24) ∷  -- $
+    (codes "textellipsis", 0x2026) ∷  -- …
+    (codes "textemdash", 0x2014) ∷  -- —
+    (codes "textendash", 0x2013) ∷  -- –
+    (codes "textgreater", 0x3E) ∷  -- >
+    (codes "textless", 0x3C) ∷  -- <
+    (codes "textquotedblleft", 0x201C) ∷  -- “
+    (codes "textquotedblright", 0x201D) ∷  -- ”
+    (codes "textquoteleft", 0x2018) ∷  -- ‘
+    (codes "textquoteright", 0x2019) ∷  -- ’
+    (codes "textregistered", 0xAE) ∷  -- ®
+    (codes "textsterling", 0xA3) ∷  -- £
+    (codes "textunderscore", 0x5F) ∷  -- _
+    (codes "{", 0x7B) ∷  -- {
+    (codes "}", 0x7D) ∷  -- }
+    []

@@ -1,0 +1,252 @@
+"""Converts a site, with several processes for many pages."""
+import contextlib
+import functools
+import itertools
+import os
+from typing import Callable, Iterable, Iterator, List, NamedTuple, Optional, Tuple
+
+from latex2mathml_proved.site.folders import Copy, Site, find
+from latex2mathml_proved.site.pages import Fault, Options, convert
+from latex2mathml_proved.site.processes import CHUNK, results
+from latex2mathml_proved.site.record import Known, Record
+from latex2mathml_proved.site.writing import (
+    Signature, check_writable, copy_file, make_link, remove_leftovers, replace, signature, write_beside)
+
+# How many pages are worth a second process.
+FEW = 32
+
+
+class Plan(NamedTuple):
+    """What a run does: the options of the command line with these names."""
+
+    source: str
+    target: Optional[str] = None
+    options: Options = Options()
+    strict: bool = False
+    check: bool = False
+    fresh: bool = False
+    jobs: int = 1
+
+
+class Outcome(NamedTuple):
+    """What became of a page. `beside` is the file that is to take its place, if that is still to be done."""
+
+    is_changed: bool = False
+    formulas: int = 0
+    faults: Tuple[Fault, ...] = ()
+    error: str = ""
+    signatures: Optional[Tuple[Signature, Signature]] = None
+    beside: str = ""
+
+
+class Summary(NamedTuple):
+    """What a run did."""
+
+    pages: int
+    changed: int
+    formulas: int
+    refused: int
+    errors: int
+
+
+# Shows a line about something that is refused or failed.
+Report = Callable[[str], None]
+# Shows how many pages of how many are done.
+Progress = Callable[[int, int], None]
+
+
+def build(plan: Plan, report: Report, progress: Progress) -> Summary:
+    """Converts a site. What is refused and what fails is reported, and the rest of the site converted.
+
+    If `plan.strict` is set and anything is refused or fails, nothing is changed. Whatever ends a run, each file is the old one or the
+    new one, and no other stays in the site unless the process was killed. The next run removes those.
+    """
+    site = find(plan.source, plan.target)
+    made = _make_folders(site.folders) if plan.target and not plan.check else []
+    run = _Run(plan, site, report, progress)
+    try:
+        summary = run.convert_pages()
+    except BaseException:
+        for folder in site.folders:
+            remove_leftovers(folder, own=True)
+        _remove_folders(made)
+        raise
+    if plan.strict and (summary.refused or summary.errors):
+        _remove_folders(made)
+        return summary._replace(changed=0)
+    return run.finish(summary)
+
+
+def _make_folders(folders: Iterable[str]) -> List[str]:
+    """Makes the folders that are missing, and returns those that it made."""
+    made: List[str] = []
+    for folder in folders:
+        missing = itertools.takewhile(lambda it: not os.path.exists(it), _upwards(folder))
+        for path in reversed(list(missing)):
+            os.mkdir(path)
+            made.append(path)
+    return made
+
+
+def _upwards(folder: str) -> Iterator[str]:
+    while True:
+        yield folder
+        folder = os.path.dirname(folder)
+
+
+def _remove_folders(made: List[str]) -> None:
+    for folder in reversed(made):
+        with contextlib.suppress(OSError):
+            os.rmdir(folder)
+
+
+class _Run:
+    """One run over a site."""
+
+    def __init__(self, plan: Plan, site: Site, report: Report, progress: Progress):
+        self._plan = plan
+        self._site = site
+        self._report = report
+        self._progress = progress
+        self._record = Record(plan.target or plan.source, plan.options)
+        self._waiting: List[Tuple[Copy, Outcome]] = []
+        self._errors = 0
+        self._changed = 0
+        self._formulas = 0
+        self._refused = 0
+
+    def convert_pages(self) -> Summary:
+        """Converts the pages. If nothing may be changed before all are converted, each waits beside its place."""
+        plan, pages = self._plan, self._site.pages
+        if not plan.check:
+            for folder in self._site.folders:
+                remove_leftovers(folder)
+        if not plan.fresh:
+            self._record.read()
+        for error in self._site.errors:
+            self._fail(f"{shown(error.filename)}: {error.strerror}")
+        work = [(page, self._record.find(page)) for page in pages]
+        with _conversions([page for page, known in work if not known], plan) as outcomes:
+            for number, (page, known) in enumerate(work):
+                self._progress(number, len(pages))
+                self._take(page, Outcome(faults=known.faults, signatures=(known.source, known.target)) if known else next(outcomes))
+        if plan.strict and (self._refused or self._errors):
+            for _, outcome in self._waiting:
+                with contextlib.suppress(OSError):
+                    os.unlink(outcome.beside)
+        return self._summary()
+
+    def finish(self, summary: Summary) -> Summary:
+        """Puts the pages that wait in their places, and what is no page into the target."""
+        if self._plan.check:
+            return summary
+        waiting = iter(self._waiting)
+        try:
+            for page, outcome in waiting:
+                self._try(page.target, lambda: replace(outcome.beside, page.target))
+        finally:
+            for _, outcome in waiting:
+                with contextlib.suppress(OSError):
+                    os.unlink(outcome.beside)
+        if self._plan.target:
+            for other in self._site.others:
+                self._try(other.target, lambda: copy_file(*other))
+            for path, text in self._site.links:
+                self._try(path, lambda: make_link(path, text))
+        if not self._errors:
+            self._record.write()
+        return self._summary()
+
+    def _summary(self) -> Summary:
+        return Summary(len(self._site.pages), self._changed, self._formulas, self._refused, self._errors)
+
+    def _take(self, page: Copy, outcome: Outcome) -> None:
+        if outcome.error:
+            self._fail(f"{shown(page.target)}: {outcome.error}")
+        for fault in outcome.faults:
+            place = f"{fault.line}:{fault.column}: " if fault.line else " "
+            self._report(f"{shown(page.source)}:{place}{printable(fault.reason)}")
+        if outcome.beside:
+            self._waiting.append((page, outcome))
+        if outcome.signatures:
+            self._record.keep(page, Known(*outcome.signatures, outcome.faults))
+        self._refused += len(outcome.faults)
+        self._formulas += outcome.formulas
+        self._changed += outcome.is_changed
+
+    def _try(self, path: str, step: Callable[[], object]) -> None:
+        try:
+            step()
+        except OSError as error:
+            self._fail(f"{shown(path)}: {error.strerror}")
+
+    def _fail(self, line: str) -> None:
+        self._errors += 1
+        self._report(line)
+
+
+def shown(path: str) -> str:
+    """A path as a line of text, also if it is none."""
+    return printable(os.path.relpath(path) if os.path.isabs(path) else path)
+
+
+def printable(text: str) -> str:
+    """The text with what is no text, and what ends a line, spelled out."""
+    spelled = text.encode("utf-8", "surrogateescape").decode("utf-8", "backslashreplace")
+    return "".join(it if it.isprintable() else it.encode("unicode_escape").decode() for it in spelled)
+
+
+@contextlib.contextmanager
+def _conversions(pages: List[Copy], plan: Plan) -> Iterator[Iterator[Outcome]]:
+    """What becomes of each page, in their order."""
+    if plan.jobs == 1 or len(pages) < FEW:
+        yield (_convert_page(plan, page) for page in pages)
+    else:
+        with results(functools.partial(_convert_page, plan), pages, min(plan.jobs, len(pages) // CHUNK)) as outcomes:
+            yield outcomes
+
+
+def _convert_page(plan: Plan, page: Copy) -> Outcome:
+    """Converts a page, and writes it unless that is to wait."""
+    try:
+        with open(page.source, "rb") as file:
+            status = os.fstat(file.fileno())
+            content = file.read()
+        converted = convert(content, plan.options)
+        if plan.check:
+            return Outcome(not _holds(page.target, converted.content), converted.formulas, converted.faults)
+        return _write_page(page, plan, status, content, converted.content)._replace(
+            formulas=converted.formulas, faults=converted.faults)
+    except OSError as error:
+        return Outcome(error=error.strerror or str(error))
+    except MemoryError:
+        return Outcome(error="out of memory")
+
+
+def _write_page(page: Copy, plan: Plan, status: os.stat_result, content: bytes, made: bytes) -> Outcome:
+    before = signature(status)
+    is_in_place = page.source == page.target
+    if is_in_place and made == content:
+        return Outcome(signatures=(before, before))
+    if not is_in_place and _holds(page.target, made):
+        return Outcome(signatures=(before, signature(os.stat(page.target))))
+    if is_in_place:
+        check_writable(page.target)
+    beside, after = write_beside(page.target, made, status)
+    if not is_in_place and made == content:
+        # a copy has the times too
+        os.utime(beside, ns=(status.st_atime_ns, status.st_mtime_ns))
+        after = signature(os.stat(beside))
+    if plan.strict:
+        return Outcome(True, signatures=(before, after), beside=beside)
+    replace(beside, page.target)
+    return Outcome(True, signatures=(before, after))
+
+
+def _holds(path: str, content: bytes) -> bool:
+    """Whether a file is there and has this content."""
+    with contextlib.suppress(FileNotFoundError):
+        if os.stat(path).st_size == len(content):
+            with open(path, "rb") as file:
+                return file.read() == content
+    return False

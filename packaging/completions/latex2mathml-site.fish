@@ -1,0 +1,10 @@
+# completion of latex2mathml-site in fish
+complete -c latex2mathml-site -l dollars -x -a 'on off' -d 'whether $..$ are formulas'
+complete -c latex2mathml-site -l macros -r -F -d 'macros of a file'
+complete -c latex2mathml-site -l annotation -d 'put the LaTeX into the MathML'
+complete -c latex2mathml-site -l strict -d 'change nothing if a formula is refused'
+complete -c latex2mathml-site -l check -d 'write nothing'
+complete -c latex2mathml-site -l watch -d 'convert again after each change'
+complete -c latex2mathml-site -l jobs -x -d 'how many processes'
+complete -c latex2mathml-site -l fresh -d 'read all pages'
+complete -c latex2mathml-site -l help -d 'show the help'

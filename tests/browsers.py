@@ -1,0 +1,41 @@
+"""Chromium and Firefox, each with a profile of its own and without a window."""
+import contextlib
+import os
+import subprocess
+
+FIREFOX_SETTINGS = """
+user_pref("app.update.enabled", false);
+user_pref("browser.aboutwelcome.enabled", false);
+user_pref("browser.shell.checkDefaultBrowser", false);
+user_pref("browser.startup.homepage_override.mstone", "ignore");
+user_pref("datareporting.policy.dataSubmissionEnabled", false);
+user_pref("toolkit.telemetry.reportingpolicy.firstRun", false);
+"""
+
+
+def chromium(profile, address):
+    # A container may let no user make a sandbox, and may have little room in /dev/shm. The pages are our own.
+    flags = ["--no-sandbox", "--disable-dev-shm-usage", "--disable-gpu"]
+    return ["chromium", "--headless", *flags, f"--user-data-dir={profile}", address]
+
+
+def firefox(profile, address, settings=""):
+    (profile / "user.js").write_text(FIREFOX_SETTINGS + settings)
+    return ["firefox-esr", "--headless", "--no-remote", "--profile", os.fspath(profile), address]
+
+
+@contextlib.contextmanager
+def open_browser(words, home):
+    """A browser for the time of a `with`."""
+    environment = {**os.environ, "HOME": os.fspath(home)}
+    with open(home / "said", "wb") as said:
+        browser = subprocess.Popen(words, stdin=subprocess.DEVNULL, stdout=said, stderr=said, env=environment)
+    try:
+        yield
+    finally:
+        browser.terminate()
+        try:
+            browser.wait(timeout=20)
+        except subprocess.TimeoutExpired:
+            browser.kill()
+            browser.wait()

@@ -1,0 +1,500 @@
+"""The command `latex2mathml-site`: files, folders and links, and what an interruption, a full disk or a killed process leaves."""
+import contextlib
+import os
+import pathlib
+import pty
+import random
+import resource
+import shutil
+import signal
+import stat
+import subprocess
+import time
+import unittest
+
+from tests.environments import environment, requires_python
+from tests.sites import command, site, tex
+from tests.support import Case, requires, run, scratch
+
+# The user that no file belongs to.
+NOBODY = 65534
+
+PAGE = "<p>$x$ and \\(y\\)</p>\n"
+
+
+def summary(pages, changed, formulas, refused=0, what="changed"):
+    """A pattern for the last line of a run."""
+    def count(number, name):
+        return f"{number} {name}{'' if number == 1 else 's'}"
+    return (f"latex2mathml-site: {count(pages, 'page')}, {changed} {what}, {count(formulas, 'formula')} converted, {refused} refused, "
+            r"[0-9]+\.[0-9] s\n")
+
+
+def state(folder):
+    """The files of a folder and what they hold, with their rights and times."""
+    found = {}
+    for path in sorted(folder.rglob("*")):
+        about = path.lstat()
+        holds = os.readlink(path) if path.is_symlink() else path.read_bytes() if path.is_file() else None
+        found[os.fsencode(path.relative_to(folder))] = (holds, stat.S_IMODE(about.st_mode), about.st_mtime_ns if path.is_file() else None)
+    return found
+
+
+def hear_interrupts():
+    """A `preexec_fn`: a shell's command in the background ignores Ctrl-C, and so would all that it begins."""
+    signal.signal(signal.SIGINT, signal.SIG_DFL)
+
+
+def processes_of(group):
+    """The processes of a group that have not ended. One that has may stay listed, where nobody asks how it ended."""
+    found = []
+    for path in pathlib.Path("/proc").glob("[0-9]*/stat"):
+        with contextlib.suppress(OSError):
+            state, _, its_group = path.read_text(errors="replace").rpartition(") ")[2].split()[:3]
+            if int(its_group) == group and state not in "ZX":
+                found.append(path.parent.name)
+    return found
+
+
+class Site(Case):
+    def setUp(self):
+        self.folder = self.enterContext(scratch())
+        self.made = "<p>{} and {}</p>\n".format(*tex("x", "y"))
+
+    def put(self, *names, text=PAGE):
+        for name in names:
+            path = self.folder / name
+            path.parent.mkdir(parents=True, exist_ok=True)
+            path.write_text(text)
+
+    def run_site(self, *words, status=0, says=None, stderr=b"", **more):
+        done = site(*words, cwd=self.folder, **more)
+        self.expect(done, status, None, stderr)
+        if says:
+            self.assertRegex(done.stdout.decode(), f"^{says}$")
+        return done
+
+    def holds(self, name, text):
+        self.assertEqual((self.folder / name).read_text(), text)
+
+    def is_clean(self):
+        """Nothing that was being written stays."""
+        self.assertEqual([it for it in self.folder.rglob("*") if it.name.startswith(".latex2mathml")], [])
+
+
+@requires_python()
+class Files(Site):
+    def test_in_place(self):
+        self.put("a.html", "b/c.HTM", "b/d.xhtml", "e.txt", "f.xml")
+        self.put("g.html", text="no formula")
+        before = state(self.folder)
+        self.run_site(".", says=summary(4, 3, 6))
+        for name in ("a.html", "b/c.HTM", "b/d.xhtml"):
+            self.holds(name, self.made)
+        self.assertEqual({name: before[name] for name in (b"e.txt", b"f.xml", b"g.html")},
+                         {name: state(self.folder)[name] for name in (b"e.txt", b"f.xml", b"g.html")})
+        self.is_clean()
+
+    def test_a_second_run(self):
+        """It writes nothing, also with nothing remembered of the first."""
+        self.put("a.html", "b/c.html")
+        self.put("d.html", text="$\\foo$")
+        said = b"d.html:1:2: \\foo: unknown command \\foo\n"
+        self.run_site(".", says=summary(3, 3, 4, 1), stderr=said)
+        before = state(self.folder)
+        self.run_site(".", says=summary(3, 0, 0, 1), stderr=said)
+        self.run_site(".", "--fresh", says=summary(3, 0, 0, 1), stderr=None)
+        self.assertEqual(state(self.folder), before)
+
+    def test_a_page_that_was_built_again(self):
+        self.put("a.html", "b.html")
+        self.run_site(".")
+        self.put("a.html")
+        self.run_site(".", says=summary(2, 1, 2))
+        self.holds("a.html", self.made)
+
+    def test_other_options_are_another_run(self):
+        self.put("a.html")
+        self.run_site(".", "--dollars", "off", says=summary(1, 1, 1))
+        self.run_site(".", says=summary(1, 1, 1))
+        self.holds("a.html", self.made)
+
+    def test_into_a_folder(self):
+        self.put("in/a.html", "in/b/c.html", "in/b/d.css")
+        self.put("in/e.html", text="no formula")
+        os.utime(self.folder / "in/e.html", (1000, 1000))
+        (self.folder / "in/b/d.css").chmod(0o640)
+        (self.folder / "in/a.html").chmod(0o604)
+        before = state(self.folder / "in")
+        self.run_site("in", "new/out", says=summary(3, 3, 4))
+        out = state(self.folder / "new/out")
+        self.assertEqual(state(self.folder / "in"), before)
+        self.assertEqual({name: out[name] for name in (b"b/d.css", b"e.html")}, {name: before[name] for name in (b"b/d.css", b"e.html")})
+        self.assertEqual((out[b"a.html"][:2], out[b"b/c.html"][0]), ((self.made.encode(), 0o604), self.made.encode()))
+        self.run_site("in", "new/out", says=summary(3, 0, 0))
+        self.run_site("in", "new/out", "--fresh", says=summary(3, 0, 4))
+        self.assertEqual(state(self.folder / "new/out"), out)
+
+    def test_what_changed_in_either_folder_is_made_again(self):
+        self.put("in/a.html", "in/b.css")
+        self.run_site("in", "out")
+        self.put("out/a.html", text="other")
+        self.put("out/b.css", text="other")
+        self.run_site("in", "out", says=summary(1, 1, 2))
+        self.holds("out/a.html", self.made)
+        self.holds("out/b.css", PAGE)
+
+    def test_one_page(self):
+        self.put("a.html")
+        self.run_site("a.html", "b.html", says=summary(1, 1, 2))
+        self.holds("a.html", PAGE)
+        self.holds("b.html", self.made)
+        (self.folder / "out").mkdir()
+        self.run_site("a.html", "out")
+        self.holds("out/a.html", self.made)
+        self.run_site("a.html")
+        self.holds("a.html", self.made)
+
+    def test_wrong_words(self):
+        self.put("in/a.html", "b.html")
+        for words in ((), ("none",), ("in", "b.html"), ("in", "in/out"), ("in/..", "in"), ("in", "out", "more"), ("in", "--jobs", "0"),
+                      ("in", "--dollars", "some"), ("in", "--other")):
+            with self.subTest(words):
+                done = self.run_site(*words, status=2, stderr=None)
+                self.assertEqual((done.stdout, done.stderr.startswith(b"usage: latex2mathml-site ")), (b"", True))
+        self.holds("in/a.html", PAGE)
+
+    def test_the_console_script(self):
+        self.put("a.html")
+        self.expect(run([environment().parent / "latex2mathml-site", "a.html"], cwd=self.folder), 0, None)
+        self.holds("a.html", self.made)
+
+    def test_check(self):
+        self.put("a.html", "b.html")
+        self.put("c.html", text="$\\foo$")
+        before = state(self.folder)
+        said = b"c.html:1:2: \\foo: unknown command \\foo\n"
+        for words in ((), ("out",)):
+            self.run_site(".", "--check", *(["../out"] if words else []), says=summary(3, 3, 4, 1, "to be changed"), stderr=said)
+        self.run_site(".", "--check", "--strict", status=1, stderr=said + b"latex2mathml-site: nothing was changed\n")
+        self.assertEqual(state(self.folder), before)
+        self.assertFalse((self.folder.parent / "out").exists())
+
+    def test_strict(self):
+        """Nothing is changed if a formula is refused, and all is if none is."""
+        self.put("in/a.html", "in/b/c.html", "in/d.css")
+        self.put("in/z.html", text="<p>\n  $\\foo$")
+        before = state(self.folder)
+        said = b"in/z.html:2:4: \\foo: unknown command \\foo\nlatex2mathml-site: nothing was changed\n"
+        for words in (["in"], ["in", "new/out"], ["in", "--jobs", "4"]):
+            with self.subTest(words):
+                self.run_site(*words, "--strict", status=1, says=summary(3, 0, 4, 1), stderr=said)
+                self.assertEqual(state(self.folder), before)
+        self.put("in/z.html")
+        self.run_site("in", "new/out", "--strict", says=summary(3, 3, 6))
+        self.run_site("in", "--strict", says=summary(3, 3, 6))
+        for name in ("in/a.html", "in/z.html", "new/out/b/c.html"):
+            self.holds(name, self.made)
+        self.holds("new/out/d.css", PAGE)
+        self.is_clean()
+
+    def test_many_pages(self):
+        """Several processes make of them what one does, and name what is refused in the same order."""
+        for number in range(200):
+            self.put(f"in/{number % 7}/{number}.html", text=f"${number}$ $\\foo$" if number % 50 == 0 else f"${number}$")
+        one = self.run_site("in", "one", "--jobs", "1", says=summary(200, 200, 200, 4), stderr=None)
+        four = self.run_site("in", "four", "--jobs", "4", says=summary(200, 200, 200, 4), stderr=None)
+        self.assertEqual(one.stderr, four.stderr)
+        holds = [{name: it[0] for name, it in state(self.folder / made).items()} for made in ("one", "four")]
+        self.assertEqual(*holds)
+
+    def test_rights(self):
+        """The page has those of the page before, and its owner."""
+        self.put("a.html")
+        (self.folder / "a.html").chmod(0o646)
+        if not os.geteuid():
+            os.chown(self.folder / "a.html", NOBODY, NOBODY)
+        owner = (self.folder / "a.html").stat().st_uid
+        self.run_site(".")
+        about = (self.folder / "a.html").stat()
+        self.assertEqual((stat.S_IMODE(about.st_mode), about.st_uid), (0o646, owner))
+        self.holds("a.html", self.made)
+
+    def test_progress(self):
+        """A terminal shows how far a long run is, and nothing of that at its end. This run is long from its beginning."""
+        self.put(*(f"{number}.html" for number in range(3)))
+        reader, writer = pty.openpty()
+        impatient = "from latex2mathml_proved.site import command; command.PATIENCE = command.PERIOD = 0; command.script()"
+        with subprocess.Popen([environment(), "-c", impatient, ".", "--jobs", "1"], cwd=self.folder, stdout=subprocess.DEVNULL,
+                              stderr=writer) as running:
+            os.close(writer)
+            shown = b""
+            with contextlib.suppress(OSError), open(reader, "rb", buffering=0) as screen:
+                while True:
+                    shown += screen.read(1000)
+        self.assertEqual(running.returncode, 0)
+        steps = "".join(f"\rlatex2mathml-site: {number} of 3 pages\x1b[K" for number in range(3))
+        self.assertEqual(shown, f"{steps}\r\x1b[K".encode())
+
+
+@requires_python()
+class Names(Site):
+    def test_links_to_the_folder_itself(self):
+        """Each folder is visited once, so that cycles of links have an end."""
+        self.put("in/a.html", "in/b/c.html")
+        for name, target in (("latest", "."), ("stable", "."), ("b/up", ".."), ("b/again", "../b"), ("whole", str(self.folder / "in"))):
+            (self.folder / "in" / name).symlink_to(target)
+        self.run_site("in", "out", says=summary(2, 2, 4))
+        self.assertEqual({name: it[0] for name, it in state(self.folder / "out").items()}, {
+            b"a.html": self.made.encode(), b"b": None, b"b/c.html": self.made.encode(), b"latest": ".", b"stable": ".", b"b/up": "..",
+            b"b/again": "../b", b"whole": "."})
+        self.run_site("in", says=summary(2, 2, 4))
+        self.holds("in/b/c.html", self.made)
+        self.assertTrue((self.folder / "in/latest").is_symlink())
+
+    def test_links_to_files(self):
+        """A link stays one, and the file that it leads to is converted."""
+        self.put("in/a.html", "other/b.html", "other/c/d.html")
+        (self.folder / "in/b.html").symlink_to("../other/b.html")
+        (self.folder / "in/a2.html").symlink_to("a.html")
+        (self.folder / "in/c").symlink_to("../other/c")
+        (self.folder / "in/none.html").symlink_to("nowhere")
+        self.run_site("in", "out", says=summary(3, 3, 6))
+        self.assertEqual({name: it[0] for name, it in state(self.folder / "out").items()}, {
+            b"a.html": self.made.encode(), b"a2.html": "a.html", b"b.html": self.made.encode(), b"c": None,
+            b"c/d.html": self.made.encode(), b"none.html": "nowhere"})
+        self.holds("other/b.html", PAGE)
+        self.run_site("in", says=summary(3, 3, 6))
+        for name in ("other/b.html", "other/c/d.html"):
+            self.holds(name, self.made)
+        self.assertTrue((self.folder / "in/b.html").is_symlink())
+
+    def test_two_names_of_a_file(self):
+        """Each of them has the converted page."""
+        self.put("a.html")
+        os.link(self.folder / "a.html", self.folder / "b.html")
+        self.run_site(".", says=summary(2, 2, 4))
+        for name in ("a.html", "b.html"):
+            self.holds(name, self.made)
+
+    def test_names_that_are_no_text(self):
+        names = [b"\xff.html", b"a\nb.html", b"-x.html", "é ü.html".encode(), b"\x1b[31m.html", b"x" * 250 + b".html"]
+        folder = os.fsencode(self.folder)
+        for name in names:
+            with open(os.path.join(folder, name), "w") as file:
+                file.write("$x$ $\\foo$")
+        done = self.run_site(".", says=summary(len(names), len(names), len(names), len(names)), stderr=None)
+        for name in (b"\\xff.html", b"a\\nb.html", b"-x.html", "é ü.html".encode(), b"\\x1b[31m.html", names[-1]):
+            self.assertIn(name + b":1:6: \\foo: unknown command \\foo\n", done.stderr)
+        self.assertEqual(sorted(os.listdir(folder)), sorted(names))
+        for name in names:
+            with open(os.path.join(folder, name)) as file:
+                self.assertTrue(file.read().startswith(tex("x")[0]))
+        self.run_site(".", says=summary(len(names), 0, 0, len(names)), stderr=None)
+
+    def test_what_is_no_file(self):
+        self.put("a.html")
+        os.mkfifo(self.folder / "b.html")
+        (self.folder / "c.html").mkdir()
+        self.run_site(".", says=summary(1, 1, 2))
+
+
+@requires_python()
+class Hostile(Site):
+    def test_binary_files(self):
+        contents = {"a.html": bytes(range(256)) * 40, "b.html": b"\0" * 5000 + b"$x$", "c.html": random.Random(1).randbytes(100_000),
+                    "d.html": "$x$".encode("utf-16")}
+        for name, content in contents.items():
+            (self.folder / name).write_bytes(content)
+        done = self.run_site(".", stderr=None)
+        for name in ("a.html", "c.html", "d.html"):
+            self.assertIn(f"{name}: not UTF-8: left as it is\n".encode(), done.stderr)
+            self.assertEqual((self.folder / name).read_bytes(), contents[name])
+        self.assertEqual((self.folder / "b.html").read_bytes(), contents["b.html"].replace(b"$x$", tex("x")[0].encode()))
+
+    def test_50_megabytes(self):
+        part = "<p>a $x$ b &amp; <code>$x$</code> é</p>\n" + "<p>" + "prose and &lt; prose again " * 40 + "</p>\n"
+        count = 50_000_000 // len(part)
+        self.put("a.html", text=part * count)
+        self.run_site(".", says=summary(1, 1, count), timeout=600)
+        self.assertEqual((self.folder / "a.html").read_text(), part.replace("$x$", tex("x")[0], 1) * count)
+
+    def test_pages_that_take_long(self):
+        """Time grows with the length of a page, whatever stands in it."""
+        for name, text in {
+                "comments": "<!-- $x$ ", "tags": '<a b=" $x$', "open": "<b>", "ends": "<b></i>", "dollars": "$x ", "brackets": "\\( ",
+                "signs": "<", "references": "&", "declarations": "<!", "instructions": "<?", "classes": "class=math", "attributes": "<a b=c ",
+                "quotes": "<a b='", "sections": "<![CDATA[", "other sections": "<![a", "scripts": "<script>", "macros": "<script>macros: {a:[[",
+                "paragraphs": "<p>", "refused": "\\(\\foo\\)\n"}.items():
+            with self.subTest(name):
+                self.put("a.html", text=text * (300_000 // len(text)) + "$x$")
+                before = resource.getrusage(resource.RUSAGE_CHILDREN)
+                self.run_site("a.html", "b.html", stderr=None)
+                after = resource.getrusage(resource.RUSAGE_CHILDREN)
+                self.assertLess(after.ru_utime - before.ru_utime, 15)
+
+    @unittest.skipUnless(os.geteuid() or shutil.which("setpriv"), "this user may write all files, and setpriv not found")
+    def test_what_may_only_be_read(self):
+        """It is named, stays as it is, and all else is converted."""
+        self.put("a.html", "b/c.html", "d.html", "e/f.html")
+        (self.folder / "a.html").chmod(0o444)
+        (self.folder / "b").chmod(0o555)
+        (self.folder / "e").chmod(0o000)
+        drop = []
+        if not os.geteuid():
+            drop = ["setpriv", f"--reuid={NOBODY}", f"--regid={NOBODY}", "--clear-groups"]
+            self.addCleanup(os.chmod, self.folder / "b", 0o755)
+            for path in [self.folder, *self.folder.rglob("*")]:
+                os.chown(path, NOBODY, NOBODY)
+        # a Python that everyone may run
+        package = environment().parent.parent / "lib"
+        [packages] = package.glob("python*/site-packages")
+        copy = self.enterContext(scratch())
+        copy.chmod(0o755)
+        shutil.copytree(packages / "latex2mathml_proved", copy / "latex2mathml_proved")
+        done = run([*drop, "/usr/bin/python3", "-B", "-m", "latex2mathml_proved", "site", "."], cwd=self.folder,
+                   env={"PYTHONPATH": str(copy), "XDG_CACHE_HOME": "/nowhere"})
+        (self.folder / "e").chmod(0o755)
+        self.expect(done, 1, None, b"e: Permission denied\na.html: Permission denied\nb/c.html: Permission denied\n")
+        for name in ("a.html", "b/c.html", "e/f.html"):
+            self.holds(name, PAGE)
+        self.holds("d.html", self.made)
+        self.is_clean()
+
+    def test_a_full_disk(self):
+        """Where this user may mount no device, a limit of what a file may hold takes its place. No page is lost, and a run with more room
+        converts the rest."""
+        device = self.folder / "device"
+        device.mkdir()
+        is_mounted = not run(["mount", "-t", "tmpfs", "-o", "size=400k", "tmpfs", device]).returncode
+        if is_mounted:
+            self.addCleanup(run, ["umount", device])
+        limit = None if is_mounted else lambda: resource.setrlimit(resource.RLIMIT_FSIZE, (20_000, 20_000))
+        reason = b"No space left on device" if is_mounted else b"File too large"
+        text, made = PAGE * 200, self.made * 200
+        names = [f"device/{number}.html" for number in range(20)]
+        self.put(*names, text=text)
+        self.put("device/small.html")
+        for words in (["--jobs", "1"], ["--jobs", "4"], ["--strict"]):
+            with self.subTest(words):
+                done = self.run_site("device", *words, status=1, stderr=None, preexec_fn=limit)
+                self.assertIn(b".html: " + reason + b"\n", done.stderr)
+                found = {(self.folder / name).read_text() for name in names}
+                self.assertLessEqual(found, {text, made})
+                self.assertIn(text, found)
+                self.is_clean()
+        if is_mounted:
+            self.expect(run(["mount", "-o", "remount,size=8m", "tmpfs", device]))
+        self.run_site("device")
+        for name in names:
+            self.holds(name, made)
+
+    def whole(self, names, text, made):
+        """Each page is the old one or the new one. Returns how many are new."""
+        found = [(self.folder / name).read_text() for name in names]
+        self.assertLessEqual(set(found), {text, made})
+        return found.count(made)
+
+    def wait_until(self, condition, running):
+        """Waits until something is so, or a process has ended."""
+        end = time.monotonic() + 300
+        while not condition() and running.poll() is None:
+            self.assertLess(time.monotonic(), end)
+            time.sleep(0.002)
+
+    def changed(self, names, text):
+        """How many pages are not what they were."""
+        return sum((self.folder / name).stat().st_size != len(text) for name in names)
+
+    def waiting(self):
+        """How many new pages wait for their places."""
+        return sum(1 for _ in self.folder.rglob(".latex2mathml-*"))
+
+    def test_killed_at_30_moments(self):
+        """Pages are whole, and the next run removes what was being written, and converts the rest."""
+        text, made = PAGE * 300, self.made * 300
+        names = [f"{number % 5}/{number}.html" for number in range(60)]
+        moments, counts = random.Random(7), []
+        for turn in range(30):
+            self.put(*names, text=text)
+            is_strict, moment = turn % 3 == 0, moments.randrange(len(names))
+            words = ["--jobs", "2"] + (["--strict"] if is_strict else [])
+            with subprocess.Popen(command(".", *words), cwd=self.folder, stdout=subprocess.DEVNULL, stderr=subprocess.DEVNULL,
+                                  start_new_session=True) as running:
+                self.wait_until(lambda: (self.waiting() if is_strict else self.changed(names, text)) >= moment, running)
+                time.sleep(moments.random() * 0.02)
+                running.kill()
+            self.wait_for_the_end_of(running.pid)
+            counts.append(self.whole(names, text, made))
+        self.assertGreater(len(set(counts)), 5, f"the moments were alike: {counts}")
+        self.run_site(".", timeout=600)
+        self.assertEqual(self.whole(names, text, made), len(names))
+        self.is_clean()
+
+    def wait_for_the_end_of(self, group):
+        """The processes that a run has begun end soon after it."""
+        end = time.monotonic() + 120
+        while processes_of(group):
+            if time.monotonic() > end:
+                os.killpg(group, signal.SIGKILL)
+                self.fail("processes have outlived the run that began them")
+            time.sleep(0.02)
+
+    def test_interrupted(self):
+        """By Ctrl-C, which all processes of a terminal are told of, and by other signals. Nothing that was being written stays."""
+        for number, words in ((signal.SIGINT, []), (signal.SIGINT, ["--jobs", "1"]), (signal.SIGINT, ["--strict"]), (signal.SIGTERM, []),
+                              (signal.SIGHUP, ["--jobs", "1"]), (signal.SIGINT, [f"{self.folder}.out"])):
+            with self.subTest(words, number=number):
+                # where the run has ended before the signal, a longer one is tried
+                self.assertTrue(any(self.is_interrupted(number, words, length) for length in (300, 3_000, 15_000)))
+
+    def is_interrupted(self, number, words, length):
+        """Ends a run over pages of so many lines by a signal, looks at what it leaves, and says whether it was under way."""
+        text, made = PAGE * length, self.made * length
+        names = [f"{page}.html" for page in range(60)]
+        out = pathlib.Path(f"{self.folder}.out")
+        self.addCleanup(shutil.rmtree, out, ignore_errors=True)
+        self.put(*names, text=text)
+        with subprocess.Popen(command(".", "--fresh", *words), cwd=self.folder, stdout=subprocess.PIPE, stderr=subprocess.PIPE,
+                              start_new_session=True, preexec_fn=hear_interrupts) as running:
+            self.wait_until(lambda: self.changed(names, text) + self.waiting() + (out.exists() and len(os.listdir(out))) > 5, running)
+            with contextlib.suppress(ProcessLookupError):
+                os.killpg(running.pid, number)
+            said = running.communicate(timeout=300)
+        self.wait_for_the_end_of(running.pid)
+        count = self.whole(names, text, made)
+        if not running.returncode:
+            shutil.rmtree(out, ignore_errors=True)
+            return False
+        self.assertEqual((running.returncode, said), (130, (b"", b"latex2mathml-site: interrupted\n")))
+        if "--strict" in words or str(out) in words:
+            self.assertEqual(count, 0)
+        else:
+            self.assertGreater(count, 0)
+        self.is_clean()
+        return count < len(names)
+
+    @requires("python:watchdog")
+    def test_watching(self):
+        self.put("a.html")
+        with subprocess.Popen([environment("watchdog"), *command(".", "--watch")[1:]], cwd=self.folder, stdout=subprocess.PIPE,
+                              stderr=subprocess.PIPE, preexec_fn=hear_interrupts) as running:
+            try:
+                self.assertRegex(running.stdout.readline().decode(), summary(1, 1, 2))
+                self.put("b/c.html")
+                self.assertRegex(running.stdout.readline().decode(), summary(2, 1, 2))
+                self.holds("b/c.html", self.made)
+                self.put("a.html", text="$\\foo$")
+                self.assertRegex(running.stdout.readline().decode(), summary(2, 1, 0, 1))
+                self.assertEqual(running.stderr.readline(), b"a.html:1:2: \\foo: unknown command \\foo\n")
+            finally:
+                running.send_signal(signal.SIGINT)
+                said = running.communicate(timeout=300)[1]
+        self.assertEqual(running.returncode, 130)
+        self.assertEqual(said, b"latex2mathml-site: interrupted\n")
+
+    def test_watching_without_the_package(self):
+        self.put("a.html")
+        self.run_site(".", "--watch", status=2,
+                      stderr=b"latex2mathml-site: --watch needs the package watchdog, which Debian has as python3-watchdog\n")
+        self.holds("a.html", PAGE)

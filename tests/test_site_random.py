@@ -1,0 +1,102 @@
+"""Random pages through the command `latex2mathml-site`: each formula is converted, every other byte stays as it was, and nothing is taken
+for a formula but text, as another parser of HTML sees it."""
+import functools
+import html
+import os
+import re
+import unittest
+
+import hypothesis
+from hypothesis import strategies as st
+
+from tests.environments import ask, environment, requires_python
+from tests.sites import tex
+from tests.support import requires
+from tests.test_site import CONVERT
+
+COUNT = int(os.environ.get("LATEX2MATHML_RANDOM", "40"))
+
+RUN = hypothesis.settings(max_examples=COUNT, deadline=None, database=None, suppress_health_check=list(hypothesis.HealthCheck))
+
+FORMULAS = ("x", "a+b", "x_1", "a &lt; b", "\\frac{1}{2}", "\\text{a b}", "a &amp;= b \\\\ c &amp;= d", "é", "\\{ x \\}")
+
+# What stands between formulas, and has none.
+OTHERS = (
+    "&amp;", "&lt;", "&#36;", "&copy", "<b>", "</b>", "<p class='a'>", "</p>", '<img alt="$x$ \\(y\\)">', "<br/>", "<!-- $x$ \\(y\\) -->",
+    "<code>$x$</code>", "<script>if (a < b) '$x$ \\(y\\)'</script>", "<pre>\\(x\\) <b>$y$</b></pre>", "<textarea>$x$</textarea>",
+    "<style>a > b { content: '$x$' }</style>", "<svg><text>$x$</text></svg>", "<a href='?a=$x$&b=\\(y\\)'>", "</a>", "<div>\n</div>",
+    "<!DOCTYPE html>", "\\$5 ", " $5 and $6 <br>", " < ", "\\\\(x\\\\) ")
+
+PROSE = st.text("ab é\n>\"'=-/;5.\t", max_size=8)
+
+# A part of a page, with the formula that it is, if it is one: its LaTeX, and whether it stands in a block.
+PARTS = st.one_of(
+    st.tuples(st.one_of(PROSE, st.sampled_from(OTHERS)), st.none()),
+    st.builds(lambda latex: (f"\\({latex}\\)", (latex, False)), st.sampled_from(FORMULAS)),
+    st.builds(lambda latex: (f"\\[{latex}\\]", (latex, True)), st.sampled_from(FORMULAS)),
+    st.builds(lambda latex: (f"${latex}$", (latex, False)), st.sampled_from(FORMULAS)),
+    st.builds(lambda latex: (f"$${latex}$$", (latex, True)), st.sampled_from(FORMULAS)))
+
+# A full stop parts two parts, since a digit behind a dollar sign, or another one, says something of it.
+PAGES = st.lists(st.lists(PARTS, max_size=30), min_size=1, max_size=30)
+
+SOUP = st.lists(st.sampled_from(
+    ["<", ">", "/", "!", "--", "=", '"', "'", " ", "$", "\\(", "\\)", "\\[", "\\]", "$$", "\\", "a", "x", "&", ";", "#", "<b", "</b>", "<!--",
+     "-->", "<code", "<p ", "</", "<?", "<![", "]]>", "script", "<script>", "</script>", "\n", "5", "<svg>", "</svg>", "<textarea>", "<title>",
+     "&lt;", "&#x3c;", "<td>", "<math>", "</math>", "<style", "/>"]), max_size=40).map("".join)
+
+MARKUP = re.compile(r"<math xmlns=.*?</math>|<code class=\"latex2mathml-refused\".*?</code>", re.DOTALL)
+FORMULA = r"(\\\(.+?\\\)|\\\[.+?\\\]|\$.+?\$\$?)"
+
+# In the text of these no formula is looked for.
+WITHOUT = {"script", "style", "pre", "code", "textarea", "math", "svg", "title", "option", "select", "iframe", "noscript", "xmp", "template"}
+
+
+@functools.cache
+def markup(latex, block):
+    return tex([html.unescape(latex), block])[0]
+
+
+@requires_python()
+class Random(unittest.TestCase):
+    @RUN
+    @hypothesis.given(PAGES)
+    def test_formulas_alone_are_changed(self, pages):
+        given = [".".join(written for written, _ in page) + "." for page in pages]
+        wanted = [".".join(markup(*formula) if formula else written for written, formula in page) + "." for page in pages]
+        made = ask(environment(), CONVERT, [[page, {}] for page in given])
+        for page, want, (came, _, faults) in zip(given, wanted, made):
+            self.assertEqual((came, faults), (want, []), page)
+
+    @requires("python:html5lib")
+    @RUN
+    @hypothesis.given(st.lists(SOUP, min_size=1, max_size=60))
+    def test_only_text_is_changed(self, pages):
+        made = ask(environment(), CONVERT, [[page, {}] for page in pages])
+        for page, (came, _, _) in zip(pages, made):
+            between = [re.escape(it) for it in MARKUP.split(came)]
+            found = re.fullmatch(FORMULA.join(between), page, re.DOTALL)
+            self.assertIsNotNone(found, page)
+            texts = texts_of(page)
+            for formula in found.groups():
+                self.assertTrue(any(html.unescape(formula) in text for text in texts), (page, formula, texts))
+
+
+def texts_of(page):
+    """The texts of a page where formulas may stand, as html5lib reads it."""
+    import html5lib
+    found = []
+
+    def walk(element, may_have):
+        # comments have no name
+        name = element.tag.rpartition("}")[2] if isinstance(element.tag, str) else "script"
+        inside = may_have and name not in WITHOUT
+        if inside and element.text:
+            found.append(element.text)
+        for child in element:
+            walk(child, inside)
+            if inside and child.tail:
+                found.append(child.tail)
+
+    walk(html5lib.parse(page), True)
+    return found
