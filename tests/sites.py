@@ -14,7 +14,9 @@ print(json.dumps([latex2mathml_proved.tex(*words) for words in json.load(sys.std
 
 def tex(*formulas):
     """The markup of each formula, which is a text, or a list of the arguments of `latex2mathml_proved.tex`."""
-    return ask(environment(), TEX, [[it] if isinstance(it, str) else it for it in formulas])
+    answers = ask(environment(), TEX, [[it] if isinstance(it, str) else it for it in formulas])
+    assert all(it.startswith("<math ") for it in answers), f"a formula has no markup: {answers}"
+    return answers
 
 
 def keep_caches_here():

@@ -82,7 +82,8 @@ class TablesOfTheCode(unittest.TestCase):
         self.assertEqual(table.characters_drawn(table.sections()["Characters"]), table.characters_in_the_code())
 
     def test_environments(self):
-        listed = {name: (behind.startswith("[t]"), ARGUMENTS[behind.removeprefix("[t]")], around)
+        brackets = {"": "Nothing", "[t]": "Position", "[r]": "Alignment"}
+        listed = {name: (brackets[behind[:3] if behind.startswith("[") else ""], ARGUMENTS[re.sub(r"^\[.\]", "", behind)], around)
                   for name, (behind, around) in table.environments().items()}
         self.assertEqual(listed, table.environments_in_the_code())
         self.assertEqual(sorted(table.lines_before_rows()), sorted(table.lines_in_the_code()))

@@ -161,10 +161,11 @@ class Formulas(Pandoc):
         self.assertEqual(link, f"{target}#eq:a")
 
     def test_processes(self):
-        """However many formulas there are, and whether some are refused."""
+        """One for a document, however many formulas there are, and whether some are refused. A refused definition makes them two."""
         counter = self.script(COUNTER.format(program=tex_program()))
         lines = "\n\n".join(f"$x_{{{i}}}$" if i % 10 else f"${{{i}$" for i in range(1000))
-        for source, count in ((lines, 1), (f"{lines}\n\n$$x$$", 2), (f"\\newcommand{{\\R}}{{x}}\n\n{lines}\n\n$$x$$", 3), ("x", 0)):
+        block, macro, wrong = "\n\n$$x$$", "\\newcommand{\\R}{x}\n\n", "\\newcommand{\\R}{#1}\n\n"
+        for source, count in ((lines, 1), (lines + block, 1), (macro + lines + block, 1), (wrong + lines + block, 2), ("x", 0)):
             with self.subTest(processes=count):
                 done = self.pandoc(source, converter=counter)
                 self.expect(done, stderr=None)

@@ -1,8 +1,11 @@
 """The command `latex2mathml-site`: which parts of a page are formulas, what takes their place, and what is said of them."""
+import os
+import pathlib
 import re
+import subprocess
 
-from tests.environments import ask, environment, requires_python
-from tests.sites import site, tex
+from tests.environments import ask, environment, requires_python, run_python
+from tests.sites import keep_caches_here, site, tex
 from tests.support import Case, scratch
 
 # Converts pages, and answers the results with their faults.
@@ -267,3 +270,61 @@ class Macros(Case):
                     (folder / name).write_text(text)
                 self.expect(site("a.html", "--macros", name, cwd=folder), 1, b"", f"latex2mathml-site: {reason}\n".encode())
                 self.assertEqual((folder / "a.html").read_text(), "$x$")
+
+
+@requires_python()
+class Leftovers(Case):
+    def test_whose_process_has_ended(self):
+        """The next run removes a file that was being written, unless its process still writes: not one of the same number that began
+        later, nor one that is listed after its end."""
+        with scratch() as folder, subprocess.Popen(["sleep", "600"]) as alive:
+            ended = subprocess.Popen(["true"])
+            os.waitid(os.P_PID, ended.pid, os.WEXITED | os.WNOWAIT)
+            try:
+                (folder / "a.html").write_text("$x$")
+                for process, began in ((alive.pid, began_at(alive.pid)), (alive.pid, "1"), (ended.pid, began_at(ended.pid))):
+                    (folder / f".latex2mathml-{process}-{began}-0.new").write_text("half")
+                self.expect(site(".", cwd=folder), stdout=None)
+                self.assertEqual(sorted(it.name for it in folder.iterdir()), [f".latex2mathml-{alive.pid}-{began_at(alive.pid)}-0.new", "a.html"])
+                self.assertEqual((folder / "a.html").read_text(), tex("x")[0])
+            finally:
+                alive.kill()
+                ended.wait()
+
+
+def began_at(process):
+    """When a process began, in the ticks of Linux."""
+    return pathlib.Path(f"/proc/{process}/stat").read_text().rpartition(")")[2].split()[19]
+
+
+# Runs the command where each page is written anew after it was read.
+WRITTEN_ANEW = """
+import sys
+from latex2mathml_proved.site import building, command
+
+convert = building.convert
+
+def converted(content, options):
+    with open("a.html", "a") as page:
+        page.write("more")
+    return convert(content, options)
+
+building.convert = converted
+sys.exit(command.main(sys.argv[1:]))
+"""
+
+
+@requires_python()
+class WrittenAnew(Case):
+    def test_a_page_that_its_builder_writes_meanwhile(self):
+        for words, more in (((), b""), (("--strict",), b"latex2mathml-site: nothing was changed\n")):
+            with self.subTest(words), scratch() as folder:
+                (folder / "a.html").write_text("$x$")
+                keep_caches_here()
+                done = run_python(environment(), "-c", WRITTEN_ANEW, ".", *words, cwd=folder)
+                self.expect(done, 1, None, b"a.html: changed while it was converted: left as it is\n" + more)
+                self.assertEqual((folder / "a.html").read_text(), "$x$more")
+                self.assertEqual([it.name for it in folder.iterdir()], ["a.html"])
+                # the next run converts it
+                self.expect(site(".", *words, cwd=folder), stdout=None)
+                self.assertEqual((folder / "a.html").read_text(), f"{tex('x')[0]}more")

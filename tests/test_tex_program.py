@@ -34,6 +34,18 @@ class OneFormula(Case):
     def test_nothing(self):
         self.expect(ask(), stdout=math(b"") + b"\n")
 
+    def test_each_as_its_first_line_says(self):
+        each = ("--display", "each")
+        for first, display in ((b"inline\n", b"inline"), (b"block\n", b"block"), (b"", b"inline")):
+            with self.subTest(first):
+                self.expect(ask(*each, stdin=first + b"x"), stdout=math(b"<mi>x</mi>", display) + b"\n")
+        letters = b"".join(b"<mi>%c</mi>" % c for c in b"block")
+        for text, contents in ((b"block", letters), (b"\nblock\n", letters), (b"inline\nblock\n", letters), (b"block x\n", letters + b"<mi>x</mi>")):
+            with self.subTest(text):
+                self.expect(ask(*each, stdin=text), stdout=math(contents) + b"\n")
+        self.expect(ask(*each, stdin=b"block\n\\foo"), 1, stderr=b"tex2mathml: unknown command \\foo at 0\n")
+        self.expect(ask("--display", "block", stdin=b"block\n"), stdout=math(letters, b"block") + b"\n")
+
     def test_lines(self):
         self.expect(ask(stdin=b"x\r\n+ y\n"), stdout=math(b"<mi>x</mi><mo>+</mo><mi>y</mi>") + b"\n")
 
@@ -76,6 +88,13 @@ class ManyFormulas(Case):
     def test_a_refused_one_stops_no_other(self):
         x = b"mathml\n" + math(b"<mi>x</mi>", b"block")
         self.replies(b"x\0x^\0{\0x", [x, b"error\nan argument is missing at 1", b"error\n{ is not closed at 0", x], "--display", "block")
+
+    def test_each_as_its_first_line_says(self):
+        texts = b"block\nx\0inline\nx\0x\0block\n{\0block\n\0"
+        x, block = (b"mathml\n" + math(b"<mi>x</mi>", display) for display in (b"inline", b"block"))
+        self.replies(texts, [block, x, x, b"error\n{ is not closed at 0", b"mathml\n" + math(b"", b"block")], "--display", "each")
+        self.replies(b"block\nx\0x", [b"mathml\n" + annotated(b"<mi>x</mi>", b"x", b"block"), b"mathml\n" + annotated(b"<mi>x</mi>", b"x")],
+                     "--display", "each", "--annotation")
 
     def test_as_if_each_were_alone(self):
         """What was read before leaves nothing behind."""
@@ -395,7 +414,7 @@ class Words(Case):
     def test_help(self):
         done = ask("--help")
         self.expect(done, stdout=None)
-        for word in (b"Usage: tex2mathml [OPTIONS]", b"--display", b"--null", b"--definitions <FILE>", b"--annotation", b"inline", b"block"):
+        for word in (b"Usage: tex2mathml [OPTIONS]", b"--display", b"--null", b"--definitions <FILE>", b"--annotation", b"inline", b"block", b"each"):
             self.assertIn(word, done.stdout)
 
     def test_version(self):

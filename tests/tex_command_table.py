@@ -205,11 +205,11 @@ def arms(function, file="delimiters.rt"):
 
 
 def environments_in_the_code():
-    """Whether each environment has a position, its argument, and the delimiters around it."""
-    form = (rf"name: ({TEXT}), delimiters: (.*?), layout: [\w:]+, style: [\w:]+, may_have_position: (\w+), "
+    """What stands in brackets behind the name of each environment, its argument, and the delimiters around it."""
+    form = (rf"name: ({TEXT}), delimiters: (.*?), layout: [\w:]+, style: [\w:]+, bracket: Bracket::(\w+), "
             r"argument: (?:None|Some\(Argument::(\w+)\))")
-    return {value(name): (position == "true", argument, delimiters_around(delimiters))
-            for name, delimiters, position, argument in entries("Environment", form, source("environments.rt"))}
+    return {value(name): (bracket, argument, delimiters_around(delimiters))
+            for name, delimiters, bracket, argument in entries("Environment", form, source("environments.rt"))}
 
 
 def delimiters_around(written):

@@ -39,7 +39,7 @@ COLUMNS = {
     "Dense": "centered, narrow",
 }
 ARGUMENTS = {"ColumnList": "`{lcr}`", "Number": "`{2}`"}
-POSITION = "`[t]` if wanted"
+BRACKETS = {"NoBracket": "", "Position": "`[t]` if wanted", "Alignment": "`[r]` if wanted"}
 
 BOXES = {
     "Phantom": "an operand that is not seen", "PhantomWidth": "the width of an operand", "PhantomHeight": "the height and depth of an operand",
@@ -375,11 +375,11 @@ def environment_lines():
 def environment_cells(environment):
     """The cells of the row of an environment, behind its name."""
     match environment:
-        case {"delimiters": delimiters, "columns": columns, "style": Made(style), "may_have_position": bool(may), "argument": argument} \
+        case {"delimiters": delimiters, "columns": columns, "style": Made(style), "bracket": Made(bracket), "argument": argument} \
                 if len(environment) == 5:
             behind, own = argument_text(argument), columns_text(columns)
             said = "those said" if behind == ARGUMENTS["ColumnList"] else own
-            return ", ".join(filter(None, [POSITION if may else "", behind])), said, STYLES[style], around(delimiters)
+            return ", ".join(filter(None, [BRACKETS[bracket], behind])), said, STYLES[style], around(delimiters)
     raise KeyError(str(environment))
 
 

@@ -3,7 +3,7 @@
 --     pandoc --lua-filter latex2mathml.lua -s a.md -o a.html
 --
 -- The document is walked twice. The first walk gathers formulas, definitions and labels. Then the program `tex2mathml` converts the
--- formulas: those in lines in one run, those in blocks in another. The second walk puts the results in.
+-- formulas, all in one run; it runs once more if a definition is refused. The second walk puts the results in.
 
 local re = require 're'
 
@@ -75,9 +75,7 @@ local function default_options()
   }
 end
 
-local function type_of(meta)
-  return pandoc.utils.type(meta)
-end
+local type_of = pandoc.utils.type
 
 --- The one element of a value, or nil: blocks may hold it in a paragraph.
 local function only_element(value)
@@ -144,18 +142,14 @@ local function definitions_in(value)
   return definitions
 end
 
-local function is_mapping(meta)
-  return type_of(meta) == 'table'
-end
-
 --- The definitions of the option `macros`, in the order of their names.
 local function macros_of(value)
-  if not is_mapping(value) then
+  if type_of(value) ~= 'table' then
     return definitions_in(value)
   end
-  local definitions = {}
+  local definitions = pandoc.List {}
   for name, body in pairs(value) do
-    definitions[#definitions + 1] = definition_of(name, body)
+    definitions:insert(definition_of(name, body))
   end
   table.sort(definitions, function(first, second) return first.name < second.name end)
   return definitions
@@ -181,7 +175,7 @@ local READERS = {
 local function take_options(meta)
   local given = {}
   local mapping = meta.latex2mathml or {}
-  if not is_mapping(mapping) then
+  if type_of(mapping) ~= 'table' then
     fail('latex2mathml is a mapping with the options')
   end
   for name, value in pairs(mapping) do
@@ -273,14 +267,15 @@ end
 
 -- The program --------------------------------------------------------------------------------------------------------
 
---- The program's reply to each text, in turn: whether it is markup, and the markup or the reason why there is none.
-local function ask(options, texts, words)
-  if #texts == 0 then
-    return {}
-  end
-  words = pandoc.List {'--null'} .. words
+--- The program's reply to each text, in turn: whether it is markup, and the markup or the reason why there is none. The first line of
+--- a text says whether the formula stands in a line or in a block.
+local function ask(options, texts)
+  local words = pandoc.List {'--null', '--display', 'each'}
   if options.definitions then
     words:extend {'--definitions', options.definitions}
+  end
+  if options.annotation then
+    words:insert('--annotation')
   end
   local done, output = pcall(pandoc.pipe, options.program, words, table.concat(texts, '\0') .. '\0')
   if not done then
@@ -294,27 +289,6 @@ local function ask(options, texts, words)
   return replies
 end
 
---- Keeps the definitions that define something and are nothing else, and says what is wrong with the others.
-local function check_definitions(options, definitions)
-  local texts = {}
-  for i, definition in ipairs(definitions) do
-    texts[i] = definition.text
-  end
-  for i, reply in ipairs(ask(options, texts, {})) do
-    local definition = definitions[i]
-    local reason = not reply.is_markup and reply.said:gsub(' at %d+$', '') or nil
-    if reply.is_markup and not reply.said:match('^<math[^>]*></math>$') then
-      reason = 'not a definition'
-    end
-    if reason and definition.is_option then
-      fail('the macro %s is refused: %s', definition.name, reason)
-    elseif reason then
-      report(options, definition.text, reason)
-      definition.text = ''
-    end
-  end
-end
-
 --- The texts of the first definitions, a line for each.
 local function texts_of(definitions, count)
   local texts = {}
@@ -322,6 +296,44 @@ local function texts_of(definitions, count)
     texts[i] = definitions[i].text ~= '' and definitions[i].text .. '\n' or ''
   end
   return table.concat(texts)
+end
+
+--- The replies to the definitions, each alone, and then to the formulas, each behind the definitions that stand before it.
+local function ask_about(options, definitions, formulas)
+  local texts = {}
+  for i, definition in ipairs(definitions) do
+    texts[i] = 'inline\n' .. definition.text
+  end
+  for _, formula in ipairs(formulas) do
+    formula.before = texts_of(definitions, formula.definitions)
+    -- a NUL would end the formula, and Markdown reads one as this character too
+    local source = formula.source:gsub('\0', '\u{FFFD}')
+    texts[#texts + 1] = (formula.is_block and 'block\n' or 'inline\n') .. formula.before .. source
+  end
+  return ask(options, texts)
+end
+
+--- Whether nothing is drawn, as of a definition.
+local function is_empty(markup)
+  return markup:match('^<math[^>]*></math>$') or markup:match('^<math[^>]*><semantics><mrow></mrow><annotation')
+end
+
+--- Keeps the definitions that define something and are nothing else, and says what is wrong with the others. Returns whether all are
+--- kept.
+local function check_definitions(options, definitions, replies)
+  local all = true
+  for i, definition in ipairs(definitions) do
+    local reply = replies[i]
+    if not (reply.is_markup and is_empty(reply.said)) then
+      local reason = reply.is_markup and 'not a definition' or reply.said:gsub(' at %d+$', '')
+      if definition.is_option then
+        fail('the macro %s is refused: %s', definition.name, reason)
+      end
+      report(options, definition.text, reason)
+      definition.text, all = '', false
+    end
+  end
+  return all
 end
 
 --- The reason with its place in the formula, before which the program read definitions.
@@ -339,23 +351,17 @@ local function without_annotated_definitions(markup, definitions)
   return (markup:gsub('(<annotation encoding="application/x%-tex">)([^<]*)', formula_of, 1))
 end
 
---- Converts the formulas that stand in a line, or those that stand in a block.
-local function convert(options, formulas, definitions, is_block)
-  local chosen, texts = {}, {}
-  for _, formula in ipairs(formulas) do
-    if formula.is_block == is_block then
-      formula.before = texts_of(definitions, formula.definitions)
-      chosen[#chosen + 1] = formula
-      -- a NUL would end the formula, and Markdown reads one as this character too
-      texts[#texts + 1] = formula.before .. formula.source:gsub('\0', '\u{FFFD}')
-    end
+--- Converts the formulas.
+local function convert(options, definitions, formulas)
+  if #definitions + #formulas == 0 then
+    return
   end
-  local words = pandoc.List {'--display', is_block and 'block' or 'inline'}
-  if options.annotation then
-    words:insert('--annotation')
+  local replies = ask_about(options, definitions, formulas)
+  if not check_definitions(options, definitions, replies) then
+    replies = ask_about(options, definitions, formulas)
   end
-  for i, reply in ipairs(ask(options, texts, words)) do
-    local formula = chosen[i]
+  for i, formula in ipairs(formulas) do
+    local reply = replies[#definitions + i]
     formula.markup = reply.is_markup and without_annotated_definitions(reply.said, formula.before) or nil
     formula.reason = not reply.is_markup and without_definitions(reply.said, formula.before) or nil
   end
@@ -394,10 +400,7 @@ local function with_numbers(formula, numbers)
 end
 
 local function inline_of(formula, numbers)
-  if #formula.labels > 0 then
-    return with_numbers(formula, numbers)
-  end
-  return pandoc.RawInline('html', markup_of(formula))
+  return #formula.labels > 0 and with_numbers(formula, numbers) or pandoc.RawInline('html', markup_of(formula))
 end
 
 --- The text of a reference to a number.
@@ -481,9 +484,7 @@ local function convert_document(document)
   keep_title(document.meta)
   local definitions = options.macros
   local formulas, numbers, references = gather(document, definitions)
-  check_definitions(options, definitions)
-  convert(options, formulas, definitions, false)
-  convert(options, formulas, definitions, true)
+  convert(options, definitions, formulas)
   for _, formula in ipairs(formulas) do
     if formula.reason then
       report(options, formula.source, formula.reason)

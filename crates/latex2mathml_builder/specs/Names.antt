@@ -26,6 +26,7 @@ use Rattle.latex2mathml_builder.specs.declared.tag.Triple.TheVariants as triple
 
 abbrev pub form_of : Form → attributes.Form
 form_of form.Prefix = attributes.Prefix
+form_of form.Infix = attributes.Infix
 form_of form.Postfix = attributes.Postfix
 
 abbrev pub math_style_of : MathStyle → attributes.MathStyle

@@ -17,6 +17,7 @@ pub enum Side {
 #[derive(Debug, Clone, Copy)]
 pub enum Form {
     Prefix,
+    Infix,
     Postfix,
 }
 
@@ -183,6 +184,7 @@ fn form_text(form: Option<Form>) -> &'static str
     match form {
         None => "",
         Some(Form::Prefix) => " form=\"prefix\"",
+        Some(Form::Infix) => " form=\"infix\"",
         Some(Form::Postfix) => " form=\"postfix\"",
     }
 }

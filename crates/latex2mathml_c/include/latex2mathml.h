@@ -18,7 +18,7 @@
 #include <stdint.h>
 
 /* The version of the library, as CHANGELOG.md lists it. */
-#define LATEX2MATHML_VERSION "0.3.0"
+#define LATEX2MATHML_VERSION "0.4.0"
 
 #ifdef __cplusplus
 extern "C" {

@@ -2,7 +2,7 @@
 use Rattle.std.proofs.Common.{◌≡◌, ℕ, zero, suc, ℤ, pos, negsuc, Bool, true, false, IsTrue, List, [], ◌∷◌, ◌++◌, append_assoc, append-nil, Option, Some, None, refl, arith, codes, map}
 use Rattle.std.specs.List.{flat_map, list_all}
 use Rattle.std.proofs.{lemmas.Grind.flat_map-append, lemmas.List.Folds.list_all-append}
-use Rattle.latex2mathml_elements.specs.Attributes.{Attributes, Side, Above, Below, Form, Prefix, Postfix, Stretch, Stretching, Rigid, Space, NoSpace, Narrow, Size, Big, Bigger, VeryBig, Biggest, MathStyle, DisplayStyle, TextStyle, ScriptStyle, Boxing, NoWidth, Flat, NoHeight, NoDepth, ByItsWidth, ByHalfItsWidth, Framed, StruckUp, StruckDown, StruckTwice}
+use Rattle.latex2mathml_elements.specs.Attributes.{Attributes, Side, Above, Below, Form, Prefix, Infix, Postfix, Stretch, Stretching, Rigid, Space, NoSpace, Narrow, Size, Big, Bigger, VeryBig, Biggest, MathStyle, DisplayStyle, TextStyle, ScriptStyle, Boxing, NoWidth, Flat, NoHeight, NoDepth, ByItsWidth, ByHalfItsWidth, Framed, StruckUp, StruckDown, StruckTwice}
 use Rattle.latex2mathml_elements.specs.Columns.{Column, Centered, LeftAligned, RightAligned, FirstOfPair, SecondOfPair, Dense}
 use Rattle.latex2mathml_elements.specs.Print.{accent_text, attributes_text, boxing_text, column_text, form_text, if_so, line_down, line_up, size_text, space_text, stretch_text, style_text}
 use Rattle.latex2mathml_elements.specs.Colors.{Color, color_text}
@@ -36,6 +36,7 @@ upright = record { list = attribute (codes "mathvariant") (map plain (codes "nor
 form : (f : Option Form) → AreSettings (form_text f)
 form None = nothing
 form (Some Prefix) = record { list = attribute (codes "form") (map plain (codes "prefix")) ∷ []; valid = refl; spelled = refl }
+form (Some Infix) = record { list = attribute (codes "form") (map plain (codes "infix")) ∷ []; valid = refl; spelled = refl }
 form (Some Postfix) = record { list = attribute (codes "form") (map plain (codes "postfix")) ∷ []; valid = refl; spelled = refl }
 
 stretch : (s : Option Stretch) → AreSettings (stretch_text s)

@@ -10,6 +10,7 @@ pub data Side : Type 0 where
 -- where an operator stands among others
 pub data Form : Type 0 where
   Prefix : Form
+  Infix : Form
   Postfix : Form
 
 -- whether an operator is as high or as wide as what stands beside it

@@ -1,6 +1,6 @@
 -- How elements are written.
 use Rattle.std.specs.Prelude.{ℕ, Bool, true, false, List, [], ◌++◌, Option, Some, None, codes}
-use Rattle.latex2mathml_elements.specs.Attributes.{Attributes, Side, Above, Below, Form, Prefix, Postfix, Stretch, Stretching, Rigid, Space, NoSpace, Narrow, Size, Big, Bigger, VeryBig, Biggest, MathStyle, DisplayStyle, TextStyle, ScriptStyle, Boxing, NoWidth, Flat, NoHeight, NoDepth, ByItsWidth, ByHalfItsWidth, Framed, StruckUp, StruckDown, StruckTwice}
+use Rattle.latex2mathml_elements.specs.Attributes.{Attributes, Side, Above, Below, Form, Prefix, Infix, Postfix, Stretch, Stretching, Rigid, Space, NoSpace, Narrow, Size, Big, Bigger, VeryBig, Biggest, MathStyle, DisplayStyle, TextStyle, ScriptStyle, Boxing, NoWidth, Flat, NoHeight, NoDepth, ByItsWidth, ByHalfItsWidth, Framed, StruckUp, StruckDown, StruckTwice}
 use Rattle.latex2mathml_elements.specs.Columns.{Column, Centered, LeftAligned, RightAligned, FirstOfPair, SecondOfPair, Dense}
 use Rattle.latex2mathml_elements.specs.Element.{Token, Mi, Mn, Mo, Mtext, Container, Mrow, Msqrt, Mstyle, Mpadded, Mphantom, Pair, Mfrac, Mroot, Msub, Msup, Munder, Mover, Triple, Msubsup, Munderover, Element, Elements, Rows, Cells, token, space, rectangle, container, pair, triple, table, none, more, one_row, more_rows, one_cell, more_cells}
 use Rattle.latex2mathml_elements.specs.{Colors.color_text, Extents.extent_text, Extents.length_if_any}
@@ -43,6 +43,7 @@ if_so false text = []
 abbrev pub form_text : Option Form → List ℕ
 form_text None = []
 form_text (Some Prefix) = codes " form=\"prefix\""
+form_text (Some Infix) = codes " form=\"infix\""
 form_text (Some Postfix) = codes " form=\"postfix\""
 
 abbrev pub stretch_text : Option Stretch → List ℕ

@@ -10,7 +10,7 @@ use Rattle.latex2mathml_tex_grammar.specs.Refusal.{UnknownColor, refusal_at}
 use Rattle.latex2mathml_tex_grammar.specs.Rules.{Rule, a_box, a_color}
 use Rattle.latex2mathml_tex_grammar.specs.Scanning.{BeforeArgument, ColorName}
 use Rattle.latex2mathml_tex.specs.{Frames.Start, Models.context_of}
-use Rattle.latex2mathml_tex.specs.Steps.{Begins, BeginsIn, Follows, HasElements, Holds, IsStep, TookValue, to_do}
+use Rattle.latex2mathml_tex.specs.Steps.{Begins, BeginsIn, Follows, HasElements, Holds, Advances, TookValue, to_do}
 use Rattle.latex2mathml_tex.specs.declared.{atoms.Context.Context, parse.Parser.Parser, parse.State.State}
 use Rattle.latex2mathml_tex.specs.declared.parse.State.TheVariants as state
 use Rattle.latex2mathml_tex.proofs.RuleSteps.{begun}
@@ -37,6 +37,6 @@ module _ (box : Color → Box) (place : ℕ) (p q : Parser) where
   box_begins color s c took is g =
       begun (value_taken color_of (λ name. refusal_at (UnknownColor name) place) place (BeforeArgument ColorName) p q (arounds.color_of color) s c (λ color. a_box place (context_of c) (box color)) (subst (TookColor place p q) is took) g)
 
-  pub box_within : {x : Option CodeColor} (color : CodeColor) (new : Parser) (answer : Result State AllocError) → TookColor place p q x → x ≡ Some color → IsStep 6 q new answer → IsStep 13 p new answer
+  pub box_within : {x : Option CodeColor} (color : CodeColor) (new : Parser) (answer : Result State AllocError) → TookColor place p q x → x ≡ Some color → Advances 6 q new answer → Advances 13 p new answer
   box_within color new answer took is step =
       value_within color_of (λ name. refusal_at (UnknownColor name) place) place (BeforeArgument ColorName) p q (arounds.color_of color) 6 13 new answer (subst (TookColor place p q) is took) (omega arith) step

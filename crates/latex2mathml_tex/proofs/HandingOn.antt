@@ -6,7 +6,7 @@ use Rattle.latex2mathml_tex_grammar.specs.Reading.{Refused, ReadsRule, found_ref
 use Rattle.latex2mathml_tex_grammar.specs.Rules.{Rule, with_value}
 use Rattle.latex2mathml_tex_grammar.specs.Scanning.{Spot}
 use Rattle.latex2mathml_tex.specs.{Frames.Start, HandedOn.Stops, HandedOn.TookBy}
-use Rattle.latex2mathml_tex.specs.Steps.{Begins, CanBegin, Follows, HasElements, Holds, IsStep, NoValue, TookValue, frame_weight, has_none, is_missing, left_of, level, to_do}
+use Rattle.latex2mathml_tex.specs.Steps.{Begins, CanBegin, Follows, HasElements, Holds, Advances, NoValue, TookValue, frame_weight, has_none, is_missing, left_of, level, to_do}
 use Rattle.latex2mathml_tex.specs.declared.{parse.Parser.Parser, parse.State.State}
 use Rattle.latex2mathml_tex.specs.declared.parse.State.TheVariants as state
 use Rattle.latex2mathml_tex.proofs.{Marks.core_refuses, Rows.refused_within, Rows.step_within, Scanned.no_more_scanned, TableRules.refused_at}
@@ -17,7 +17,7 @@ module _ {A : Type 0} (part : (A → Rule) → Rule) (p q : Parser) where
   handed_on x s more (same, (fewer, on)) g =
       subst (λ t. Begins (more x) 0 s t) (sym same) (record { style = g.style; leads = record { to = λ o d. g.leads.to o (on more o d) } })
 
-  pub handed_within : (x : A) (n m : ℕ) (new : Parser) (answer : Result State AllocError) → TookBy part p q (Some x) → n ≤ m → IsStep n q new answer → IsStep m p new answer
+  pub handed_within : (x : A) (n m : ℕ) (new : Parser) (answer : Result State AllocError) → TookBy part p q (Some x) → n ≤ m → Advances n q new answer → Advances m p new answer
   handed_within x n m new answer (same, (fewer, on)) h step =
       let frames : sum_by frame_weight q.frames.stack.items ≡ sum_by frame_weight p.frames.stack.items = ap (λ (x : Parser). sum_by frame_weight x.frames.stack.items) same in
       step_within p q new answer n m (omega (arith, frames, fewer, h)) step

@@ -10,7 +10,7 @@ use Rattle.latex2mathml_tex.specs.Frames.{Start, Whole, element_count, ending_co
 use Rattle.latex2mathml_tex.specs.Innermost.{IsInnermost, none_begun, on_top}
 use Rattle.latex2mathml_tex.specs.Levels.{Leads, Level, Refuses}
 use Rattle.latex2mathml_tex.specs.Models.{row_count}
-use Rattle.latex2mathml_tex.specs.Steps.{Awaits, CanMake, EndsRow, EndsText, HasElements, Holds, IsLeft, IsStep, core_made, elements_of, ending_weight, frame_weight, left_of, row_makes}
+use Rattle.latex2mathml_tex.specs.Steps.{Awaits, CanMake, EndsRow, EndsText, HasElements, Holds, IsLeft, Advances, core_made, elements_of, ending_weight, frame_weight, left_of, row_makes}
 use Rattle.latex2mathml_tex.specs.declared.{atoms.Context.Context, atoms.Row.Row as CodeRow, input.Input.Input, meaning.Style.Style, parse.Parser.Parser, parse.State.State, unit.Next.Next as CodeNext, unit.Unit.Unit as CodeUnit}
 use Rattle.latex2mathml_tex.specs.declared.unit.Next.TheVariants as next
 use Rattle.latex2mathml_tex.specs.declared.parse.State.TheVariants as state
@@ -105,7 +105,7 @@ module _ (p : Parser) (e : Ending) (place : ℕ) (row : CodeRow) (c : Context) (
       }
 
   -- less is left to do where the text ends, and the row's frame is taken off
-  pub ended_step : (i : Input) (fr : Frames) (f : Frame) (new : Parser) (answer : Result State AllocError) → IsInnermost p.style p.frames.stack.items f fr.stack.items → units_at i ≡ past_space (left_of p) → IsStep (ending_weight e + 1) (record p { input = i; frames = fr }) new answer → IsStep 1 p new answer
+  pub ended_step : (i : Input) (fr : Frames) (f : Frame) (new : Parser) (answer : Result State AllocError) → IsInnermost p.style p.frames.stack.items f fr.stack.items → units_at i ≡ past_space (left_of p) → Advances (ending_weight e + 1) (record p { input = i; frames = fr }) new answer → Advances 1 p new answer
   ended_step i fr f new answer taken units step =
       let fs = p.frames.stack.items in
       let same : f ≡ frame.Row e place c row = one_innermost p.style fs fr.stack.items others f (frame.Row e place c row) taken inner in
@@ -119,13 +119,13 @@ pub unit_next : (l m w : Units) (n : CodeNext) (u : CodeUnit) → w ≡ past_spa
 unit_next l m w n u space behind is = sym space ∙ behind ∙ ap (λ n. put_back n m) is
 
 -- less is left to do where a unit is taken, and where the row's frame is taken off
-pub unit_step : (p : Parser) (i : Input) (u : Unit) (new : Parser) (answer : Result State AllocError) → past_space (left_of p) ≡ Next u (units_at i) → IsStep 13 (record p { input = i }) new answer → IsStep 1 p new answer
+pub unit_step : (p : Parser) (i : Input) (u : Unit) (new : Parser) (answer : Result State AllocError) → past_space (left_of p) ≡ Next u (units_at i) → Advances 13 (record p { input = i }) new answer → Advances 1 p new answer
 unit_step p i u new answer next step =
     let one : unit_count (past_space (left_of p)) ≡ suc (unit_count (units_at i)) = ap unit_count next in
     let space = no_more_past_space (left_of p) in
     step_within p (record p { input = i }) new answer 13 1 (omega (arith, one, space)) step
 
-pub closing_step : (p : Parser) (i : Input) (fr : Frames) (f : Frame) (u : Unit) (new : Parser) (answer : Result State AllocError) → IsInnermost p.style p.frames.stack.items f fr.stack.items → past_space (left_of p) ≡ Next u (units_at i) → IsStep 13 (record p { input = i; frames = fr }) new answer → IsStep 1 p new answer
+pub closing_step : (p : Parser) (i : Input) (fr : Frames) (f : Frame) (u : Unit) (new : Parser) (answer : Result State AllocError) → IsInnermost p.style p.frames.stack.items f fr.stack.items → past_space (left_of p) ≡ Next u (units_at i) → Advances 13 (record p { input = i; frames = fr }) new answer → Advances 1 p new answer
 closing_step p i fr f u new answer taken next step =
     let one : unit_count (past_space (left_of p)) ≡ suc (unit_count (units_at i)) = ap unit_count next in
     let space = no_more_past_space (left_of p) in

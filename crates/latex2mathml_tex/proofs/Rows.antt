@@ -14,7 +14,7 @@ use Rattle.latex2mathml_tex.specs.Innermost.{IsInnermost, none_begun, on_top}
 use Rattle.latex2mathml_tex.specs.Levels.{AtomMade, Leads, Refuses}
 use Rattle.latex2mathml_tex.specs.Meanings.{style_of}
 use Rattle.latex2mathml_tex.specs.Models.{context_of, core_with, row_count, row_rest, row_with, script_count, scripts_with, top}
-use Rattle.latex2mathml_tex.specs.Steps.{BeginsDivider, CanMake, Follows, HasElements, Holds, IsStep, MadeAtom, TookMark, are_nested, atom_made, core_made, elements_of, first_accepts, frame_weight, left_of, level, row_makes, to_do}
+use Rattle.latex2mathml_tex.specs.Steps.{BeginsDivider, CanMake, Follows, HasElements, Holds, Advances, MadeAtom, TookMark, are_nested, atom_made, core_made, elements_of, first_accepts, frame_weight, left_of, level, row_makes, to_do}
 use Rattle.std.specs.declared.alloc.AllocError.{AllocError}
 use Rattle.latex2mathml_tex.specs.declared.{atoms.Context.Context, atoms.Core.Core as CodeCore, atoms.Row.Row as CodeRow, atoms.Scripts.Scripts as CodeScripts, error.TexError.TexError, input.Input.Input, meaning.Style.Style, parse.Parser.Parser, parse.State.State, parse.scripts.Mark.Mark}
 use Rattle.latex2mathml_tex.specs.declared.atoms.Kind.TheVariants as kind
@@ -141,7 +141,7 @@ module _ (p q : Parser) (i : Input) (error : TexError) (st : State) (same : q �
       (record { style = style; claims = rw e (all_refuse r s (reverse p.frames.stack.items) (elements_of p) k) }))
 
 -- a step that does no more
-pub step_within : (old q new : Parser) (answer : Result State AllocError) (n m : ℕ) → to_do q + n ≤ to_do old + m → IsStep n q new answer → IsStep m old new answer
+pub step_within : (old q new : Parser) (answer : Result State AllocError) (n m : ℕ) → to_do q + n ≤ to_do old + m → Advances n q new answer → Advances m old new answer
 step_within old q new (Ok st) n m h f = record { ready = f.ready; falls = omega (arith, f.falls, h) }
 step_within old q new (Err e) n m h f = f
 

@@ -1,5 +1,6 @@
 -- The uppermost elements changed, and a row with an atom after it.
-use Rattle.std.proofs.Common.{◌≡◌, ℕ, ◌+◌, ◌<◌, ◌≤◌, Bool, false, true, zero, suc, List, [], ◌∷◌, ◌++◌, Option, Some, None, length, take, drop, arith, refl, sym, ap, ◌∙◌}
+use Rattle.std.proofs.Common.{◌≡◌, ℕ, ◌+◌, ◌<◌, ◌≤◌, ◌==◌, Bool, false, true, zero, suc, List, [], ◌∷◌, ◌++◌, Option, Some, None, length, take, drop, arith, refl, sym, ap, ◌∙◌}
+use Rattle.std.proofs.Math.Dec.{eqb-suc-zero}
 use Rattle.std.proofs.lemmas.List.{drop-drop}
 use Rattle.latex2mathml_elements.specs.Attributes.{Attributes}
 use Rattle.latex2mathml_elements.specs.Element.{Element, Mo, Token, token}
@@ -46,6 +47,11 @@ unchanged_at f (suc depth) (x ∷ xs) stays = ap (λ ys. x ∷ ys) (unchanged_at
 pub unchanged : (f : Element → Element) (depth : ℕ) (xs : List Element) → ((x : Element) → f x ≡ x) → changed_at f depth xs ≡ xs
 unchanged f depth xs stays = unchanged_at f depth xs (λ x e. stays x)
 
+-- .. as a sign between two operands
+pub infix_there : (style : Style) (first : Bool) (before : Before) (xs : List Element) → Atoms.begins_operand before ≡ false → changed_at (Atoms.tight style) 0 (changed_at (Atoms.as_infix first) 0 xs) ≡ changed_at (Atoms.element_there style first before Atoms.PlusOrMinus) 0 xs
+infix_there style first before [] none = refl
+infix_there style first before (x ∷ xs) none = rw none
+
 pub length_changed : (f : Element → Element) (depth : ℕ) (xs : List Element) → length (changed_at f depth xs) ≡ length xs
 length_changed f depth [] = refl
 length_changed f zero (x ∷ xs) = refl
@@ -56,6 +62,11 @@ length_changed f (suc depth) (x ∷ xs) = ap suc (length_changed f depth xs)
 pub no_prefix : (x : Element) → token_of_element x ≡ None → Atoms.as_prefix x ≡ x
 no_prefix (token t a text) h = cc
 no_prefix x h = refl
+
+pub no_infix : (first : Bool) (x : Element) → token_of_element x ≡ None → Atoms.as_infix first x ≡ x
+no_infix true (token t a text) h = cc
+no_infix true x h = refl
+no_infix false x h = refl
 
 pub no_space : (x : Element) → token_of_element x ≡ None → Atoms.without_space x ≡ x
 no_space (token t a text) h = cc
@@ -111,10 +122,10 @@ no_base_changed style class code_class.Relation b r x = absurd (r refl)
 no_base_changed style class own b r x = refl
 
 -- .. and what is no sign
-pub no_sign : (style : Style) (before : Before) (kind : CodeKind) → ((class : CodeClass) → kind ≡ code_kind.SignOf class → ⊥) → (kind ≡ code_kind.PlusOrMinus → ⊥) → (x : Element) → Atoms.element_there style before (kind_of kind) x ≡ x
-no_sign style before (code_kind.SignOf class) s p x = absurd (s class refl)
-no_sign style before code_kind.PlusOrMinus s p x = absurd (p refl)
-no_sign style before kind s p x = refl
+pub no_sign : (style : Style) (first : Bool) (before : Before) (kind : CodeKind) → ((class : CodeClass) → kind ≡ code_kind.SignOf class → ⊥) → (kind ≡ code_kind.PlusOrMinus → ⊥) → (x : Element) → Atoms.element_there style first before (kind_of kind) x ≡ x
+no_sign style first before (code_kind.SignOf class) s p x = absurd (s class refl)
+no_sign style first before code_kind.PlusOrMinus s p x = absurd (p refl)
+no_sign style first before kind s p x = refl
 
 -- The first elements changed, one after the other
 
@@ -163,6 +174,18 @@ length_parted x (y ∷ xs) = refl
 pub put_high : (joins : Bool) (style : Style) (before : Before) (kind : Kind) (high : Bool) (x : Element) (xs : List Element) → Rows.put joins style before (Atoms.atom kind false x) xs ≡ Rows.put joins style before (Atoms.atom kind high x) xs
 put_high true style before kind high x xs = refl
 put_high false style before kind high x xs = refl
+
+-- an atom is the first of a row that has none
+pub begins_row : (n : ℕ) (xs : List Element) → suc n ≤ length xs → Rows.is_empty (take n (drop 1 xs)) ≡ (n == 0)
+begins_row n [] enough = absurd (omega arith)
+begins_row zero (x ∷ xs) enough = refl
+begins_row (suc n) (x ∷ []) enough = absurd (omega arith)
+begins_row (suc n) (x ∷ y ∷ xs) enough = sym (eqb-suc-zero n)
+
+-- .. behind which no space stands
+pub put_adapted : (n : ℕ) (style : Style) (before : Before) (kind : Kind) (xs : List Element) → suc n ≤ length xs → Atoms.is_parted before kind ≡ false → take (suc n) (changed_at (Atoms.element_there style (n == 0) before kind) 0 xs) ≡ Rows.put false style before (Atoms.atom kind false (top xs)) (take n (drop 1 xs))
+put_adapted n style before kind [] enough none = absurd (omega arith)
+put_adapted n style before kind (x ∷ xs) enough none = rw (begins_row n (x ∷ xs) enough, none)
 
 pub class_behind : (n : ℕ) (xs : List Element) (kind : Kind) → 0 < n → suc n ≤ length xs → Ordinary ≡ Rows.class_after (take n (drop 1 xs)) kind
 class_behind zero xs kind some enough = absurd (omega arith)

@@ -19,7 +19,7 @@ use Rattle.latex2mathml_tex_grammar.specs.Tables.{Lines, a_table, between_any, r
 use Rattle.latex2mathml_tex.specs.Frames.{Start, context_at}
 use Rattle.latex2mathml_tex.specs.Levels.{CoreMade, Refuses, RuleLeads}
 use Rattle.latex2mathml_tex.specs.{Errors.refusal_of, Left.unit_count, Left.units_at, Meanings.style_of, Models.context_of}
-use Rattle.latex2mathml_tex.specs.Steps.{Begins, BeginsIn, EndsRows, Follows, GoesOnTable, HasElements, Holds, InnermostIs, IsStep, MakesTable, TookText, elements_of, frame_weight, left_of, level, to_do}
+use Rattle.latex2mathml_tex.specs.Steps.{Begins, BeginsIn, EndsRows, Follows, GoesOnTable, HasElements, Holds, InnermostIs, Advances, MakesTable, TookText, elements_of, frame_weight, left_of, level, to_do}
 use Rattle.latex2mathml_tex.specs.Tables.{behind_rows, delimiter_texts, environment_of}
 use Rattle.latex2mathml_tex.specs.{Innermost.frame_context, Models.core_with}
 use Rattle.latex2mathml_tex.specs.declared.{atoms.Context.Context, atoms.Core.Core as CodeCore, environments.Environment.Environment, error.TexError.TexError, input.Input.Input, meaning.Style.Style, parse.Parser.Parser, parse.State.State}
@@ -56,12 +56,12 @@ module _ (p q : Parser) (place : ℕ) (spot : Spot) where
     text_taken s c then g =
         subst (λ x. BeginsIn c (then text) 0 s x) (sym took.0) (record { style = g.style; context = g.context; leads = found then took.1 g.leads })
 
-    pub text_within : (n m : ℕ) (new : Parser) (answer : Result State AllocError) → n ≤ m → IsStep n q new answer → IsStep m p new answer
+    pub text_within : (n m : ℕ) (new : Parser) (answer : Result State AllocError) → n ≤ m → Advances n q new answer → Advances m p new answer
     text_within n m new answer h step =
         let frames : sum_by frame_weight q.frames.stack.items ≡ sum_by frame_weight p.frames.stack.items = ap (λ (x : Parser). sum_by frame_weight x.frames.stack.items) took.0 in
         step_within p q new answer n m (omega (arith, frames, fewer, h)) step
 
-    pub text_step : (n : ℕ) (new : Parser) (answer : Result State AllocError) → n ≤ 13 → IsStep n q new answer → IsStep 13 p new answer
+    pub text_step : (n : ℕ) (new : Parser) (answer : Result State AllocError) → n ≤ 13 → Advances n q new answer → Advances 13 p new answer
     text_step n = text_within n 13
 
     -- the formula is refused behind the text
@@ -84,7 +84,7 @@ module _ (p q : Parser) (place : ℕ) (spot : Spot) where
 pub passed_begins : (s : Start) (p : Parser) (i : Input) (c : Context) (spot : Spot) (then : Rule) → units_at i ≡ past spot (left_of p) → BeginsIn c (passes_over spot then) 0 s p → BeginsIn c then 0 s (record p { input = i })
 passed_begins s p i c spot then units g = record { style = g.style; context = g.context; leads = subst (λ l. RuleLeads then (CoreMade (level 0 s p)) l) (sym units) (passed g.leads) }
 
-pub passed_step : (p : Parser) (i : Input) (spot : Spot) (n m : ℕ) (new : Parser) (answer : Result State AllocError) → units_at i ≡ past spot (left_of p) → n ≤ m → IsStep n (record p { input = i }) new answer → IsStep m p new answer
+pub passed_step : (p : Parser) (i : Input) (spot : Spot) (n m : ℕ) (new : Parser) (answer : Result State AllocError) → units_at i ≡ past spot (left_of p) → n ≤ m → Advances n (record p { input = i }) new answer → Advances m p new answer
 passed_step p i spot n m new answer units h step =
     let fewer : unit_count (units_at i) ≤ unit_count (left_of p) = rw units (no_more_past spot (left_of p)) in
     step_within p (record p { input = i }) new answer n m (omega (arith, fewer, h)) step
@@ -160,7 +160,7 @@ table_made s p b delimiters columns own rows f around said c is inner says put m
     record { style = g.style; claims = rw (one, made x) (given g.leads) }
 
 -- behind the sign that ends a row less is left to do
-pub broken_step : (p : Parser) (b : Built) (i : Input) (new : Parser) (answer : Result State AllocError) → units_at i ≡ past_break (left_of p) → IsStep 6 (record p { builder = b; input = i }) new answer → IsStep 13 p new answer
+pub broken_step : (p : Parser) (b : Built) (i : Input) (new : Parser) (answer : Result State AllocError) → units_at i ≡ past_break (left_of p) → Advances 6 (record p { builder = b; input = i }) new answer → Advances 13 p new answer
 broken_step p b i new answer units step =
     let fewer : unit_count (units_at i) ≤ unit_count (left_of p) = rw units (no_more_past_break (left_of p)) in
     step_within p (record p { builder = b; input = i }) new answer 6 13 (omega (arith, fewer)) step

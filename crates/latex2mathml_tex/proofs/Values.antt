@@ -5,7 +5,7 @@ use Rattle.latex2mathml_tex_grammar.specs.{Makes.Core, Reading.Outcome, Reading.
 use Rattle.latex2mathml_tex_grammar.specs.Rules.{Rule, takes_found, with_value}
 use Rattle.latex2mathml_tex_grammar.specs.Scanning.{Spot}
 use Rattle.latex2mathml_tex.specs.{Frames.Start, Levels.CoreMade, Levels.RuleLeads, Meanings.style_of, Errors.refusal_of, Left.unit_count}
-use Rattle.latex2mathml_tex.specs.Steps.{BeginsIn, CanBegin, Follows, HasElements, Holds, IsStep, NoValue, TookText, TookValue, has_none, is_missing, left_of, level, to_do}
+use Rattle.latex2mathml_tex.specs.Steps.{BeginsIn, CanBegin, Follows, HasElements, Holds, Advances, NoValue, TookText, TookValue, has_none, is_missing, left_of, level, to_do}
 use Rattle.latex2mathml_tex.specs.declared.{atoms.Context.Context, error.TexError.TexError, parse.Parser.Parser, parse.State.State}
 use Rattle.latex2mathml_tex.specs.declared.parse.State.TheVariants as state
 use Rattle.latex2mathml_tex.proofs.Leading.{found, not_found, refused}
@@ -22,7 +22,7 @@ module _ {A : Type 0} (value : List ℕ → Option A) (no_value : List ℕ → R
       subst (λ v. BeginsIn c (with_value (no_value text) more v) 0 s q) known
       (text_taken p q place spot text (same, is) s c (λ text. with_value (no_value text) more (value text)) g)
 
-  pub value_within : (x : A) (n m : ℕ) (new : Parser) (answer : Result State AllocError) → TookValue place spot value no_value p q (Some x) → n ≤ m → IsStep n q new answer → IsStep m p new answer
+  pub value_within : (x : A) (n m : ℕ) (new : Parser) (answer : Result State AllocError) → TookValue place spot value no_value p q (Some x) → n ≤ m → Advances n q new answer → Advances m p new answer
   value_within x n m new answer (same, (text, (is, known))) h step = text_within p q place spot text (same, is) n m new answer h step
 
   pub value_fewer : (x : A) → TookValue place spot value no_value p q (Some x) → unit_count (left_of q) ≤ unit_count (left_of p)

@@ -1,5 +1,5 @@
 -- What characters and commands are in words, and what holds of the parser behind them.
-use Rattle.std.proofs.Common.{◌≡◌, ◌==◌, ◌+◌, ◌||◌, ◌++◌, ◌∷◌, [], Bool, ℕ, ℤ, true, false, drop, Err, List, Ok, Option, Result, Some, None, option_map, refl, subst, sym, ap, arith}
+use Rattle.std.proofs.Common.{◌≡◌, ◌==◌, ◌+◌, ◌||◌, ◌++◌, ◌∷◌, [], Bool, ℕ, ℤ, true, false, drop, Err, List, Ok, Option, Result, Some, None, option_map, refl, subst, sym, ap, ◌∙◌, arith}
 use Rattle.std.proofs.lemmas.Bool.Decides.{nat_tests}
 use Rattle.std.specs.Prelude.{IfOk, OnOk}
 use Rattle.std.specs.Str.{byte}
@@ -11,9 +11,10 @@ use Rattle.latex2mathml_tex_grammar.specs.Units.{Character, Command, Open, Piece
 use Rattle.latex2mathml_tex_grammar.specs.Words.{BeginsFormula, IsWord, NoWord, Shown, meaning_rule, word_character, word_rule, word_space}
 use Rattle.latex2mathml_tex.specs.{Errors.refusal_of, Frames.Start, Innermost.empty_row, Levels.Leads, Levels.PartMade, Meanings.alphabet_of, Models.words_with}
 use Rattle.latex2mathml_tex.specs.Meanings
-use Rattle.latex2mathml_tex.specs.Steps.{BeginsWordOf, HasElements, Holds, IsStep, elements_of, left_of, level, level_within}
+use Rattle.latex2mathml_tex.specs.Steps.{BeginsWordOf, HasElements, Holds, Advances, elements_of, left_of, level, level_within}
 use Rattle.latex2mathml_tex.specs.declared.{atoms.Row.Row as CodeRow, atoms.Words.Words as CodeWords, parse.Parser.Parser, parse.State.State, parse.frames.Frames.Frames}
-use Rattle.latex2mathml_tex.specs.declared.meaning.{Alphabet.Alphabet as CodeAlphabet, Meaning.Meaning as CodeMeaning, Symbol.Symbol as CodeSymbol}
+use Rattle.latex2mathml_tex.specs.declared.meaning.{Alphabet.Alphabet as CodeAlphabet, Change.Change as CodeChange, Meaning.Meaning as CodeMeaning, Symbol.Symbol as CodeSymbol}
+use Rattle.latex2mathml_tex.specs.declared.meaning.Change.TheVariants as code_change
 use Rattle.latex2mathml_tex.specs.declared.meaning.Meaning.TheVariants as code_meaning
 use Rattle.latex2mathml_tex.specs.declared.meaning.Style.TheVariants as code_style
 use Rattle.latex2mathml_tex.specs.declared.parse.State.TheVariants as state
@@ -30,6 +31,17 @@ pub record IsNoWord (m : CodeMeaning) : Type 0 where
   pub no_dots : m ≡ code_meaning.Dots → ⊥
   pub no_space : (width : ℤ) → m ≡ code_meaning.Spacing width → ⊥
   pub no_words : (b : Option CodeAlphabet) → m ≡ code_meaning.Words b → ⊥
+  pub no_alphabet : (b : CodeAlphabet) → m ≡ code_meaning.Changes (code_change.ToAlphabet b) → ⊥
+
+-- a change of something else than the alphabet
+pub other_change : (m : CodeMeaning) (change : CodeChange) → m ≡ code_meaning.Changes change → ((b : CodeAlphabet) → change ≡ code_change.ToAlphabet b → ⊥) → IsNoWord m
+other_change m change is other = record {
+  no_sign = λ symbol e. let k = sym is ∙ e in cc;
+  no_dots = λ e. let k = sym is ∙ e in cc;
+  no_space = λ width e. let k = sym is ∙ e in cc;
+  no_words = λ b e. let k = sym is ∙ e in cc;
+  no_alphabet = λ b e. other b (let k = sym is ∙ e in cc);
+}
 
 module _ (a : Option Alphabet) (name : List ℕ) where
   pub character_shown : (c : ℕ) → entry_of_name text_commands name ≡ Some c → word_rule a (Command name) ≡ IsWord (Shown (text c))
@@ -49,6 +61,7 @@ module _ (a : Option Alphabet) (name : List ℕ) where
     no_word_meant code_meaning.Dots none = absurd (none.no_dots refl)
     no_word_meant (code_meaning.Spacing width) none = absurd (none.no_space width refl)
     no_word_meant (code_meaning.Words b) none = absurd (none.no_words b refl)
+    no_word_meant (code_meaning.Changes (code_change.ToAlphabet b)) none = absurd (none.no_alphabet b refl)
     no_word_meant m none = refl
 
     pub not_in_words : (m : CodeMeaning) → meaning_of name ≡ Some (Meanings.meaning_of m) → IsNoWord m → word_rule a (Command name) ≡ NoWord (CommandInWords name)
@@ -67,7 +80,7 @@ module _ (p q : Parser) (same : q ≡ record p { refusal = q.refusal }) where
       rw is (no_part s p ws (Command name) place a q (CommandInWords name) style reason rule g)
   command_refused s ws name place a (Err e) is reason rule g = is
 
-  pub command_step : (n : ℕ) (answer : Result State AllocError) → IsRefused answer → HasElements n p → IsStep 13 p q answer
+  pub command_step : (n : ℕ) (answer : Result State AllocError) → IsRefused answer → HasElements n p → Advances 13 p q answer
   command_step n (Ok st) is enough = refused_step p q p.input q.refusal st same is (omega arith) (omega (arith, enough))
   command_step n (Err e) is enough = is
 

@@ -9,7 +9,7 @@ use Rattle.latex2mathml_tex_grammar.specs.Rules.{gives}
 use Rattle.latex2mathml_tex_grammar.specs.Next.{past_space}
 use Rattle.latex2mathml_tex_grammar.specs.Units as grammar
 use Rattle.latex2mathml_tex_grammar.specs.Units.{Piece}
-use Rattle.latex2mathml_tex_grammar.specs.Words.{Word, Words, Shown, Formula, IsWord, NoWord, TakesWords, with_text, with_word, word_rule, words_element}
+use Rattle.latex2mathml_tex_grammar.specs.Words.{Word, Words, Shown, Formula, Nothing, IsWord, NoWord, TakesWords, with_text, with_word, word_rule, words_element}
 use Rattle.latex2mathml_tex.specs.{Errors.refusal_of, Left.units_at}
 use Rattle.latex2mathml_tex.specs.Frames.{Start, Whole, inside}
 use Rattle.latex2mathml_tex.specs.Levels.{Level, PartMade, WordLeads, words}
@@ -66,6 +66,7 @@ words_made_of (suc n) (x ∷ xs) some enough = refl
 pub word_put : (s : Start) (p : Parser) (b : Built) (ws new : CodeWords) (w : Word) → take new.count (elements_in b) ≡ (with_word (words_with ws (elements_of p)) w).elements → new.ends_in_text ≡ (with_word (words_with ws (elements_of p)) w).ends_in_text → drop new.count (elements_in b) ≡ drop ws.count (elements_of p) → WordGiven ws w s p → Holds s (record p { builder = b }) (state.Words new)
 word_put s p b ws new (Shown more) e t d g = record { style = g.style; claims = rw (e, t, d) g.leads }
 word_put s p b ws new (Formula x) e t d g = record { style = g.style; claims = rw (e, t, d) g.leads }
+word_put s p b ws new Nothing e t d g = record { style = g.style; claims = rw (e, t, d) g.leads }
 
 pub word_kept : (s : Start) (p : Parser) (b : Built) (ws : CodeWords) (w : Word) → elements_in b ≡ elements_of p → WordGiven ws w s p → WordGiven ws w s (record p { builder = b })
 word_kept s p b ws w e g = record { style = g.style; leads = rw e g.leads }
@@ -101,6 +102,10 @@ part_refuses s p n r k = all_refuse r s (reverse p.frames.stack.items) (drop n (
 
 pub words_refused : (s : Start) (p q : Parser) (n : ℕ) (r : Refusal) → s.style ≡ style_of p.style → q.style ≡ p.style → refusal_of q.refusal ≡ Some r → PartMade (level n s p) (Refused r) → Holds s q state.Refused
 words_refused s p q n r e f h k = record { style = e ∙ ap style_of (sym f); claims = rw h (part_refuses s p n r k) }
+
+-- nothing is put behind words
+pub words_stay : (s : Start) (p : Parser) (ws : CodeWords) → WordGiven ws Nothing s p → Holds s p (state.Words ws)
+words_stay s p ws g = record { style = g.style; claims = g.leads }
 
 -- What a unit is in words
 

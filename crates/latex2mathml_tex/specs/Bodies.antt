@@ -18,3 +18,10 @@ macro_of m = macros.macro m.arity (parts_in m.body)
 -- an entry of the table of usual macros
 abbrev pub entry_of : Usual → List ℕ × ℕ × List ℕ
 entry_of entry = (entry.name.now, entry.arity, entry.body.now)
+
+-- .. by its name
+abbrev pub by_name : List ℕ × ℕ × List ℕ → List ℕ × (ℕ × List ℕ)
+by_name entry = (entry.0, (entry.1, entry.2))
+
+abbrev pub named_entry : Usual → List ℕ × (ℕ × List ℕ)
+named_entry entry = by_name (entry_of entry)

@@ -19,13 +19,13 @@ put_back (next.End place) l = units.End place
 put_back (next.Fault fault place) l = units.Stop (refusal_at (kind_of fault) place)
 
 -- how units end
-abbrev pub end_of : End → Units
-end_of (end.Text place) = units.End place
-end_of (end.Fault fault place) = units.Stop (refusal_at (kind_of fault) place)
+abbrev pub units_end : End → Units
+units_end (end.Text place) = units.End place
+units_end (end.Fault fault place) = units.Stop (refusal_at (kind_of fault) place)
 
 -- those behind the one that is in sight
 abbrev pub units_behind : Input → Units
-units_behind i = before (map unit_of (drop i.passed i.units.now)) (end_of i.end)
+units_behind i = before (map unit_of (drop i.passed i.units.now)) (units_end i.end)
 
 -- .. and with it
 abbrev pub units_at : Input → Units

@@ -26,9 +26,7 @@ abbrev pub spot_of : Spot → scanning.Spot
 spot_of (spot.BeforeArgument a) = scanning.BeforeArgument (argument_of a)
 spot_of (spot.InArgument a) = scanning.InArgument (argument_of a)
 spot_of spot.BeforeGap = scanning.BeforeGap
-spot_of spot.InGap = scanning.InGap
-spot_of spot.BeforeWidth = scanning.BeforeWidth
-spot_of spot.InWidth = scanning.InWidth
+spot_of (spot.InGap n) = scanning.InGap n
 spot_of spot.BeforeBrace = scanning.BeforeBrace
 spot_of spot.BeforePosition = scanning.BeforePosition
 spot_of spot.InPosition = scanning.InPosition

@@ -415,8 +415,8 @@ pub record Follows (bound : ℕ) (p : Parser) (st : State) : Type 0 where
   pub falls : to_do p + state_weight st < bound
 
 -- after a step, at most so much more is left to do than what was left before it
-abbrev pub IsStep : ℕ → Parser → Parser → Result State AllocError → Type 0
-IsStep more old new answer = IfOk answer (Follows (to_do old + more) new)
+abbrev pub Advances : ℕ → Parser → Parser → Result State AllocError → Type 0
+Advances more old new answer = IfOk answer (Follows (to_do old + more) new)
 
 -- the last state: the formula is read, or it is refused
 abbrev pub last_state : Option ℕ → State

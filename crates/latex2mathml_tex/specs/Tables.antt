@@ -14,7 +14,8 @@ use Rattle.latex2mathml_tex_grammar.specs.Starts as starts
 use Rattle.latex2mathml_tex_grammar.specs.Symbols as symbols
 use Rattle.latex2mathml_tex_grammar.specs.Units.{Unit, Units, Next, End}
 use Rattle.latex2mathml_tex.specs.{Delimiters.delimiter_text, Levels.RuleLeads, Meanings.style_of, Scans.argument_of}
-use Rattle.latex2mathml_tex.specs.declared.environments.{Environment.Environment, Layout.Layout}
+use Rattle.latex2mathml_tex.specs.declared.environments.{Bracket.Bracket, Environment.Environment, Layout.Layout}
+use Rattle.latex2mathml_tex.specs.declared.environments.Bracket.TheVariants as bracket
 use Rattle.latex2mathml_tex.specs.declared.environments.Layout.TheVariants as layout
 use Rattle.latex2mathml_tex.specs.declared.parse.frames.{Table.Table, TableKind.TableKind}
 use Rattle.latex2mathml_tex.specs.declared.parse.frames.TableKind.TheVariants as kind
@@ -28,6 +29,11 @@ layout_of layout.Dense = Alike Dense
 layout_of layout.InPairs = InPairs
 layout_of layout.AroundRelation = Listed (RightAligned ∷ Centered ∷ LeftAligned ∷ [])
 
+abbrev pub bracket_of : Bracket → environments.Bracket
+bracket_of bracket.Nothing = environments.NoBracket
+bracket_of bracket.Position = environments.Position
+bracket_of bracket.Alignment = environments.Alignment
+
 abbrev pub delimiter_texts : Option ℕ × Option ℕ → List ℕ × List ℕ
 delimiter_texts d = (delimiter_text d.0, delimiter_text d.1)
 
@@ -36,7 +42,7 @@ environment_of e = record {
   delimiters = option_map delimiter_texts e.delimiters;
   columns = layout_of e.layout;
   style = style_of e.style;
-  may_have_position = e.may_have_position;
+  bracket = bracket_of e.bracket;
   argument = option_map argument_of e.argument;
 }
 
@@ -49,13 +55,13 @@ cell_end_of cell_end.EndsRow = starts.EndsRow
 cell_end_of cell_end.EndsTable = starts.EndsTable
 
 -- how a table ends
-abbrev pub end_of : TableKind → TableEnd
-end_of (kind.Environment e) = ByName
-end_of kind.Braces = ByBrace
-end_of kind.Text = ByText
+abbrev pub ended_by : TableKind → TableEnd
+ended_by (kind.Environment e) = ByName
+ended_by kind.Braces = ByBrace
+ended_by kind.Text = ByText
 
 abbrev pub table_end : Table → TableEnd
-table_end t = end_of t.kind
+table_end t = ended_by t.kind
 
 -- the style of its cells
 abbrev pub style_in : TableKind → symbols.Style

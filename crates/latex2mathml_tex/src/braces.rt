@@ -36,7 +36,8 @@ impl<'a> Input<'a> {
     /// Takes the delimiter in braces that stands next, if one does.
     fn take_braced_delimiter(&mut self) -> Option<Option<char>>
         ensures { MatchOption result
-            ((next_are (a_left_brace ∷ delimiter_of ∷ a_right_brace ∷ []) (units_at self.old) ≡ None)
+            ((next_are (a_left_brace ∷ delimiter_of ∷ a_right_brace ∷ []) (units_at self.old)
+            ≡ None)
             × (units_at self.new ≡ units_at self.old))
             (λ d. next_are (a_left_brace ∷ delimiter_of ∷ a_right_brace ∷ []) (units_at self.old)
             ≡ Some (delimiter_text d ++ [], units_at self.new)) }

@@ -46,7 +46,7 @@ fn search(table: &[Entry], name: &str) -> Option<Meaning>
 
 /// How two names are ordered. Most of them differ in their first bytes, which are compared first.
 #[inline(always)]
-fn order(name: &str, other: &str) -> Ordering
+pub(crate) fn order(name: &str, other: &str) -> Ordering
     ensures { result ≡ slice_cmp nat_cmp name.now other.now }
 {
     match (name.as_bytes(), other.as_bytes()) {

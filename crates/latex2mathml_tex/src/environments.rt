@@ -17,10 +17,20 @@ pub(crate) struct Environment {
     pub(crate) layout: Layout,
     /// The style of its cells.
     pub(crate) style: Style,
-    /// Whether a letter in brackets may say how it stands in its line.
-    pub(crate) may_have_position: bool,
+    /// What may stand in brackets behind its name.
+    pub(crate) bracket: Bracket,
     /// What stands in braces behind its name.
     pub(crate) argument: Option<Argument>,
+}
+
+/// What may stand in brackets behind the name of an environment.
+#[derive(Clone, Copy)]
+pub(crate) enum Bracket {
+    Nothing,
+    /// A letter that says how it stands in its line.
+    Position,
+    /// A letter that says where cells stand in their columns.
+    Alignment,
 }
 
 /// How the cells of an environment stand in their columns, unless the author says it.
@@ -84,39 +94,45 @@ fn environments() -> &'static [Environment]
 }
 
 #[rattlefmt::skip]
-static ENVIRONMENTS: [Environment; 34] = [
-    Environment { name: "Bmatrix", delimiters: Some((Some('{'), Some('}'))), layout: Layout::Centered, style: Style::InText, may_have_position: false, argument: None },
-    Environment { name: "Vmatrix", delimiters: Some((Some('‖'), Some('‖'))), layout: Layout::Centered, style: Style::InText, may_have_position: false, argument: None },
-    Environment { name: "align", delimiters: None, layout: Layout::InPairs, style: Style::InDisplay, may_have_position: false, argument: None },
-    Environment { name: "align*", delimiters: None, layout: Layout::InPairs, style: Style::InDisplay, may_have_position: false, argument: None },
-    Environment { name: "alignat", delimiters: None, layout: Layout::InPairs, style: Style::InDisplay, may_have_position: false, argument: Some(Argument::Number) },
-    Environment { name: "alignat*", delimiters: None, layout: Layout::InPairs, style: Style::InDisplay, may_have_position: false, argument: Some(Argument::Number) },
-    Environment { name: "aligned", delimiters: None, layout: Layout::InPairs, style: Style::InDisplay, may_have_position: true, argument: None },
-    Environment { name: "alignedat", delimiters: None, layout: Layout::InPairs, style: Style::InDisplay, may_have_position: true, argument: Some(Argument::Number) },
-    Environment { name: "array", delimiters: None, layout: Layout::Centered, style: Style::InText, may_have_position: true, argument: Some(Argument::ColumnList) },
-    Environment { name: "bmatrix", delimiters: Some((Some('['), Some(']'))), layout: Layout::Centered, style: Style::InText, may_have_position: false, argument: None },
-    Environment { name: "cases", delimiters: Some((Some('{'), None)), layout: Layout::LeftAligned, style: Style::InText, may_have_position: false, argument: None },
-    Environment { name: "dcases", delimiters: Some((Some('{'), None)), layout: Layout::LeftAligned, style: Style::InDisplay, may_have_position: false, argument: None },
-    Environment { name: "displaymath", delimiters: None, layout: Layout::Centered, style: Style::InDisplay, may_have_position: false, argument: None },
-    Environment { name: "drcases", delimiters: Some((None, Some('}'))), layout: Layout::LeftAligned, style: Style::InDisplay, may_have_position: false, argument: None },
-    Environment { name: "eqnarray", delimiters: None, layout: Layout::AroundRelation, style: Style::InDisplay, may_have_position: false, argument: None },
-    Environment { name: "eqnarray*", delimiters: None, layout: Layout::AroundRelation, style: Style::InDisplay, may_have_position: false, argument: None },
-    Environment { name: "equation", delimiters: None, layout: Layout::Centered, style: Style::InDisplay, may_have_position: false, argument: None },
-    Environment { name: "equation*", delimiters: None, layout: Layout::Centered, style: Style::InDisplay, may_have_position: false, argument: None },
-    Environment { name: "flalign", delimiters: None, layout: Layout::InPairs, style: Style::InDisplay, may_have_position: false, argument: None },
-    Environment { name: "flalign*", delimiters: None, layout: Layout::InPairs, style: Style::InDisplay, may_have_position: false, argument: None },
-    Environment { name: "gather", delimiters: None, layout: Layout::Centered, style: Style::InDisplay, may_have_position: false, argument: None },
-    Environment { name: "gather*", delimiters: None, layout: Layout::Centered, style: Style::InDisplay, may_have_position: false, argument: None },
-    Environment { name: "gathered", delimiters: None, layout: Layout::Centered, style: Style::InDisplay, may_have_position: true, argument: None },
-    Environment { name: "math", delimiters: None, layout: Layout::Centered, style: Style::InText, may_have_position: false, argument: None },
-    Environment { name: "matrix", delimiters: None, layout: Layout::Centered, style: Style::InText, may_have_position: false, argument: None },
-    Environment { name: "multline", delimiters: None, layout: Layout::LeftAligned, style: Style::InDisplay, may_have_position: false, argument: None },
-    Environment { name: "multline*", delimiters: None, layout: Layout::LeftAligned, style: Style::InDisplay, may_have_position: false, argument: None },
-    Environment { name: "pmatrix", delimiters: Some((Some('('), Some(')'))), layout: Layout::Centered, style: Style::InText, may_have_position: false, argument: None },
-    Environment { name: "rcases", delimiters: Some((None, Some('}'))), layout: Layout::LeftAligned, style: Style::InText, may_have_position: false, argument: None },
-    Environment { name: "smallmatrix", delimiters: None, layout: Layout::Dense, style: Style::InScript, may_have_position: false, argument: None },
-    Environment { name: "split", delimiters: None, layout: Layout::InPairs, style: Style::InDisplay, may_have_position: false, argument: None },
-    Environment { name: "subarray", delimiters: None, layout: Layout::Dense, style: Style::InScript, may_have_position: false, argument: Some(Argument::ColumnList) },
-    Environment { name: "substack", delimiters: None, layout: Layout::Dense, style: Style::InScript, may_have_position: false, argument: None },
-    Environment { name: "vmatrix", delimiters: Some((Some('|'), Some('|'))), layout: Layout::Centered, style: Style::InText, may_have_position: false, argument: None },
+static ENVIRONMENTS: [Environment; 40] = [
+    Environment { name: "Bmatrix", delimiters: Some((Some('{'), Some('}'))), layout: Layout::Centered, style: Style::InText, bracket: Bracket::Nothing, argument: None },
+    Environment { name: "Bmatrix*", delimiters: Some((Some('{'), Some('}'))), layout: Layout::Centered, style: Style::InText, bracket: Bracket::Alignment, argument: None },
+    Environment { name: "Vmatrix", delimiters: Some((Some('‖'), Some('‖'))), layout: Layout::Centered, style: Style::InText, bracket: Bracket::Nothing, argument: None },
+    Environment { name: "Vmatrix*", delimiters: Some((Some('‖'), Some('‖'))), layout: Layout::Centered, style: Style::InText, bracket: Bracket::Alignment, argument: None },
+    Environment { name: "align", delimiters: None, layout: Layout::InPairs, style: Style::InDisplay, bracket: Bracket::Nothing, argument: None },
+    Environment { name: "align*", delimiters: None, layout: Layout::InPairs, style: Style::InDisplay, bracket: Bracket::Nothing, argument: None },
+    Environment { name: "alignat", delimiters: None, layout: Layout::InPairs, style: Style::InDisplay, bracket: Bracket::Nothing, argument: Some(Argument::Number) },
+    Environment { name: "alignat*", delimiters: None, layout: Layout::InPairs, style: Style::InDisplay, bracket: Bracket::Nothing, argument: Some(Argument::Number) },
+    Environment { name: "aligned", delimiters: None, layout: Layout::InPairs, style: Style::InDisplay, bracket: Bracket::Position, argument: None },
+    Environment { name: "alignedat", delimiters: None, layout: Layout::InPairs, style: Style::InDisplay, bracket: Bracket::Position, argument: Some(Argument::Number) },
+    Environment { name: "array", delimiters: None, layout: Layout::Centered, style: Style::InText, bracket: Bracket::Position, argument: Some(Argument::ColumnList) },
+    Environment { name: "bmatrix", delimiters: Some((Some('['), Some(']'))), layout: Layout::Centered, style: Style::InText, bracket: Bracket::Nothing, argument: None },
+    Environment { name: "bmatrix*", delimiters: Some((Some('['), Some(']'))), layout: Layout::Centered, style: Style::InText, bracket: Bracket::Alignment, argument: None },
+    Environment { name: "cases", delimiters: Some((Some('{'), None)), layout: Layout::LeftAligned, style: Style::InText, bracket: Bracket::Nothing, argument: None },
+    Environment { name: "dcases", delimiters: Some((Some('{'), None)), layout: Layout::LeftAligned, style: Style::InDisplay, bracket: Bracket::Nothing, argument: None },
+    Environment { name: "displaymath", delimiters: None, layout: Layout::Centered, style: Style::InDisplay, bracket: Bracket::Nothing, argument: None },
+    Environment { name: "drcases", delimiters: Some((None, Some('}'))), layout: Layout::LeftAligned, style: Style::InDisplay, bracket: Bracket::Nothing, argument: None },
+    Environment { name: "eqnarray", delimiters: None, layout: Layout::AroundRelation, style: Style::InDisplay, bracket: Bracket::Nothing, argument: None },
+    Environment { name: "eqnarray*", delimiters: None, layout: Layout::AroundRelation, style: Style::InDisplay, bracket: Bracket::Nothing, argument: None },
+    Environment { name: "equation", delimiters: None, layout: Layout::Centered, style: Style::InDisplay, bracket: Bracket::Nothing, argument: None },
+    Environment { name: "equation*", delimiters: None, layout: Layout::Centered, style: Style::InDisplay, bracket: Bracket::Nothing, argument: None },
+    Environment { name: "flalign", delimiters: None, layout: Layout::InPairs, style: Style::InDisplay, bracket: Bracket::Nothing, argument: None },
+    Environment { name: "flalign*", delimiters: None, layout: Layout::InPairs, style: Style::InDisplay, bracket: Bracket::Nothing, argument: None },
+    Environment { name: "gather", delimiters: None, layout: Layout::Centered, style: Style::InDisplay, bracket: Bracket::Nothing, argument: None },
+    Environment { name: "gather*", delimiters: None, layout: Layout::Centered, style: Style::InDisplay, bracket: Bracket::Nothing, argument: None },
+    Environment { name: "gathered", delimiters: None, layout: Layout::Centered, style: Style::InDisplay, bracket: Bracket::Position, argument: None },
+    Environment { name: "math", delimiters: None, layout: Layout::Centered, style: Style::InText, bracket: Bracket::Nothing, argument: None },
+    Environment { name: "matrix", delimiters: None, layout: Layout::Centered, style: Style::InText, bracket: Bracket::Nothing, argument: None },
+    Environment { name: "matrix*", delimiters: None, layout: Layout::Centered, style: Style::InText, bracket: Bracket::Alignment, argument: None },
+    Environment { name: "multline", delimiters: None, layout: Layout::LeftAligned, style: Style::InDisplay, bracket: Bracket::Nothing, argument: None },
+    Environment { name: "multline*", delimiters: None, layout: Layout::LeftAligned, style: Style::InDisplay, bracket: Bracket::Nothing, argument: None },
+    Environment { name: "pmatrix", delimiters: Some((Some('('), Some(')'))), layout: Layout::Centered, style: Style::InText, bracket: Bracket::Nothing, argument: None },
+    Environment { name: "pmatrix*", delimiters: Some((Some('('), Some(')'))), layout: Layout::Centered, style: Style::InText, bracket: Bracket::Alignment, argument: None },
+    Environment { name: "rcases", delimiters: Some((None, Some('}'))), layout: Layout::LeftAligned, style: Style::InText, bracket: Bracket::Nothing, argument: None },
+    Environment { name: "smallmatrix", delimiters: None, layout: Layout::Dense, style: Style::InScript, bracket: Bracket::Nothing, argument: None },
+    Environment { name: "split", delimiters: None, layout: Layout::InPairs, style: Style::InDisplay, bracket: Bracket::Nothing, argument: None },
+    Environment { name: "subarray", delimiters: None, layout: Layout::Dense, style: Style::InScript, bracket: Bracket::Nothing, argument: Some(Argument::ColumnList) },
+    Environment { name: "substack", delimiters: None, layout: Layout::Dense, style: Style::InScript, bracket: Bracket::Nothing, argument: None },
+    Environment { name: "vmatrix", delimiters: Some((Some('|'), Some('|'))), layout: Layout::Centered, style: Style::InText, bracket: Bracket::Nothing, argument: None },
+    Environment { name: "vmatrix*", delimiters: Some((Some('|'), Some('|'))), layout: Layout::Centered, style: Style::InText, bracket: Bracket::Alignment, argument: None },
 ];

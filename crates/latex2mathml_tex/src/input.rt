@@ -3,7 +3,7 @@ ghost use Rattle.std.specs.Prelude.{◌≡◌, ◌∷◌, [], false, IsTrue, Mat
 ghost use Rattle.latex2mathml_tex_grammar.specs.Delimiters.{delimiter_of, negated_of};
 ghost use Rattle.latex2mathml_tex_grammar.specs.{Dots.centers_dots, Next.follows, Next.past_space};
 ghost use Rattle.latex2mathml_tex_grammar.specs.Rules.{a_character, a_digit, in_brackets};
-ghost use Rattle.latex2mathml_tex.specs.{Left.TakesNext, Left.TakesNone, Left.end_of, Left.put_back, Left.units_at, Left.units_behind, Whole.whole_units};
+ghost use Rattle.latex2mathml_tex.specs.{Left.TakesNext, Left.TakesNone, Left.units_end, Left.put_back, Left.units_at, Left.units_behind, Whole.whole_units};
 ghost use Rattle.latex2mathml_tex_grammar.specs.Units as units;
 ghost use Rattle.latex2mathml_tex.specs.Delimiters.{delimiter_text};
 
@@ -26,7 +26,7 @@ pub(crate) struct Input<'a> {
 impl End {
     /// What stands behind the last unit.
     fn next<'a>(self) -> Next<'a>
-        ensures { (l : units.Units) → put_back result l ≡ end_of self }
+        ensures { (l : units.Units) → put_back result l ≡ units_end self }
     {
         match self {
             End::Text(place) => Next::End(place),

@@ -4,12 +4,13 @@ ghost use Rattle.std.specs.Prelude.{◌≡◌, ◌≢◌, ◌+◌, ℕ, [], IfOk
 ghost use Rattle.latex2mathml_tex_grammar.specs.{Next.past_space, Next.refusal_here};
 ghost use Rattle.latex2mathml_tex_grammar.specs.Refusal.{MissingDelimiter, refusal_at};
 ghost use Rattle.latex2mathml_tex.specs.{Errors.refusal_of, Frames.Start, Frames.element_count, Left.units_at, Levels.Leads, Meanings.style_of, Taking.kind_of, Whole.whole_units};
-ghost use Rattle.latex2mathml_tex.specs.Steps.{CanMake, Holds, HoldsIn, IsStep, LeadsOn, Ready, accepts, core_made, frame_weight, last_state, left_of, level_within, makes, start_of, state_weight};
+ghost use Rattle.latex2mathml_tex.specs.Steps.{CanMake, Holds, HoldsIn, Advances, LeadsOn, Ready, accepts, core_made, frame_weight, last_state, left_of, level_within, makes, start_of, state_weight};
 
 mod arrows;
 mod begin;
 mod boxes;
 mod deliver;
+mod environments;
 mod fractions;
 pub(crate) mod frames;
 mod leaves;
@@ -131,7 +132,7 @@ impl<'a> Parser<'a> {
         requires going_on { ((count : ℕ) → state ≢ State.End count) × (state ≢ State.Refused) }
         requires ready { Ready self.old state }
         ensures holds { LeadsOn (HoldsIn state) self.old self.new result }
-        ensures step { IsStep (state_weight state) self.old self.new result }
+        ensures step { Advances (state_weight state) self.old self.new result }
     {
         match state {
             State::Next => self.next(),
@@ -148,7 +149,7 @@ impl<'a> Parser<'a> {
     fn next(&mut self) -> Result<State, AllocError>
         requires { Ready self.old State.Next }
         ensures holds { LeadsOn (HoldsIn State.Next) self.old self.new result }
-        ensures step { IsStep 1 self.old self.new result }
+        ensures step { Advances 1 self.old self.new result }
     {
         match self.frames.innermost(self.style) {
             Frame::Row(ending, place, context, row) => {
@@ -169,7 +170,7 @@ impl<'a> Parser<'a> {
         ensures holds { (s : Start) → s.style ≡ style_of self.old.style
             → Leads (level_within frame 0 s self.old) (left_of self.old)
             → IfOk result (Holds s self.new) }
-        ensures step { IsStep (frame_weight frame + 2) self.old self.new result }
+        ensures step { Advances (frame_weight frame + 2) self.old self.new result }
     {
         self.frames.push(frame)?;
         Ok(State::Next)

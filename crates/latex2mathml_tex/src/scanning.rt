@@ -2,7 +2,7 @@
 //! stands. White space is nothing.
 ghost use Rattle.std.specs.Prelude.{◌≡◌, ℕ, [], Some};
 ghost use Rattle.latex2mathml_tex_grammar.specs.Refusal.{refusal_at};
-ghost use Rattle.latex2mathml_tex_grammar.specs.Commands.{meaning_of};
+ghost use Rattle.latex2mathml_tex_grammar.specs.{Commands.meaning_of, Meaning.takes_words};
 ghost use Rattle.latex2mathml_tex_grammar.specs.Scanning;
 ghost use Rattle.latex2mathml_tex_grammar.specs.Scanning.{scan};
 ghost use Rattle.latex2mathml_tex_grammar.specs.Units.{End, Stop};
@@ -41,12 +41,9 @@ pub(crate) enum LengthEnd {
 pub(crate) enum Spot {
     BeforeArgument(Argument),
     InArgument(Argument),
-    /// In columns: a space between two.
+    /// In columns: what stands between two, or the width of one, within so many braces.
     BeforeGap,
-    InGap,
-    /// In columns: the width of one.
-    BeforeWidth,
-    InWidth,
+    InGap(u8),
     /// Before a brace that is all.
     BeforeBrace,
     /// A letter in brackets, which says how a table stands in its line.
@@ -104,7 +101,7 @@ fn column_deed(c: char) -> Deed
     match c {
         'l' | 'c' | 'r' => Deed::Adds(c, Spot::InArgument(Argument::ColumnList)),
         '|' => Deed::Passes(Spot::InArgument(Argument::ColumnList)),
-        'p' => Deed::Adds('l', Spot::BeforeWidth),
+        'p' | 'm' | 'b' => Deed::Adds('l', Spot::BeforeGap),
         '@' => Deed::Passes(Spot::BeforeGap),
         _ => Deed::Refuses,
     }
@@ -139,30 +136,32 @@ fn argument_deed(argument: Argument, piece: Piece) -> Deed
     }
 }
 
-fn is_spacing(name: &str) -> bool
-    ensures { result ≡ Scanning.is_spacing (meaning_of name.now) }
+fn takes_words(name: &str) -> bool
+    ensures { result ≡ takes_words (meaning_of name.now) }
 {
-    matches!(commands::look_up(name), Some(Meaning::Spacing(_)))
+    matches!(commands::look_up(name), Some(Meaning::Words(_)))
 }
 
-fn gap_deed(piece: Piece) -> Deed
-    ensures { deed_of result ≡ Scanning.gap_deed (piece_of piece.entry) }
+/// Behind the brace that ends the innermost of so many, or else what stands in braces among columns.
+fn behind_brace(depth: u8) -> Spot
+    ensures { spot_of result ≡ Scanning.behind_brace depth }
 {
-    match piece {
-        Piece::Close => Deed::Passes(Spot::InArgument(Argument::ColumnList)),
-        Piece::Command(name) if is_spacing(name) => Deed::Passes(Spot::InGap),
-        _ => Deed::Refuses,
+    if depth == 0 {
+        return Spot::InArgument(Argument::ColumnList);
     }
+    Spot::InGap(depth - 1)
 }
 
-fn width_deed(piece: Piece) -> Deed
-    ensures { deed_of result ≡ Scanning.width_deed (piece_of piece.entry) }
+/// In braces among columns, within so many more. More than a hundred are refused.
+fn gap_deed(depth: u8, piece: Piece) -> Deed
+    ensures { deed_of result ≡ Scanning.gap_deed depth (piece_of piece.entry) }
 {
     match piece {
-        Piece::Close => Deed::Passes(Spot::InArgument(Argument::ColumnList)),
-        Piece::Character('$') => Deed::Refuses,
-        Piece::Character(_) => Deed::Passes(Spot::InWidth),
-        _ => Deed::Refuses,
+        Piece::Open if depth < 100 => Deed::Passes(Spot::InGap(depth + 1)),
+        Piece::Open | Piece::Character('$') => Deed::Refuses,
+        Piece::Close => Deed::Passes(behind_brace(depth)),
+        Piece::Command(name) if takes_words(name) => Deed::Refuses,
+        Piece::Command(_) | Piece::Character(_) | Piece::Space => Deed::Passes(Spot::InGap(depth)),
     }
 }
 
@@ -358,10 +357,8 @@ impl Spot {
                 )
             }
             Spot::InArgument(argument) => argument_deed(argument, piece),
-            Spot::BeforeGap => brace_deed(Deed::Passes(Spot::InGap), Deed::Refuses, piece),
-            Spot::InGap => gap_deed(piece),
-            Spot::BeforeWidth => brace_deed(Deed::Passes(Spot::InWidth), Deed::Refuses, piece),
-            Spot::InWidth => width_deed(piece),
+            Spot::BeforeGap => brace_deed(Deed::Passes(Spot::InGap(0)), Deed::Refuses, piece),
+            Spot::InGap(depth) => gap_deed(depth, piece),
             Spot::BeforeBrace => brace_deed(Deed::Ends, Deed::Misses, piece),
             Spot::BeforeStar => star_deed(piece),
             Spot::BehindStar => Deed::Leaves,

@@ -209,6 +209,21 @@ fn make_prefix(builder: &mut Builder)
     }
 }
 
+/// A sign between two operands, which may be the first of its row.
+fn make_infix(builder: &mut Builder, first: bool)
+    ensures { ChangesAt (Atoms.as_infix first) 0 builder.old builder.new }
+{
+    if first && let Some((_, attributes)) = builder.token_at(0) {
+        builder.give(
+            0,
+            Attributes {
+                form: Some(Form::Infix),
+                ..attributes
+            },
+        );
+    }
+}
+
 /// Makes the uppermost element, an operand of its own class, what an atom of another class is made of.
 pub(crate) fn make_base(builder: &mut Builder, style: Style, class: Class, own: Class)
     ensures elements { ChangesAt
@@ -261,10 +276,10 @@ fn space_as(style: Style, class: Class, space: Option<Space>) -> Option<Space>
     }
 }
 
-/// Gives the uppermost element what its atom has there: a prefix, or no space.
-fn adapt(builder: &mut Builder, style: Style, before: Before, kind: Kind)
+/// Gives the uppermost element what its atom has there, which may be the first of its row: whether it is a prefix, or no space.
+fn adapt(builder: &mut Builder, style: Style, first: bool, before: Before, kind: Kind)
     ensures { ChangesAt
-        (Atoms.element_there (style_of style) (before_of before) (kind_of kind)) 0
+        (Atoms.element_there (style_of style) first (before_of before) (kind_of kind)) 0
         builder.old builder.new }
 {
     match kind {
@@ -276,6 +291,7 @@ fn adapt(builder: &mut Builder, style: Style, before: Before, kind: Kind)
             if before.begins_operand() {
                 make_prefix(builder);
             } else {
+                make_infix(builder, first);
                 tighten(builder, style);
             }
         }
@@ -335,7 +351,7 @@ fn put_behind(
     if continues_word(row, kind) {
         return Ok(join_word(builder, row.count));
     }
-    adapt(builder, style, row.before, kind);
+    adapt(builder, style, row.count == 0, row.before, kind);
     if row.before.is_parted(kind) {
         builder.space_below(3)?;
         // all elements of a row are among those of the builder, so their number has room in a `usize`

@@ -4,15 +4,15 @@ use Rattle.std.proofs.lemmas.Bool.{cases_Bool}
 use Rattle.std.specs.{Char.is_ascii_alphabetic, Char.is_ascii_digit, Str.byte, Str.bytes_eq}
 use Rattle.latex2mathml_elements.specs.Element.{Element}
 use Rattle.latex2mathml_elements.specs.Columns.{Columns}
-use Rattle.latex2mathml_tex_grammar.specs.Environments.{Environment, environment_of}
+use Rattle.latex2mathml_tex_grammar.specs.Environments.{Environment, Bracket, NoBracket, Position, Alignment, environment_of}
 use Rattle.latex2mathml_tex_grammar.specs.Scanning.{Spot, Argument, Name, ColumnList, Number, ColorName, InLength, AtBracket, AtUnit, BeforeLengthInBraces}
 use Rattle.latex2mathml_tex_grammar.specs.Tables.{Lines}
 use Rattle.latex2mathml_tex_grammar.specs.{Commands.meaning_of, Commands.symbol_of, Delimiters.delimiter_of, Makes.Core, Makes.Outline, Refusal.Refusal, Rows.Row, Rows.Operand, Symbols.Alphabet, Symbols.Style, Symbols.Symbol, Words.Words}
-use Rattle.latex2mathml_tex_grammar.specs.Meaning.{Meaning, Shows, FunctionName, Dots, Spacing, Styled, Words as TakesWordsIn, Fraction, Root, Accent, Brace, Stack, StackedRelation, OperatorName, Negation, Slash, Sized, Left, Middle, Right, Limits, NoLimits, Classed, Changes, BeginTable, EndTable, LineBreak, Substack, Skip, SkipInBraces, Boxed, Smash, ContinuedFraction, GeneralFraction, Raise, InColor, Highlight, Rectangle, Arrow}
-use Rattle.latex2mathml_tex_grammar.specs.Rules.{Context, Ending, WholeText, InBraces, InBrackets, InDollars, InDelimiters, Rule, gives, refuses, reads_operand, reads_core, reads_atoms, reads_words, takes_if, if_follows, takes_digits, takes_delimiter, of_one, of_two, decimal, after_digits, a_number, a_symbol, begins_none, character_rule, struck_atom, command_rule, rule, TableEnd, ByName, ByBrace, InCell, takes_found, passes_over, reads_rows, ended_table, rows_rule, listed_rule, argument_rule, position_rule, environment_rule, most_columns, ByText, in_brackets, with_value, a_length, a_bar, a_color, a_left_brace, a_right_brace, empty_braces, an_outer_delimiter, has_width, a_line, numbered_style, a_style, an_outlined_fraction}
+use Rattle.latex2mathml_tex_grammar.specs.Meaning.{Meaning, takes_words, Shows, FunctionName, Dots, Spacing, Styled, Words as TakesWordsIn, Fraction, Root, Accent, Brace, Stack, StackedRelation, OperatorName, Negation, Slash, Sized, Left, Middle, Right, Limits, NoLimits, Classed, Changes, BeginTable, EndTable, LineBreak, Substack, Skip, SkipInBraces, Boxed, Smash, ContinuedFraction, GeneralFraction, Raise, InColor, Highlight, Rectangle, Arrow}
+use Rattle.latex2mathml_tex_grammar.specs.Rules.{Context, Ending, WholeText, InBraces, InBrackets, InDollars, InDelimiters, Rule, gives, refuses, reads_operand, reads_core, reads_atoms, reads_words, takes_if, if_follows, takes_digits, takes_delimiter, of_one, of_two, decimal, after_digits, a_number, a_symbol, begins_none, character_rule, struck_atom, command_rule, rule, TableEnd, ByName, ByBrace, InCell, takes_found, passes_over, reads_rows, ended_table, rows_rule, listed_rule, argument_rule, alignment_rule, bracket_rule, environment_rule, most_columns, ByText, in_brackets, with_value, a_length, a_bar, a_color, a_left_brace, a_right_brace, empty_braces, an_outer_delimiter, has_width, a_line, numbered_style, a_style, an_outlined_fraction}
 use Rattle.latex2mathml_tex_grammar.specs.{Colors.color_of, Lengths.width_of}
 use Rattle.latex2mathml_elements.specs.Colors.{Color}
-use Rattle.latex2mathml_tex_grammar.specs.Spacing.{Standing, BeforeWords, InWords, BetweenDollars, standing_behind, behind_unit, takes_words, AreAlike, same_piece}
+use Rattle.latex2mathml_tex_grammar.specs.Spacing.{Standing, BeforeWords, InWords, BetweenDollars, standing_behind, behind_unit, AreAlike, same_piece}
 use Rattle.latex2mathml_tex_grammar.specs.Starts.{atom_start, ends, unended, is_close, is_character, is_command, left_behind, is_break}
 use Rattle.latex2mathml_tex_grammar.specs.Units.{Piece, Space, Open, Close, Command, Character, Unit, Units}
 use Rattle.latex2mathml_tex_grammar.proofs.{OneList.is_byte, Plain.a_character_plain, Plain.close_plain, Plain.delimiter_plain, Plain.named, Plain.open_plain, Plain.negated_of_plain, Plain.right_plain, Plain.takes_none, Plain.TakesNone, Plain.break_plain, Plain.cr_plain, Plain.newline_plain, Plain.end_plain, Scans.either_holds}
@@ -237,13 +237,23 @@ argument_too p q c name e (Some Number) = scanned_too (λ number. rows_of_too p 
 argument_too p q c name e (Some Name) = rows_of_too p q c name e _
 argument_too p q c name e (Some ColorName) = rows_of_too p q c name e _
 
-position_too : {at : Standing} {r s : Rule} (b : Bool) → AlikeRules at at r s → AlikeRules at at (position_rule b r) (position_rule b s)
-position_too true h = passed_too h
-position_too false h = h
+in_brackets_plain : (c : ℕ) → (byte "$" == c) ≡ false → AllPlain (in_brackets c)
+in_brackets_plain c h = (a_character_plain (byte "[") refl, (a_character_plain c h, (a_character_plain (byte "]") refl, tt)))
+
+alignment_too : {at : Standing} (p q : ℕ) (c : Context) (name : List ℕ) (e : Environment) → AlikeRules at at (alignment_rule p c name e) (alignment_rule q c name e)
+alignment_too p q c name e =
+    if_too (in_brackets_plain (byte "l") refl) (λ letter. rows_of_too p q c name e _)
+    (if_too (in_brackets_plain (byte "c") refl) (λ letter. rows_of_too p q c name e _)
+    (if_too (in_brackets_plain (byte "r") refl) (λ letter. rows_of_too p q c name e _) (rows_of_too p q c name e _)))
+
+bracket_too : {at : Standing} (p q : ℕ) (c : Context) (name : List ℕ) (e : Environment) (bracket : Bracket) → AlikeRules at at (bracket_rule p c name e bracket) (bracket_rule q c name e bracket)
+bracket_too p q c name e NoBracket = argument_too p q c name e e.argument
+bracket_too p q c name e Position = passed_too (argument_too p q c name e e.argument)
+bracket_too p q c name e Alignment = alignment_too p q c name e
 
 environment_too : {at : Standing} (p q : ℕ) (c : Context) (name : List ℕ) (e : Option Environment) → AlikeRules at at (environment_rule p c name e) (environment_rule q c name e)
 environment_too p q c name None = refuses_too refl
-environment_too p q c name (Some e) = position_too e.may_have_position (argument_too p q c name e e.argument)
+environment_too p q c name (Some e) = bracket_too p q c name e e.bracket
 
 -- lengths and colors
 
@@ -259,9 +269,6 @@ bar_too p q raise = length_too p q BeforeLengthInBraces (λ width. length_too p 
 
 color_too : {at : Standing} (p q : ℕ) {f g : Color → Rule} → ((color : Color) → AlikeRules at at (f color) (g color)) → AlikeRules at at (a_color p f) (a_color q g)
 color_too p q h = scanned_too (λ name. with_value_too _ _ refl h (color_of name))
-
-in_brackets_plain : (c : ℕ) → (byte "$" == c) ≡ false → AllPlain (in_brackets c)
-in_brackets_plain c h = (a_character_plain (byte "[") refl, (a_character_plain c h, (a_character_plain (byte "]") refl, tt)))
 
 -- fractions whose outline is said
 

@@ -10,7 +10,7 @@ use Rattle.latex2mathml_tex_grammar.specs.Starts.{Step, GoesOn, TakesOperand, Fo
 use Rattle.latex2mathml_tex_grammar.specs.ExpansionLaws.{EachPiece}
 use Rattle.latex2mathml_tex_grammar.specs.Tables.{Lines}
 use Rattle.latex2mathml_tex_grammar.specs.Units.{Piece, Command, Character, Units, is_forbidden}
-use Rattle.latex2mathml_tex_grammar.specs.Words.{Word, Shown, Formula, WordRule, IsWord, Words}
+use Rattle.latex2mathml_tex_grammar.specs.Words.{Word, Shown, Formula, Nothing, WordRule, IsWord, Words}
 
 -- Units
 
@@ -75,6 +75,7 @@ AreAllowedScripts scripts = IsAllowedElement scripts.below × IsAllowedElement s
 abbrev pub IsAllowedWord : Word → Type 0
 IsAllowedWord (Shown text) = IsAllowed text
 IsAllowedWord (Formula x) = HasAllowedTexts x
+IsAllowedWord Nothing = ⊤
 
 -- what comes to something that is allowed, with units that are, or is refused
 abbrev pub IsAllowedOutcome : {A : Type 0} → (A → Type 0) → Outcome A → Type 0

@@ -7,10 +7,10 @@ use Rattle.latex2mathml_elements.specs.Characters.{is_forbidden, IsAllowed, HasA
 use Rattle.latex2mathml_elements.specs.Element.{Mi, Mn, Mo, Mtext, Element, token, space, rectangle, container, pair, triple, table, children}
 use Rattle.latex2mathml_elements.proofs.{Characters.allowed_both, Characters.allowed_char, Characters.allowed_plain, Characters.plain_is_allowed, Plain.IsPlain, Plain.is_plain}
 use Rattle.latex2mathml_tex_grammar.specs.Alphabets.{in_alphabet}
-use Rattle.latex2mathml_tex_grammar.specs.Atoms.{Atom, Kind, SignOf, PlusOrMinus, Plain, UprightLetters, FunctionWord, Blank, Divider, Before, begins_operand, class_there, as_prefix, without_space, tight, sign_there, element_there, is_parted, lone_sign, element_as}
+use Rattle.latex2mathml_tex_grammar.specs.Atoms.{Atom, Kind, SignOf, PlusOrMinus, Plain, UprightLetters, FunctionWord, Blank, Divider, Before, begins_operand, class_there, as_prefix, as_infix, without_space, tight, sign_there, element_there, is_parted, lone_sign, element_as}
 use Rattle.latex2mathml_tex_grammar.specs.Makes.{text, letter, upright_letter, number, symbol, struck, classed, on_side, accent, brace, stack, in_style, fenced, fraction_element, fraction, lowered_divider, lowered, between_delimiters, Scripts, primes_text, prime_mark, behind_primes, superscript, are_stacked, fixed_base, with_scripts, scripted_atom, scripted}
 use Rattle.latex2mathml_tex_grammar.specs.Meaning.{FractionRule, Bar, NoBar, Braced, Bracketed, Bare, LimitPlace, Beside, ByStyle, Movable, Stacked}
-use Rattle.latex2mathml_tex_grammar.specs.Rows.{Row, Operand, as_base, join, parted, put, row_element, single, with_atom, empty_row}
+use Rattle.latex2mathml_tex_grammar.specs.Rows.{Row, Operand, as_base, is_empty, join, parted, put, row_element, single, with_atom, empty_row}
 use Rattle.latex2mathml_tex_grammar.specs.Symbols.{Class, Ordinary, Operator, Binary, Relation, Opening, Closing, Punctuation, Inner, Style, InDisplay, InText, InScript, Alphabet, Upright, Italic, Bold, BoldItalic, DoubleStruck, Fraktur, Calligraphic, SansSerif, Monospace, Symbol, Letter, UprightLetter, Sign, BigOperator, Integral}
 use Rattle.latex2mathml_tex_grammar.proofs.Allowed.{AreAllowedElements, IsAllowedElement, IsAllowedCore, IsAllowedAtom, IsAllowedOperand, IsAllowedRow, AreAllowedScripts}
 use Rattle.latex2mathml_tex_grammar.proofs.AllowedTables.{in_alphabet_allowed, is_allowed_symbol, not_forbidden}
@@ -84,6 +84,16 @@ prefix_allowed (pair p a x y) h = h
 prefix_allowed (triple t a x y z) h = h
 prefix_allowed (table a rows) h = h
 
+infix_allowed : (first : Bool) (x : Element) → HasAllowedTexts x → HasAllowedTexts (as_infix first x)
+infix_allowed true (token t a text) h = h
+infix_allowed true (space width) h = h
+infix_allowed true (rectangle e) h = h
+infix_allowed true (container c a xs) h = h
+infix_allowed true (pair p a x y) h = h
+infix_allowed true (triple t a x y z) h = h
+infix_allowed true (table a rows) h = h
+infix_allowed false x h = h
+
 without_space_allowed : (x : Element) → HasAllowedTexts x → HasAllowedTexts (without_space x)
 without_space_allowed (token t a text) h = h
 without_space_allowed (space width) h = h
@@ -108,15 +118,15 @@ sign_there_allowed style Closing x h = h
 sign_there_allowed style Punctuation x h = tight_allowed style x h
 sign_there_allowed style Inner x h = h
 
-element_there_allowed : (style : Style) (before : Before) (kind : Kind) (x : Element) → HasAllowedTexts x → HasAllowedTexts (element_there style before kind x)
-element_there_allowed style before (SignOf class) x h = sign_there_allowed style (class_there before class) x h
-element_there_allowed style before PlusOrMinus x h =
-    of_either HasAllowedTexts (begins_operand before) (prefix_allowed x h) (tight_allowed style x h)
-element_there_allowed style before (Plain class) x h = h
-element_there_allowed style before UprightLetters x h = h
-element_there_allowed style before FunctionWord x h = h
-element_there_allowed style before Divider x h = h
-element_there_allowed style before Blank x h = h
+element_there_allowed : (style : Style) (first : Bool) (before : Before) (kind : Kind) (x : Element) → HasAllowedTexts x → HasAllowedTexts (element_there style first before kind x)
+element_there_allowed style first before (SignOf class) x h = sign_there_allowed style (class_there before class) x h
+element_there_allowed style first before PlusOrMinus x h =
+    of_either HasAllowedTexts (begins_operand before) (prefix_allowed x h) (tight_allowed style (as_infix first x) (infix_allowed first x h))
+element_there_allowed style first before (Plain class) x h = h
+element_there_allowed style first before UprightLetters x h = h
+element_there_allowed style first before FunctionWord x h = h
+element_there_allowed style first before Divider x h = h
+element_there_allowed style first before Blank x h = h
 
 parted_allowed : (b : Bool) (xs : List Element) → AreAllowedElements xs → AreAllowedElements (parted b xs)
 parted_allowed true xs h = (tt, h)
@@ -141,7 +151,7 @@ join_allowed (table a rows) xs h k = (h, k)
 put_allowed : (joins : Bool) (style : Style) (before : Before) (x : Atom) (xs : List Element) → IsAllowedAtom x → AreAllowedElements xs → AreAllowedElements (put joins style before x xs)
 put_allowed true style before x xs h k = join_allowed x.element xs h k
 put_allowed false style before x xs h k =
-    (element_there_allowed style before x.kind x.element h, parted_allowed (is_parted before x.kind) xs k)
+    (element_there_allowed style (is_empty xs) before x.kind x.element h, parted_allowed (is_parted before x.kind) xs k)
 
 pub with_atom_allowed : (style : Style) (row : Row) (x : Atom) → IsAllowedRow row → IsAllowedAtom x → IsAllowedRow (with_atom style row x)
 with_atom_allowed style row x h k = put_allowed _ style row.before x row.elements k h

@@ -3,11 +3,11 @@ use Rattle.std.proofs.Common.{◌≡◌, ℕ, zero, suc, Bool, true, false, ◌&
 use Rattle.std.proofs.lemmas.Bool.{and_parts}
 use Rattle.std.specs.{Bool.⊤, Char.encode_utf8, List.list_all, Str.bytes_eq, Str.chars}
 use Rattle.latex2mathml_elements.specs.Characters.{IsAllowed, HasAllowedTexts, EachTextOf, EachTextOfCells, EachTextOfRows}
-use Rattle.latex2mathml_elements.specs.{Columns.Columns, Columns.Listed, Tables.cells_behind, Tables.cells_in, Tables.rows_in}
+use Rattle.latex2mathml_elements.specs.{Columns.Columns, Columns.Centered, Columns.LeftAligned, Columns.RightAligned, Columns.Alike, Columns.Listed, Tables.cells_behind, Tables.cells_in, Tables.rows_in}
 use Rattle.latex2mathml_elements.specs.Element.{Mrow, Msqrt, Mstyle, Mpadded, Mphantom, Element, Elements, token, space, rectangle, container, pair, triple, table, more, none}
-use Rattle.latex2mathml_tex_grammar.specs.Environments.{columns_of, Environment, environments, entry_environment, environment_of}
+use Rattle.latex2mathml_tex_grammar.specs.Environments.{columns_of, Environment, Bracket, NoBracket, Position, Alignment, environments, entry_environment, environment_of}
 use Rattle.latex2mathml_tex_grammar.specs.{Rows.row_element, Symbols.Style}
-use Rattle.latex2mathml_tex_grammar.specs.Rules.{Context, Rule, ended_table, rows_rule, most_columns, listed_rule, argument_rule, position_rule, environment_rule}
+use Rattle.latex2mathml_tex_grammar.specs.Rules.{Context, ended_table, rows_rule, most_columns, listed_rule, argument_rule, bracket_rule, environment_rule}
 use Rattle.latex2mathml_tex_grammar.specs.Scanning.{Argument, Name, ColumnList, Number, ColorName, Deed, Passes, Adds, Ends, Leaves, Misses, Refuses, Spot, deed, done, may_end, found_at_end, with_character, Found, Given, Missing, scan, behind_found, past, past_break, BeforeStar, BeforeLength, BeforeRow}
 use Rattle.latex2mathml_tex_grammar.specs.Tables.{Lines, a_row, with_last, rows_onto, between_any, a_table}
 use Rattle.latex2mathml_tex_grammar.specs.Refusal.{Refusal}
@@ -112,13 +112,16 @@ argument_allowed place c name e (Some Number) h = λ number. rows_rule_allowed p
 argument_allowed place c name e (Some Name) h = rows_rule_allowed place c name e e.columns h
 argument_allowed place c name e (Some ColorName) h = rows_rule_allowed place c name e e.columns h
 
+bracket_allowed : (place : ℕ) (c : Context) (name : List ℕ) (e : Environment) (bracket : Bracket) → are_allowed_delimiters e.delimiters ≡ true → IsAllowedRule (bracket_rule place c name e bracket)
+bracket_allowed place c name e NoBracket h = argument_allowed place c name e e.argument h
+bracket_allowed place c name e Position h = argument_allowed place c name e e.argument h
+bracket_allowed place c name e Alignment h =
+    let rows : (columns : Columns) → IsAllowedRule (rows_rule place c name e columns) = λ columns. rows_rule_allowed place c name e columns h in
+    (λ letter given. rows (Alike LeftAligned), (λ letter given. rows (Alike Centered), (λ letter given. rows (Alike RightAligned), rows e.columns)))
+
 pub environment_allowed : (place : ℕ) (c : Context) (name : List ℕ) (e : Option Environment) → PassesTest (λ e. are_allowed_delimiters e.delimiters) e → IsAllowedRule (environment_rule place c name e)
 environment_allowed place c name None h = tt
-environment_allowed place c name (Some e) h = position_allowed e.may_have_position _ (argument_allowed place c name e e.argument h)
-  where
-    position_allowed : (b : Bool) (r : Rule) → IsAllowedRule r → IsAllowedRule (position_rule b r)
-    position_allowed true r h = h
-    position_allowed false r h = h
+environment_allowed place c name (Some e) h = bracket_allowed place c name e e.bracket h
 
 -- The units that are left when something was taken
 

@@ -7,14 +7,14 @@ use Rattle.latex2mathml_elements.proofs.{Characters.allowed_both, Characters.all
 use Rattle.latex2mathml_tex_grammar.specs.{Commands.meaning_of, Commands.symbol_of, Delimiters.entry_of_name, Delimiters.negated_of, Delimiters.delimiter_of, TextCommands.text_commands, Dots.centered_dots, Dots.low_dots}
 use Rattle.latex2mathml_tex_grammar.specs.Makes.{Core, core, Scripts, letter, symbol, spacing, struck, text, in_box, raised_by, black, arrow, Outline, quotient, between_any, outlined_fraction}
 use Rattle.latex2mathml_tex_grammar.specs.Refusal.{Refusal, OutsideTable, MisplacedCharacter, CharacterInWords, refusal_at}
-use Rattle.latex2mathml_tex_grammar.specs.Meaning.{Meaning, Shows, FunctionName, Dots, Spacing, Styled, Words as TakesWordsIn, Fraction, Root, Accent, Brace, Stack, StackedRelation, OperatorName, Negation, Slash, Sized, Left, Middle, Right, Limits, NoLimits, Classed, Changes, BeginTable, EndTable, LineBreak, Substack, Skip, SkipInBraces, Boxed, Smash, ContinuedFraction, GeneralFraction, Bar, FractionRule, Box, Phantom, PhantomWidth, PhantomHeight, Smashed, WithoutHeight, WithoutDepth, OverRight, OverLeft, OverBoth, Frame, StrikeUp, StrikeDown, StrikeTwice, Raise, InColor, Highlight, Rectangle, Arrow, Raised, Colored, OnColor}
+use Rattle.latex2mathml_tex_grammar.specs.Meaning.{Meaning, Shows, FunctionName, Dots, Spacing, Styled, Words as TakesWordsIn, Fraction, Root, Accent, Brace, Stack, StackedRelation, OperatorName, Negation, Slash, Sized, Left, Middle, Right, Limits, NoLimits, Classed, Changes, ToAlphabet, ToStyle, Divides, ToColor, BeginTable, EndTable, LineBreak, Substack, Skip, SkipInBraces, Boxed, Smash, ContinuedFraction, GeneralFraction, Bar, FractionRule, Box, Phantom, PhantomWidth, PhantomHeight, Smashed, WithoutHeight, WithoutDepth, OverRight, OverLeft, OverBoth, Frame, StrikeUp, StrikeDown, StrikeTwice, Raise, InColor, Highlight, Rectangle, Arrow, Raised, Colored, OnColor}
 use Rattle.latex2mathml_tex_grammar.specs.{Colors.color_of, Lengths.width_of}
 use Rattle.latex2mathml_tex_grammar.specs.Rows.{Operand, row_element}
 use Rattle.latex2mathml_tex_grammar.specs.Rules.{Context, Rule, gives, refuses, takes_if, a_character, a_digit, decimal, after_digits, a_number, a_symbol, begins_none, character_rule, struck_atom, slashed, a_box, a_fraction, meaning_rule, command_rule, rule, with_value, a_bar, a_left_brace, a_right_brace, empty_braces, an_outer_delimiter, has_width, a_line, numbered_style, a_style, an_outlined_fraction, a_general_fraction}
 use Rattle.latex2mathml_tex_grammar.specs.Starts.{OperandStart, NoStart, GroupStart, DigitStart, operand_start, start_of_digit, Mark, Prime, Below, Above as AboveMark, LimitsAt, step_of, step_of_mark}
 use Rattle.latex2mathml_tex_grammar.specs.Symbols.{InDisplay, InText, InScript, Ordinary, Relation, Alphabet, Style, Symbol}
 use Rattle.latex2mathml_tex_grammar.specs.Units.{Piece, Space, Open, Close, Command, Character}
-use Rattle.latex2mathml_tex_grammar.specs.Words.{Word, Shown, Formula, WordRule, IsWord, BeginsFormula, NoWord, Words, word_space, word_character, with_text, with_word, words_element, word_rule, character_rule as word_of_character, meaning_rule as word_of_meaning, command_rule as word_of_command}
+use Rattle.latex2mathml_tex_grammar.specs.Words.{Word, Shown, Formula, Nothing, WordRule, IsWord, BeginsFormula, NoWord, Words, word_space, word_character, with_text, with_word, words_element, word_rule, character_rule as word_of_character, meaning_rule as word_of_meaning, command_rule as word_of_command}
 use Rattle.latex2mathml_tex_grammar.proofs.Allowed.{IsAllowedPiece, AreAllowedElements, IsAllowedElement, IsAllowedCore, IsAllowedOperand, AreAllowedScripts, AreAllowedWords, IsAllowedWord, IsAllowedWordRule, IsAllowedStep, IsAllowedRule, AreGiven}
 use Rattle.latex2mathml_tex_grammar.proofs.AllowedMakes.{letter_allowed, upright_letter_allowed, symbol_allowed, number_allowed, row_element_allowed, single_allowed, struck_allowed, as_base_allowed, classed_allowed, accent_allowed, brace_allowed, stack_allowed, fraction_allowed, fenced_allowed, in_style_allowed, between_allowed, behind_primes_allowed}
 use Rattle.latex2mathml_elements.specs.Columns.{Alike, Dense}
@@ -354,7 +354,10 @@ word_of_meaning_allowed name (Some Right) h = tt
 word_of_meaning_allowed name (Some Limits) h = tt
 word_of_meaning_allowed name (Some NoLimits) h = tt
 word_of_meaning_allowed name (Some (Classed class)) h = tt
-word_of_meaning_allowed name (Some (Changes change)) h = tt
+word_of_meaning_allowed name (Some (Changes (ToAlphabet alphabet))) h = tt
+word_of_meaning_allowed name (Some (Changes (ToStyle style))) h = tt
+word_of_meaning_allowed name (Some (Changes (Divides rule))) h = tt
+word_of_meaning_allowed name (Some (Changes ToColor)) h = tt
 word_of_meaning_allowed name (Some BeginTable) h = tt
 word_of_meaning_allowed name (Some EndTable) h = tt
 word_of_meaning_allowed name (Some LineBreak) h = tt
@@ -396,3 +399,4 @@ with_text_allowed false more xs h k = (h, k)
 pub with_word_allowed : (ws : Words) (w : Word) → AreAllowedWords ws → IsAllowedWord w → AreAllowedWords (with_word ws w)
 with_word_allowed ws (Shown more) h k = with_text_allowed ws.ends_in_text more ws.elements k h
 with_word_allowed ws (Formula x) h k = (k, h)
+with_word_allowed ws Nothing h k = h

@@ -5,7 +5,7 @@ use Rattle.std.specs.{Str.byte, Str.bytes_eq}
 use Rattle.latex2mathml_tex_grammar.specs.{Commands.command_entries, Commands.meaning_of, CommandsFromM.commands_from_m, CommandsUpToL.commands_up_to_l}
 use Rattle.latex2mathml_tex_grammar.specs.Delimiters.{delimiter_characters, delimiter_commands, delimiter_of, negated_characters, negated_commands, negated_of, entry_of_name, text_of}
 use Rattle.latex2mathml_tex_grammar.specs.{Rules.a_character, Rules.a_digit, TextCommands.text_commands}
-use Rattle.latex2mathml_tex_grammar.specs.Spacing.{takes_words}
+use Rattle.latex2mathml_tex_grammar.specs.Meaning.{takes_words}
 use Rattle.latex2mathml_tex_grammar.specs.Meaning.{Change, Changes, Meaning}
 use Rattle.latex2mathml_tex_grammar.specs.Starts.{change_meant, change_by, ChangeStart, Mark, Prime, Below, Above, LimitsAt, Step, atom_start, DividerStart, start_of_mark, OperandStart, DigitStart, GroupStart, NoStart, operand_start, is_no_operand, is_open, start_of_digit, mark_of, step_of_mark, is_command}
 use Rattle.latex2mathml_tex_grammar.specs.{Makes.Scripts, Rules.Ending, Rules.WholeText, Rules.InBraces, Rules.InBrackets, Rules.InDollars, Rules.InDelimiters, Rules.InCell}

@@ -1,12 +1,12 @@
 -- What is taken unit by unit among units that are alike but for white space.
-use Rattle.std.proofs.Common.{◌≡◌, ◌==◌, ◌||◌, ℕ, Bool, true, false, inl, inr, List, [], ◌++◌, Option, Some, None, codes, refl, sym, ap, subst, ◌∙◌, if◌then◌else◌}
+use Rattle.std.proofs.Common.{◌≡◌, ◌==◌, ◌||◌, ℕ, Bool, true, false, inl, inr, List, [], ◌++◌, codes, refl, sym, ap, subst, ◌∙◌, if◌then◌else◌}
 use Rattle.std.proofs.{lemmas.Bool.cases_Bool}
 use Rattle.std.specs.{Char.encode_utf8, Str.byte}
 use Rattle.latex2mathml_tex_grammar.specs.{Commands.command_entries, Commands.meaning_of, CommandsFromM.commands_from_m, CommandsUpToL.commands_up_to_l}
-use Rattle.latex2mathml_tex_grammar.specs.Meaning.{Meaning, Shows, FunctionName, Dots, Spacing, Styled, Words as TakesWordsIn, Fraction, Root, Accent, Brace, Stack, StackedRelation, OperatorName, Negation, Slash, Sized, Left, Middle, Right, Limits, NoLimits, Classed, Changes, BeginTable, EndTable, LineBreak, Substack, Skip, SkipInBraces, Boxed, Smash, ContinuedFraction, GeneralFraction, Raise, InColor, Highlight, Rectangle, Arrow}
+use Rattle.latex2mathml_tex_grammar.specs.Meaning.{takes_words}
 use Rattle.latex2mathml_tex_grammar.specs.Refusal.{UnknownColumn, Refusal}
-use Rattle.latex2mathml_tex_grammar.specs.Scanning.{Name, ColumnList, Number, ColorName, Spot, BeforeArgument, InArgument, BeforeGap, InGap, BeforeWidth, InWidth, BeforeBrace, BeforePosition, InPosition, BehindPosition, BeforeStar, BehindStar, BeforeLength, BeforeLengthInBraces, InLength, BehindSign, InNumber, InDecimals, BehindLetter, BehindLength, AtBracket, AtBrace, AtUnit, BeforeRow, Deed, Passes, Adds, Ends, Leaves, Misses, Refuses, deed, done, is_spacing, is_line, may_end, found_at_end, with_character, Found, Given, Missing, scan, behind_found, past, past_break}
-use Rattle.latex2mathml_tex_grammar.specs.Spacing.{Standing, standing_behind, takes_words, AreAlike, both_end, both_stop, same_piece, space_before, space_behind}
+use Rattle.latex2mathml_tex_grammar.specs.Scanning.{Name, ColumnList, Number, ColorName, Spot, BeforeArgument, InArgument, BeforeGap, InGap, BeforeBrace, BeforePosition, InPosition, BehindPosition, BeforeStar, BehindStar, BeforeLength, BeforeLengthInBraces, InLength, BehindSign, InNumber, InDecimals, BehindLetter, BehindLength, AtBracket, AtBrace, AtUnit, BeforeRow, Deed, Passes, Adds, Ends, Leaves, Misses, Refuses, deed, done, is_line, may_end, found_at_end, with_character, Found, Given, Missing, scan, behind_found, past, past_break}
+use Rattle.latex2mathml_tex_grammar.specs.Spacing.{Standing, standing_behind, AreAlike, both_end, both_stop, same_piece, space_before, space_behind}
 use Rattle.latex2mathml_tex_grammar.specs.Units.{Piece, Space, Open, Close, Command, Character, Unit, Units, Next}
 use Rattle.latex2mathml_tex_grammar.proofs.{OneList.is_byte, Plain.TakesNone, Plain.takes_none, Plain.open_plain, Plain.close_plain, Plain.is_named}
 use Rattle.latex2mathml_tex_grammar.proofs.Spaces.{IsCalm, IsPlain, behind_plain, character_plain}
@@ -29,9 +29,7 @@ no_dollar_taken (InArgument ColumnList) = refl
 no_dollar_taken (InArgument Number) = refl
 no_dollar_taken (InArgument ColorName) = refl
 no_dollar_taken BeforeGap = refl
-no_dollar_taken InGap = refl
-no_dollar_taken BeforeWidth = refl
-no_dollar_taken InWidth = refl
+no_dollar_taken (InGap n) = refl
 no_dollar_taken BeforeBrace = refl
 no_dollar_taken BeforePosition = refl
 no_dollar_taken InPosition = refl
@@ -57,47 +55,6 @@ character_taken spot c h = elim (cases_Bool (c == byte "$")) [
 ]
 
 -- nor a command that takes words
-
-spaces_take_none : (meaning : Option Meaning) → is_spacing meaning ≡ true → takes_words meaning ≡ false
-spaces_take_none (Some (Spacing width)) h = refl
-spaces_take_none None h = cc
-spaces_take_none (Some (Shows s)) h = cc
-spaces_take_none (Some (FunctionName limits name)) h = cc
-spaces_take_none (Some Dots) h = cc
-spaces_take_none (Some (Styled alphabet)) h = cc
-spaces_take_none (Some (TakesWordsIn alphabet)) h = cc
-spaces_take_none (Some (Fraction rule own)) h = cc
-spaces_take_none (Some Root) h = cc
-spaces_take_none (Some (Accent side mark width)) h = cc
-spaces_take_none (Some (Brace side mark)) h = cc
-spaces_take_none (Some (Stack side)) h = cc
-spaces_take_none (Some StackedRelation) h = cc
-spaces_take_none (Some OperatorName) h = cc
-spaces_take_none (Some Negation) h = cc
-spaces_take_none (Some Slash) h = cc
-spaces_take_none (Some (Sized size class)) h = cc
-spaces_take_none (Some Left) h = cc
-spaces_take_none (Some Middle) h = cc
-spaces_take_none (Some Right) h = cc
-spaces_take_none (Some Limits) h = cc
-spaces_take_none (Some NoLimits) h = cc
-spaces_take_none (Some (Classed class)) h = cc
-spaces_take_none (Some (Changes change)) h = cc
-spaces_take_none (Some BeginTable) h = cc
-spaces_take_none (Some EndTable) h = cc
-spaces_take_none (Some LineBreak) h = cc
-spaces_take_none (Some Substack) h = cc
-spaces_take_none (Some Skip) h = cc
-spaces_take_none (Some SkipInBraces) h = cc
-spaces_take_none (Some (Boxed box)) h = cc
-spaces_take_none (Some Smash) h = cc
-spaces_take_none (Some ContinuedFraction) h = cc
-spaces_take_none (Some GeneralFraction) h = cc
-spaces_take_none (Some Raise) h = cc
-spaces_take_none (Some InColor) h = cc
-spaces_take_none (Some Highlight) h = cc
-spaces_take_none (Some Rectangle) h = cc
-spaces_take_none (Some (Arrow sign_character)) h = cc
 
 hline_plain : TakesNone (codes "hline")
 unfolding meaning_of command_entries commands_up_to_l commands_from_m
@@ -138,8 +95,12 @@ taken_if : (b : Bool) (x y : Deed) → takes y ≡ false → takes (if b then x 
 taken_if true x y none h = refl
 taken_if false x y none h = cc
 
+taken_unless : (b : Bool) (x y : Deed) → takes x ≡ false → takes (if b then x else y) ≡ true → b ≡ false
+taken_unless true x y none h = cc
+taken_unless false x y none h = refl
+
 command_taken : (spot : Spot) (name : List ℕ) → takes (deed spot (Command name)) ≡ true → TakesNone name
-command_taken InGap name h = spaces_take_none (meaning_of name) (taken_if (is_spacing (meaning_of name)) (Passes InGap) (Refuses UnknownColumn) refl h)
+command_taken (InGap n) name h = taken_unless (takes_words (meaning_of name)) (Refuses UnknownColumn) (Passes (InGap n)) refl h
 command_taken BeforeRow name h = line_plain name (taken_if (is_line name) (Passes BeforeRow) Leaves refl h)
 command_taken (BeforeArgument a) name h = cc
 command_taken (InArgument Name) name h = cc
@@ -147,8 +108,6 @@ command_taken (InArgument ColumnList) name h = cc
 command_taken (InArgument Number) name h = cc
 command_taken (InArgument ColorName) name h = cc
 command_taken BeforeGap name h = cc
-command_taken BeforeWidth name h = cc
-command_taken InWidth name h = cc
 command_taken BeforeBrace name h = cc
 command_taken BeforePosition name h = cc
 command_taken InPosition name h = cc

@@ -1,6 +1,6 @@
 -- Atoms, and what each is to those beside it: the space between them, prefix signs, words of upright letters.
 use Rattle.std.specs.Prelude.{Bool, true, false, Option, Some, None, if◌then◌else◌}
-use Rattle.latex2mathml_elements.specs.{Attributes.Prefix, Attributes.Space, Attributes.NoSpace, Element.Element, Element.Mo, Element.token}
+use Rattle.latex2mathml_elements.specs.{Attributes.Prefix, Attributes.Infix, Attributes.Space, Attributes.NoSpace, Element.Element, Element.Mo, Element.token}
 use Rattle.latex2mathml_tex_grammar.specs.Symbols.{Class, Ordinary, Operator, Binary, Relation, Opening, Closing, Punctuation, Inner, Style, InScript}
 
 -- what an atom is to its neighbours
@@ -88,6 +88,11 @@ abbrev pub as_prefix : Element → Element
 as_prefix (token t a text) = token t (record a { form = Some Prefix }) text
 as_prefix x = x
 
+-- A sign between two operands. As the first element of a row, a browser would take it for a prefix.
+abbrev pub as_infix : Bool → Element → Element
+as_infix true (token t a text) = token t (record a { form = Some Infix }) text
+as_infix first x = x
+
 -- a sign without space around it
 abbrev pub without_space : Element → Element
 without_space (token t a text) = token t (record a { space = Some NoSpace }) text
@@ -105,11 +110,12 @@ sign_there style Relation x = tight style x
 sign_there style Punctuation x = tight style x
 sign_there style class x = x
 
--- the element of an atom there
-abbrev pub element_there : Style → Before → Kind → Element → Element
-element_there style before (SignOf class) x = sign_there style (class_there before class) x
-element_there style before PlusOrMinus x = if begins_operand before then as_prefix x else tight style x
-element_there style before kind x = x
+-- the element of an atom there, which may be the first of its row
+abbrev pub element_there : Style → Bool → Before → Kind → Element → Element
+element_there style first before (SignOf class) x = sign_there style (class_there before class) x
+element_there style first before PlusOrMinus x =
+    if begins_operand before then as_prefix x else tight style (as_infix first x)
+element_there style first before kind x = x
 
 -- the space around a sign that is all of an atom of this class: where the class has none, or in scripts, there is none
 abbrev pub space_as : Style → Class → Option Space → Option Space

@@ -1,5 +1,5 @@
 -- The environments: each is a table. A name is its bytes.
-use Rattle.std.specs.Prelude.{ℕ, ◌==◌, Bool, true, false, List, [], ◌∷◌, Option, Some, None, codes, if◌then◌else◌}
+use Rattle.std.specs.Prelude.{ℕ, ◌==◌, List, [], ◌∷◌, Option, Some, None, codes, if◌then◌else◌}
 use Rattle.std.specs.{Str.byte, Str.bytes_eq}
 use Rattle.latex2mathml_elements.specs.Columns.{Column, Centered, LeftAligned, RightAligned, SecondOfPair, Dense, Columns, Alike, InPairs, Listed}
 use Rattle.latex2mathml_tex_grammar.specs.Atoms.{Before, After, Nothing}
@@ -19,19 +19,26 @@ abbrev pub columns_of : List ℕ → List Column
 columns_of [] = []
 columns_of (c ∷ cs) = column_of c ∷ columns_of cs
 
+-- what may stand in brackets behind the name of an environment
+pub data Bracket : Type 0 where
+  NoBracket : Bracket
+  -- a letter that says how it stands in its line
+  Position : Bracket
+  -- a letter that says where cells stand in their columns
+  Alignment : Bracket
+
 pub record Environment : Type 0 where
   -- the delimiters around it, where it has any; an empty text is none
   pub delimiters : Option (List ℕ × List ℕ)
   pub columns : Columns
   -- the style of its cells
   pub style : Style
-  -- whether a letter in brackets may say how it stands in its line
-  pub may_have_position : Bool
+  pub bracket : Bracket
   -- what stands in braces behind its name
   pub argument : Option Argument
 
 abbrev pub cells_in : Columns → Style → Environment
-cells_in columns style = record { delimiters = None; columns = columns; style = style; may_have_position = false; argument = None }
+cells_in columns style = record { delimiters = None; columns = columns; style = style; bracket = NoBracket; argument = None }
 
 abbrev pub matrix : Environment
 matrix = cells_in (Alike Centered) InText
@@ -46,7 +53,11 @@ abbrev pub pairs : Environment
 pairs = cells_in InPairs InDisplay
 
 abbrev pub placed : Environment → Environment
-placed e = record e { may_have_position = true }
+placed e = record e { bracket = Position }
+
+-- a matrix whose cells are in the middle, unless a letter says otherwise
+abbrev pub starred : Environment → Environment
+starred e = record e { bracket = Alignment }
 
 abbrev pub with_argument : Argument → Environment → Environment
 with_argument argument e = record e { argument = Some argument }
@@ -58,7 +69,9 @@ around_relation = cells_in (Listed (RightAligned ∷ Centered ∷ LeftAligned �
 unfoldable pub environments : List (List ℕ × Environment)
 environments =
     (codes "Bmatrix", between (codes "{") (codes "}") matrix) ∷
+    (codes "Bmatrix*", between (codes "{") (codes "}") (starred matrix)) ∷
     (codes "Vmatrix", between (0xE2 ∷ 0x80 ∷ 0x96 ∷ []) (0xE2 ∷ 0x80 ∷ 0x96 ∷ []) matrix) ∷  -- ‖
+    (codes "Vmatrix*", between (0xE2 ∷ 0x80 ∷ 0x96 ∷ []) (0xE2 ∷ 0x80 ∷ 0x96 ∷ []) (starred matrix)) ∷  -- ‖
     (codes "align", pairs) ∷
     (codes "align*", pairs) ∷
     (codes "alignat", with_argument Number pairs) ∷
@@ -67,6 +80,7 @@ environments =
     (codes "alignedat", with_argument Number (placed pairs)) ∷
     (codes "array", with_argument ColumnList (placed matrix)) ∷
     (codes "bmatrix", between (codes "[") (codes "]") matrix) ∷
+    (codes "bmatrix*", between (codes "[") (codes "]") (starred matrix)) ∷
     (codes "cases", between (codes "{") [] (cells_in (Alike LeftAligned) InText)) ∷
     (codes "dcases", between (codes "{") [] (cells_in (Alike LeftAligned) InDisplay)) ∷
     (codes "displaymath", lines) ∷
@@ -82,15 +96,18 @@ environments =
     (codes "gathered", placed lines) ∷
     (codes "math", matrix) ∷
     (codes "matrix", matrix) ∷
+    (codes "matrix*", starred matrix) ∷
     (codes "multline", cells_in (Alike LeftAligned) InDisplay) ∷
     (codes "multline*", cells_in (Alike LeftAligned) InDisplay) ∷
     (codes "pmatrix", between (codes "(") (codes ")") matrix) ∷
+    (codes "pmatrix*", between (codes "(") (codes ")") (starred matrix)) ∷
     (codes "rcases", between [] (codes "}") (cells_in (Alike LeftAligned) InText)) ∷
     (codes "smallmatrix", cells_in (Alike Dense) InScript) ∷
     (codes "split", pairs) ∷
     (codes "subarray", with_argument ColumnList (cells_in (Alike Dense) InScript)) ∷
     (codes "substack", cells_in (Alike Dense) InScript) ∷
     (codes "vmatrix", between (codes "|") (codes "|") matrix) ∷
+    (codes "vmatrix*", between (codes "|") (codes "|") (starred matrix)) ∷
     []
 
 -- the entry with this name, where there is one

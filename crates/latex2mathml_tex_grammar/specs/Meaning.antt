@@ -1,5 +1,5 @@
 -- What the name of a command means.
-use Rattle.std.specs.Prelude.{ℕ, ℤ, List, ◌∷◌, ◌++◌, Option}
+use Rattle.std.specs.Prelude.{ℕ, ℤ, Bool, true, false, List, ◌∷◌, ◌++◌, Option, Some}
 use Rattle.latex2mathml_elements.specs.Colors.{Color}
 use Rattle.latex2mathml_elements.specs.Attributes.{Side, Stretch, Size}
 use Rattle.latex2mathml_tex_grammar.specs.Symbols.{Class, Style, Alphabet, Symbol}
@@ -124,6 +124,11 @@ pub data Meaning : Type 0 where
   LineBreak : Meaning
   -- rows in braces
   Substack : Meaning
+
+-- whether words stand behind a command
+abbrev pub takes_words : Option Meaning → Bool
+takes_words (Some (Words alphabet)) = true
+takes_words meaning = false
 
 -- two words with a thin space between them, U+2009
 abbrev pub words_apart : List ℕ → List ℕ → List ℕ

@@ -51,9 +51,13 @@ abbrev pub join : Element → List Element → List Element
 join (token t a letter) (token u b word ∷ xs) = token u plain (word ++ letter) ∷ xs
 join x xs = x ∷ xs
 
+abbrev pub is_empty : List Element → Bool
+is_empty [] = true
+is_empty (x ∷ xs) = false
+
 abbrev pub put : Bool → Style → Before → Atom → List Element → List Element
 put true style before x xs = join x.element xs
-put false style before x xs = element_there style before x.kind x.element ∷ parted (is_parted before x.kind) xs
+put false style before x xs = element_there style (is_empty xs) before x.kind x.element ∷ parted (is_parted before x.kind) xs
 
 -- the class of one atom as a base: a binary operator and a relation stay what they are
 abbrev pub class_of_kind : Kind → Class

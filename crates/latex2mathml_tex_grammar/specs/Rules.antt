@@ -2,9 +2,9 @@
 -- an atom or a refusal.
 use Rattle.std.specs.Prelude.{ℕ, zero, ℤ, pos, ◌==◌, ◌||◌, Bool, nat_le, length, true, false, List, [], ◌∷◌, ◌++◌, Option, Some, None, if◌then◌else◌}
 use Rattle.std.specs.{Char.is_ascii_alphabetic, Char.is_ascii_digit, Str.byte, Str.bytes_eq}
-use Rattle.latex2mathml_elements.specs.{Attributes.Above, Columns.Columns, Columns.Dense, Columns.Alike, Columns.Listed, Element.Element}
+use Rattle.latex2mathml_elements.specs.{Attributes.Above, Columns.Columns, Columns.Centered, Columns.LeftAligned, Columns.RightAligned, Columns.Dense, Columns.Alike, Columns.Listed, Element.Element}
 use Rattle.latex2mathml_tex_grammar.specs.{Atoms.Plain, Atoms.atom, Commands.meaning_of, Commands.symbol_of, Delimiters.delimiter_of, Delimiters.negated_of, Dots.centered_dots, Dots.centers_dots, Dots.low_dots, Rows.Row, Rows.Operand, Rows.as_base, Rows.operand_of, Rows.row_element}
-use Rattle.latex2mathml_tex_grammar.specs.Environments.{Environment, columns_of, environment_of, pairs}
+use Rattle.latex2mathml_tex_grammar.specs.Environments.{Environment, Bracket, NoBracket, Position, Alignment, columns_of, environment_of, pairs}
 use Rattle.latex2mathml_tex_grammar.specs.Makes.{Core, core, letter, upright_letter, number, relation, symbol, function_name, spacing, group, classed, no_letters, operator_name, accent, brace, stack, fraction, square_root, root, between_delimiters, sized, struck, blank, boxed_atom, bar, arrow, Outline, outlined_fraction}
 use Rattle.latex2mathml_tex_grammar.specs.Meaning.{Meaning, Shows, FunctionName, Dots, Spacing, Styled, Words as TakesWordsIn, Fraction, Root, Accent, Brace, Stack, StackedRelation, OperatorName, Negation, Slash, Sized, Left, Middle, Right, Limits, NoLimits, Classed, Changes, Beside, ByStyle, FractionRule, BeginTable, EndTable, LineBreak, Substack, Skip, SkipInBraces, Box, Smashed, WithoutHeight, WithoutDepth, Boxed, Smash, Raise, InColor, Highlight, Rectangle, Arrow, Raised, Colored, OnColor, ContinuedFraction, GeneralFraction, Bar}
 use Rattle.latex2mathml_tex_grammar.specs.Refusal.{UnknownCommand, MissingArgument, MissingDelimiter, ChangeAsArgument, UnopenedBrace, RightWithoutLeft, MiddleWithoutLeft, LimitsWithoutOperator, NothingToNegate, OutsideTable, MisplacedCharacter, Refusal, refusal_at, UnknownEnvironment, EndWithoutBegin, OtherName, TooManyColumns, LengthTooLarge, UnknownColor}
@@ -193,13 +193,25 @@ argument_rule place c name e (Some Number) = takes_found (BeforeArgument Number)
 argument_rule place c name e (Some Name) = rows_rule place c name e e.columns
 argument_rule place c name e (Some ColorName) = rows_rule place c name e e.columns
 
-abbrev pub position_rule : Bool → Rule → Rule
-position_rule true rest = passes_over BeforePosition rest
-position_rule false rest = rest
+-- this character in brackets
+abbrev pub in_brackets : ℕ → List (Piece → Option (List ℕ))
+in_brackets c = a_character (byte "[") ∷ a_character c ∷ a_character (byte "]") ∷ []
+
+-- columns in which a letter in brackets says where cells stand
+abbrev pub alignment_rule : ℕ → Context → List ℕ → Environment → Rule
+alignment_rule place c name e =
+    takes_if (in_brackets (byte "l")) (λ letter. rows_rule place c name e (Alike LeftAligned))
+    (takes_if (in_brackets (byte "c")) (λ letter. rows_rule place c name e (Alike Centered))
+    (takes_if (in_brackets (byte "r")) (λ letter. rows_rule place c name e (Alike RightAligned)) (rows_rule place c name e e.columns)))
+
+abbrev pub bracket_rule : ℕ → Context → List ℕ → Environment → Bracket → Rule
+bracket_rule place c name e NoBracket = argument_rule place c name e e.argument
+bracket_rule place c name e Position = passes_over BeforePosition (argument_rule place c name e e.argument)
+bracket_rule place c name e Alignment = alignment_rule place c name e
 
 abbrev pub environment_rule : ℕ → Context → List ℕ → Option Environment → Rule
 environment_rule place c name None = refuses (refusal_at (UnknownEnvironment name) place)
-environment_rule place c name (Some e) = position_rule e.may_have_position (argument_rule place c name e e.argument)
+environment_rule place c name (Some e) = bracket_rule place c name e e.bracket
 
 -- rows in braces, each of one cell, as small as a script
 abbrev pub a_substack : ℕ → Context → Rule
@@ -248,10 +260,6 @@ an_arrow place c sign_character =
 -- an operand in a box, where a sign has no space
 abbrev pub a_box : ℕ → Context → Box → Rule
 a_box place c box = of_one place c (λ x. core (boxed_atom box (as_base c.style Ordinary x)))
-
--- this character in brackets
-abbrev pub in_brackets : ℕ → List (Piece → Option (List ℕ))
-in_brackets c = a_character (byte "[") ∷ a_character c ∷ a_character (byte "]") ∷ []
 
 -- what has no height and no depth: `[t]` says that it is the height alone, and `[b]` the depth
 abbrev pub a_smash : ℕ → Context → Rule

@@ -1,8 +1,8 @@
 -- What is taken unit by unit: the name of an environment, its columns, a length. Each unit has a spot, which says what the
 -- unit does there. White space is nothing.
-use Rattle.std.specs.Prelude.{ℕ, ◌+◌, ◌==◌, ◌&&◌, ◌||◌, Bool, true, false, nat_lt, List, [], ◌++◌, Option, Some, if◌then◌else◌, codes}
+use Rattle.std.specs.Prelude.{ℕ, zero, suc, ◌+◌, ◌==◌, ◌&&◌, ◌||◌, Bool, true, false, nat_lt, List, [], ◌++◌, if◌then◌else◌, codes}
 use Rattle.std.specs.{Char.encode_utf8, Char.is_ascii_alphanumeric, Char.is_ascii_digit, Str.byte, Str.bytes_eq}
-use Rattle.latex2mathml_tex_grammar.specs.{Commands.meaning_of, Meaning.Meaning, Meaning.Spacing}
+use Rattle.latex2mathml_tex_grammar.specs.{Commands.meaning_of, Meaning.takes_words}
 use Rattle.latex2mathml_tex_grammar.specs.Refusal.{Kind, MissingArgument, MissingLength, MissingName, UnknownColumn, Refusal, refusal_at}
 use Rattle.latex2mathml_tex_grammar.specs.Units.{Piece, Space, Open, Close, Command, Character, Unit, Units, Next, End, Stop}
 
@@ -28,12 +28,9 @@ pub data Spot : Type 0 where
   -- before the brace of an argument, and behind it
   BeforeArgument : Argument → Spot
   InArgument : Argument → Spot
-  -- in columns: before the brace of a space between two, and behind it
+  -- in columns: before the brace of what stands between two, or of the width of one, and within it, in so many braces
   BeforeGap : Spot
-  InGap : Spot
-  -- .. and of the width of one
-  BeforeWidth : Spot
-  InWidth : Spot
+  InGap : ℕ → Spot
   -- before a brace that is all
   BeforeBrace : Spot
   -- before a letter in brackets, which says how a table stands in its line
@@ -95,7 +92,7 @@ abbrev pub column_deed : ℕ → Deed
 column_deed c =
     if c == byte "l" || c == byte "c" || c == byte "r" then Adds c (InArgument ColumnList)
     else if c == byte "|" then Passes (InArgument ColumnList)
-    else if c == byte "p" then Adds (byte "l") BeforeWidth
+    else if c == byte "p" || c == byte "m" || c == byte "b" then Adds (byte "l") BeforeGap
     else if c == byte "@" then Passes BeforeGap
     else Refuses UnknownColumn
 
@@ -119,20 +116,22 @@ argument_deed a Open = other_deed a
 argument_deed a Space = other_deed a
 argument_deed a (Command name) = other_deed a
 
--- between columns stand spaces alone
-abbrev pub is_spacing : Option Meaning → Bool
-is_spacing (Some (Spacing width)) = true
-is_spacing meaning = false
+-- so many braces may stand in one another
+abbrev pub most_braces : ℕ
+most_braces = 100
 
-abbrev pub gap_deed : Piece → Deed
-gap_deed Close = Passes (InArgument ColumnList)
-gap_deed (Command name) = if is_spacing (meaning_of name) then Passes InGap else Refuses UnknownColumn
-gap_deed piece = Refuses UnknownColumn
+-- a brace ends the innermost one, or else what stands in braces among columns
+abbrev pub behind_brace : ℕ → Spot
+behind_brace zero = InArgument ColumnList
+behind_brace (suc n) = InGap n
 
-abbrev pub width_deed : Piece → Deed
-width_deed Close = Passes (InArgument ColumnList)
-width_deed (Character c) = if c == byte "$" then Refuses UnknownColumn else Passes InWidth
-width_deed piece = Refuses UnknownColumn
+-- what stands in braces among columns says nothing; words and formulas in words cannot stand there
+abbrev pub gap_deed : ℕ → Piece → Deed
+gap_deed n Open = if nat_lt n most_braces then Passes (InGap (n + 1)) else Refuses UnknownColumn
+gap_deed n Close = Passes (behind_brace n)
+gap_deed n (Command name) = if takes_words (meaning_of name) then Refuses UnknownColumn else Passes (InGap n)
+gap_deed n (Character c) = if c == byte "$" then Refuses UnknownColumn else Passes (InGap n)
+gap_deed n Space = Passes (InGap n)
 
 abbrev pub brace_deed : Deed → Deed → Piece → Deed
 brace_deed opened otherwise Open = opened
@@ -235,10 +234,8 @@ row_deed piece = Leaves
 abbrev pub deed_there : Spot → Piece → Deed
 deed_there (BeforeArgument a) piece = brace_deed (Passes (InArgument a)) Misses piece
 deed_there (InArgument a) piece = argument_deed a piece
-deed_there BeforeGap piece = brace_deed (Passes InGap) (Refuses UnknownColumn) piece
-deed_there InGap piece = gap_deed piece
-deed_there BeforeWidth piece = brace_deed (Passes InWidth) (Refuses UnknownColumn) piece
-deed_there InWidth piece = width_deed piece
+deed_there BeforeGap piece = brace_deed (Passes (InGap 0)) (Refuses UnknownColumn) piece
+deed_there (InGap n) piece = gap_deed n piece
 deed_there BeforeBrace piece = brace_deed Ends Misses piece
 deed_there BeforeStar piece = star_deed piece
 deed_there BehindStar piece = Leaves

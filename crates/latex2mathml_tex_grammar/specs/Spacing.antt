@@ -1,8 +1,7 @@
 -- White space between the units of a formula is nothing: which units are alike but for it. Within words it counts.
-use Rattle.std.specs.Prelude.{◌≡◌, ◌==◌, ℕ, Bool, true, false, List, Option, Some, if◌then◌else◌}
+use Rattle.std.specs.Prelude.{◌≡◌, ◌==◌, ℕ, Bool, true, false, List, if◌then◌else◌}
 use Rattle.std.specs.Str.{byte}
-use Rattle.latex2mathml_tex_grammar.specs.{Commands.meaning_of, Reading.Outcome, Reading.Read, Reading.Refused}
-use Rattle.latex2mathml_tex_grammar.specs.Meaning.{Meaning, Words as TakesWordsIn}
+use Rattle.latex2mathml_tex_grammar.specs.{Commands.meaning_of, Meaning.takes_words, Reading.Outcome, Reading.Read, Reading.Refused}
 use Rattle.latex2mathml_tex_grammar.specs.Refusal.{Refusal}
 use Rattle.latex2mathml_tex_grammar.specs.Units.{Piece, Space, Open, Close, Command, Character, Unit, Units, Next, End, Stop, HasUnits}
 
@@ -16,10 +15,6 @@ pub data Standing : Type 0 where
   InWords : Standing → Standing
   -- in a formula between dollar signs, which is a part of words
   BetweenDollars : Standing → Standing
-
-abbrev pub takes_words : Option Meaning → Bool
-takes_words (Some (TakesWordsIn alphabet)) = true
-takes_words meaning = false
 
 -- one unit is all of the words before which it stands
 abbrev pub behind_unit : Standing → Standing

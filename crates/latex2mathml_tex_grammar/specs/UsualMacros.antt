@@ -17,6 +17,7 @@ usual_entries =
     (codes "Large", 0, codes "") ∷
     (codes "TeX", 0, codes "\\text{TeX}") ∷
     (codes "allowbreak", 0, codes "") ∷
+    (codes "bfseries", 0, codes "\\bf") ∷
     (codes "bmod", 0, codes "\\mathbin{\\operatorname{mod}}") ∷
     (codes "bra", 1, codes "\\langle #1|") ∷
     (codes "braket", 1, codes "\\langle #1\\rangle") ∷
@@ -30,6 +31,7 @@ usual_entries =
     (codes "dotsi", 0, codes "\\cdots") ∷
     (codes "dotsm", 0, codes "\\cdots") ∷
     (codes "dotso", 0, codes "\\ldots") ∷
+    (codes "em", 0, codes "\\it") ∷
     (codes "ensuremath", 1, codes "#1") ∷
     (codes "fbox", 1, codes "\\boxed{\\text{#1}}") ∷
     (codes "footnotesize", 0, codes "") ∷
@@ -38,14 +40,18 @@ usual_entries =
     (codes "iff", 0, codes "\\;\\Longleftrightarrow\\;") ∷
     (codes "impliedby", 0, codes "\\;\\Longleftarrow\\;") ∷
     (codes "implies", 0, codes "\\;\\Longrightarrow\\;") ∷
+    (codes "itshape", 0, codes "\\it") ∷
     (codes "ket", 1, codes "|#1\\rangle") ∷
     (codes "label", 1, codes "") ∷
     (codes "large", 0, codes "") ∷
     (codes "llap", 1, codes "\\mathllap{\\text{#1}}") ∷
+    (codes "mathchoice", 4, codes "#2") ∷
     (codes "mathstrut", 0, codes "\\vphantom{(}") ∷
+    (codes "mdseries", 0, codes "") ∷
     (codes "mod", 1, codes "\\quad\\operatorname{mod}\\;#1") ∷
     (codes "nobreak", 0, codes "") ∷
     (codes "nonumber", 0, codes "") ∷
+    (codes "normalfont", 0, codes "") ∷
     (codes "normalsize", 0, codes "") ∷
     (codes "notag", 0, codes "") ∷
     (codes "pmod", 1, codes "\\quad(\\operatorname{mod}\\;#1)") ∷
@@ -54,12 +60,18 @@ usual_entries =
     (codes "raisebox", 2, codes "\\raisemath{#1}{\\text{#2}}") ∷
     (codes "relax", 0, codes "") ∷
     (codes "rlap", 1, codes "\\mathrlap{\\text{#1}}") ∷
+    (codes "rmfamily", 0, codes "\\rm") ∷
     (codes "scriptsize", 0, codes "") ∷
+    (codes "scshape", 0, codes "") ∷
+    (codes "sffamily", 0, codes "\\sf") ∷
     (codes "sfrac", 2, codes "#1/#2") ∷
+    (codes "slshape", 0, codes "\\it") ∷
     (codes "small", 0, codes "") ∷
     (codes "strut", 0, codes "\\vphantom{(}") ∷
     (codes "tag", 1, codes "\\qquad\\text{(#1)}") ∷
     (codes "tiny", 0, codes "") ∷
+    (codes "ttfamily", 0, codes "\\tt") ∷
+    (codes "upshape", 0, codes "") ∷
     (codes "varDelta", 0, codes "\\mathit{\\Delta}") ∷
     (codes "varGamma", 0, codes "\\mathit{\\Gamma}") ∷
     (codes "varOmega", 0, codes "\\mathit{\\Omega}") ∷

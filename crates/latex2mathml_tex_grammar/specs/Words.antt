@@ -3,15 +3,16 @@ use Rattle.std.specs.Prelude.{ℕ, ◌==◌, ◌||◌, Bool, true, false, List, 
 use Rattle.std.specs.Str.{byte}
 use Rattle.latex2mathml_elements.specs.{Attributes.plain, Element.Element, Element.Mtext, Element.token}
 use Rattle.latex2mathml_tex_grammar.specs.{Alphabets.in_alphabet, Atoms.Atom, Atoms.Plain, Atoms.atom, Commands.meaning_of, Delimiters.entry_of_name, Dots.low_dots, Makes.symbol, Makes.text, Rows.row_element, Rows.single, TextCommands.text_commands}
-use Rattle.latex2mathml_tex_grammar.specs.Meaning.{Meaning, Shows, Dots, Spacing, Words as TakesWordsIn}
+use Rattle.latex2mathml_tex_grammar.specs.Meaning.{Meaning, Shows, Dots, Spacing, Words as TakesWordsIn, Changes, ToAlphabet}
 use Rattle.latex2mathml_tex_grammar.specs.Refusal.{Kind, CommandInWords, CharacterInWords, UnknownCommand}
 use Rattle.latex2mathml_tex_grammar.specs.Symbols.{Alphabet, Ordinary, InText}
 use Rattle.latex2mathml_tex_grammar.specs.Units.{Piece, Space, Open, Close, Command, Character}
 
--- a part of words: a text, or the element of a formula
+-- a part of words: a text, the element of a formula, or nothing
 pub data Word : Type 0 where
   Shown : List ℕ → Word
   Formula : Element → Word
+  Nothing : Word
 
 -- what a unit is in words
 pub data WordRule : Type 0 where
@@ -43,12 +44,13 @@ character_rule alphabet c =
     else if c == byte "_" || c == byte "^" || c == byte "&" || c == byte "#" then NoWord (CharacterInWords c)
     else IsWord (Shown (text (word_character alphabet c)))
 
--- what a command is in words, by its meaning
+-- what a command is in words, by its meaning. A change of the alphabet is nothing.
 abbrev pub meaning_rule : List ℕ → Option Meaning → WordRule
 meaning_rule name (Some (Spacing width)) = IsWord word_space
 meaning_rule name (Some (Shows sign)) = IsWord (Formula (single InText (symbol None sign).atom).element)
 meaning_rule name (Some Dots) = IsWord (Formula (single InText (symbol None low_dots).atom).element)
 meaning_rule name (Some (TakesWordsIn alphabet)) = TakesWords alphabet
+meaning_rule name (Some (Changes (ToAlphabet alphabet))) = IsWord Nothing
 meaning_rule name (Some meaning) = NoWord (CommandInWords name)
 meaning_rule name None = NoWord (UnknownCommand name)
 
@@ -81,6 +83,7 @@ with_text ends_in_text more xs = token Mtext plain more ∷ xs
 abbrev pub with_word : Words → Word → Words
 with_word ws (Shown more) = record { elements = with_text ws.ends_in_text more ws.elements; ends_in_text = true }
 with_word ws (Formula x) = record { elements = x ∷ ws.elements; ends_in_text = false }
+with_word ws Nothing = ws
 
 -- words as one element; no words are an empty text
 abbrev pub words_element : List Element → Element

@@ -1,4 +1,5 @@
 pub mod Files
+pub mod FirstLines
 pub mod Formulas
 pub mod Lines
 pub mod Reading

@@ -1,8 +1,27 @@
 -- What the program makes of formulas, where some macros hold. A text is its bytes here.
 use Rattle.std.specs.Prelude.{◌≡◌, ◌≢◌, ℕ, Bool, true, false, List, [], ◌∷◌, ◌++◌, IfSome, codes}
 use Rattle.latex2mathml_tex.specs.{ErrorTexts.error_text, Answers.IsAnswer, Answers.IsAnswerWithSource, Answers.IsRefusal, Answers.style_in, Errors.refusal_of, declared.error.TexError.TexError}
-use Rattle.latex2mathml_tex_grammar.specs.{Macros.Table, Symbols.Style}
-use Rattle.latex2mathml_tex_program.specs.declared.request.Format.{Format}
+use Rattle.latex2mathml_tex_grammar.specs.{Macros.Table, Refusal.Refusal, Symbols.Style}
+use Rattle.latex2mathml_tokens.specs.declared.DisplayStyle.{DisplayStyle}
+use Rattle.latex2mathml_tokens.specs.declared.DisplayStyle.TheVariants.{Block, Inline}
+use Rattle.latex2mathml_tex_program.specs.declared.request.{Display.Display, Format.Format}
+use Rattle.latex2mathml_tex_program.specs.declared.request.Display.TheVariants.{All, Each}
+
+-- the text holds this formula, which stands so
+pub data HoldsFormula (text : List ℕ) : Display → DisplayStyle → List ℕ → Type 0 where
+  as_all : {style : DisplayStyle} → HoldsFormula text (All style) style text
+  -- the first line says how
+  in_line : (tex : List ℕ) → text ≡ codes "inline\n" ++ tex → HoldsFormula text Each Inline tex
+  in_block : (tex : List ℕ) → text ≡ codes "block\n" ++ tex → HoldsFormula text Each Block tex
+  -- .. or does not
+  unsaid : ((tex : List ℕ) → text ≢ codes "inline\n" ++ tex)
+      → ((tex : List ℕ) → text ≢ codes "block\n" ++ tex)
+      → HoldsFormula text Each Inline text
+
+-- what is so of the formula that a text holds, in the style in which it is read
+abbrev pub OfFormula : (Table → List ℕ → Style → Type 0) → Table → List ℕ → Display → Type 0
+OfFormula P macros text display =
+    (style : DisplayStyle) × (tex : List ℕ) × HoldsFormula text display style tex × P macros tex (style_in style)
 
 -- the markup of a formula, with an annotation or without
 abbrev pub IsAnswerWith : Bool → Table → List ℕ → Style → List ℕ → Type 0
@@ -11,23 +30,28 @@ IsAnswerWith false = IsAnswer
 
 -- .. as it is asked for
 abbrev pub IsMarkup : Table → List ℕ → Format → List ℕ → Type 0
-IsMarkup macros tex format = IsAnswerWith format.is_annotated macros tex (style_in format.display)
+IsMarkup macros text format markup =
+    OfFormula (λ m tex style. IsAnswerWith format.is_annotated m tex style markup) macros text format.display
+
+-- why it is refused
+abbrev pub IsNoMarkup : Table → List ℕ → Format → Refusal → Type 0
+IsNoMarkup macros text format refusal = OfFormula (λ m tex style. IsRefusal m tex style refusal) macros text format.display
 
 -- .. as a line
 abbrev pub IsLine : Table → List ℕ → Format → List ℕ → Type 0
-IsLine macros tex format line = (markup : List ℕ) × IsMarkup macros tex format markup × (line ≡ markup ++ codes "\n")
+IsLine macros text format line = (markup : List ℕ) × IsMarkup macros text format markup × (line ≡ markup ++ codes "\n")
 
 -- the reply to one of many formulas; a NUL ends it
-pub data IsReply (macros : Table) (tex : List ℕ) (format : Format) (reply : List ℕ) : Type 0 where
+pub data IsReply (macros : Table) (text : List ℕ) (format : Format) (reply : List ℕ) : Type 0 where
   answered : (markup : List ℕ)
-      → IsMarkup macros tex format markup
+      → IsMarkup macros text format markup
       → reply ≡ codes "mathml\n" ++ (markup ++ 0 ∷ [])
-      → IsReply macros tex format reply
+      → IsReply macros text format reply
   -- by an error that is out of memory, or reports why the formula is refused
   refused : (error : TexError)
-      → IfSome (refusal_of error) (IsRefusal macros tex (style_in format.display))
+      → IfSome (refusal_of error) (IsNoMarkup macros text format)
       → reply ≡ codes "error\n" ++ (error_text error ++ 0 ∷ [])
-      → IsReply macros tex format reply
+      → IsReply macros text format reply
 
 -- the replies to formulas, in turn
 pub data AreReplies (macros : Table) : List (List ℕ) → Format → List ℕ → Type 0 where

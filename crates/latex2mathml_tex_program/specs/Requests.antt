@@ -7,13 +7,13 @@ use Rattle.clap.specs.declared.error.kind.ErrorKind.TheVariants.{DisplayHelp, Di
 use Rattle.clap.specs.declared.builder.action.ArgAction.TheVariants.{SetTrue}
 use Rattle.clap.specs.declared.builder.value_parser.ValueParser.{ValueParser}
 use Rattle.clap.specs.declared.builder.value_parser.ValueParser.TheVariants.{Names}
-use Rattle.latex2mathml_tokens.specs.declared.DisplayStyle.{DisplayStyle}
 use Rattle.latex2mathml_tokens.specs.declared.DisplayStyle.TheVariants.{Block, Inline}
-use Rattle.latex2mathml_tex_program.specs.declared.request.Request.{Request}
+use Rattle.latex2mathml_tex_program.specs.declared.request.{Display.Display, Request.Request}
+use Rattle.latex2mathml_tex_program.specs.declared.request.Display.TheVariants.{All, Each}
 
--- the parser takes one of two words
+-- the parser takes one of three words
 abbrev pub IsChoice : ValueParser → Type 0
-IsChoice (Names names) = map (λ name. name.now) names.now ≡ codes "inline" ∷ codes "block" ∷ []
+IsChoice (Names names) = map (λ name. name.now) names.now ≡ codes "inline" ∷ codes "block" ∷ codes "each" ∷ []
 IsChoice parser = ⊥
 
 -- `--display DISPLAY`, which is `inline` where it is not given
@@ -45,10 +45,11 @@ program choice =
     with_rule (with_rule (with_rule (with_rule (on_top (λ s. record s { has_version = true }) (new_app (codes "tex2mathml")))
     (display_rule choice)) (flag_rule (codes "null"))) definitions_rule) (flag_rule (codes "annotation"))
 
--- the value of `--display` asks for this style. It is one of two, as the parse has checked.
-abbrev pub IsDisplay : Option Text → DisplayStyle → Type 0
-IsDisplay value Block = value ≡ Some (codes "block")
-IsDisplay value Inline = value ≢ Some (codes "block")
+-- the value of `--display` asks for this. It is one of three, as the parse has checked.
+abbrev pub IsDisplay : Option Text → Display → Type 0
+IsDisplay value (All Block) = value ≡ Some (codes "block")
+IsDisplay value (All Inline) = (value ≢ Some (codes "block")) × (value ≢ Some (codes "each"))
+IsDisplay value Each = value ≡ Some (codes "each")
 
 -- the value of an option that takes none says whether it is given
 abbrev pub IsGiven : Option Text → Bool → Type 0

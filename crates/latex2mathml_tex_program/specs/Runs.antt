@@ -5,10 +5,10 @@ use Rattle.std.specs.Io.KnownBytes.{Keeps}
 use Rattle.latex2mathml.specs.{Inputs.IsReadFault, Inputs.IsWholeText}
 use Rattle.latex2mathml.specs.Streams.{CanGoOn, Gives, IsStopped, StreamState, Takes}
 use Rattle.latex2mathml.specs.declared.error.FileFault.{FileFault}
-use Rattle.latex2mathml_tex.specs.{Answers.IsRefusal, Answers.style_in, Errors.refusal_of}
+use Rattle.latex2mathml_tex.specs.Errors.{refusal_of}
 use Rattle.latex2mathml_tex_grammar.specs.{Macros.Table, Refusal.Refusal}
 use Rattle.latex2mathml_tex_program.specs.Definitions.{Hold, IsRefusedFault, IsTextAsked, IsUnreadFault}
-use Rattle.latex2mathml_tex_program.specs.Replies.{AreFormulas, AreReplies, IsLine}
+use Rattle.latex2mathml_tex_program.specs.Replies.{AreFormulas, AreReplies, IsLine, IsNoMarkup}
 use Rattle.latex2mathml_tex_program.specs.declared.{fault.Fault.Fault, request.Format.Format, request.Request.Request}
 use Rattle.latex2mathml_tex_program.specs.declared.fault.Fault.TheVariants.{File, Refused}
 
@@ -23,7 +23,7 @@ IsMade macros request text product = IsMadeOf macros request.is_many text reques
 
 -- why nothing is made of a text. Where it holds many formulas, a refusal of one of them is a reply.
 abbrev pub IsNotMade : Table → Request → List ℕ → Refusal → Type 0
-IsNotMade macros request text refusal = (request.is_many ≡ false) × IsRefusal macros text (style_in request.format.display) refusal
+IsNotMade macros request text refusal = (request.is_many ≡ false) × IsNoMarkup macros text request.format refusal
 
 -- what putting out what is made of a text may come to where these macros hold, by what is known of the output before and then
 abbrev pub IsPut : Table → List ℕ → Request → StreamState → StreamState → Result Unit Fault → Type 0

@@ -10,5 +10,5 @@ mod serving;
 pub use definitions::TextFiles;
 pub use fault::Fault;
 pub use reply::{line, replies};
-pub use request::{Format, Request, requested, status_of_error};
+pub use request::{Display, Format, Request, requested, status_of_error};
 pub use serving::{run, serve};

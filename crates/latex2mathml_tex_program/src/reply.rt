@@ -1,14 +1,16 @@
 //! What is put out for formulas.
 ghost use Rattle.std.specs.Prelude.{◌≡◌, ℕ, ◌++◌, ◌∷◌, [], codes, IfErr, IfOk, IfSome, List, OnOk, string_bytes};
-ghost use Rattle.latex2mathml_tex.specs.{ErrorTexts.error_text, Answers.IsRefusal, Answers.style_in, Errors.refusal_of, MacroTables.Holding};
-ghost use Rattle.latex2mathml_tex_program.specs.Replies.{AreFormulas, AreReplies, IsLine, IsMarkup, IsReply};
+ghost use Rattle.latex2mathml_tex.specs.{ErrorTexts.error_text, Errors.refusal_of, MacroTables.Holding};
+ghost use Rattle.latex2mathml_tex_program.specs.Replies.{AreFormulas, AreReplies, HoldsFormula, IsLine, IsMarkup, IsNoMarkup, IsReply};
 
-use crate::request::Format;
-use latex2mathml_tex::{Converter, Macros, TexError, tex_to_mathml, tex_to_mathml_with_source};
+use crate::request::{Display, Format};
+use latex2mathml_tex::{
+    Converter, DisplayStyle, Macros, TexError, tex_to_mathml, tex_to_mathml_with_source,
+};
 use std::alloc::{AllocError, Global};
 use std::fmt::Write;
 
-/// Returns the markup of a formula, with a line feed.
+/// Returns the markup of the formula that a text holds, with a line feed.
 ///
 /// # Errors
 ///
@@ -16,35 +18,54 @@ use std::fmt::Write;
 pub fn line<'a>(
     alloc: Global,
     macros: &Macros<'a>,
-    tex: &'a str,
+    text: &'a str,
     format: Format,
 ) -> Result<String, TexError>
     ensures line { Holding macros.now (λ table. IfOk result (λ line.
-        IsLine table tex.now format (string_bytes line))) }
+        IsLine table text.now format (string_bytes line))) }
     ensures refusal { Holding macros.now (λ table. IfErr result (λ error.
-        IfSome (refusal_of error) (IsRefusal table tex.now (style_in format.display)))) }
+        IfSome (refusal_of error) (IsNoMarkup table text.now format))) }
 {
-    let mut line = markup(alloc, macros, tex, format)?;
+    let mut line = markup(alloc, macros, text, format)?;
     line.push('\n')?;
     Ok(line)
 }
 
-/// Returns the markup of a formula.
+/// Returns the markup of the formula that a text holds.
 fn markup<'a>(
     alloc: Global,
     macros: &Macros<'a>,
-    tex: &'a str,
+    text: &'a str,
     format: Format,
 ) -> Result<String, TexError>
     ensures markup { Holding macros.now (λ table. IfOk result (λ markup.
-        IsMarkup table tex.now format (string_bytes markup))) }
+        IsMarkup table text.now format (string_bytes markup))) }
     ensures refusal { Holding macros.now (λ table. IfErr result (λ error.
-        IfSome (refusal_of error) (IsRefusal table tex.now (style_in format.display)))) }
+        IfSome (refusal_of error) (IsNoMarkup table text.now format))) }
 {
+    let (tex, display) = formula_in(text, format.display);
     if format.is_annotated {
-        tex_to_mathml_with_source(alloc, macros, tex, format.display)
+        tex_to_mathml_with_source(alloc, macros, tex, display)
     } else {
-        tex_to_mathml(alloc, macros, tex, format.display)
+        tex_to_mathml(alloc, macros, tex, display)
+    }
+}
+
+/// Returns the formula that a text holds, and how it stands.
+fn formula_in<'a>(text: &'a str, display: Display) -> (&'a str, DisplayStyle)
+    ensures { HoldsFormula text.now display result.1 result.0.now }
+{
+    match display {
+        Display::All(style) => (text, style),
+        Display::Each => {
+            if let Some(tex) = text.strip_prefix("block\n") {
+                return (tex, DisplayStyle::Block);
+            }
+            if let Some(tex) = text.strip_prefix("inline\n") {
+                return (tex, DisplayStyle::Inline);
+            }
+            (text, DisplayStyle::Inline)
+        }
     }
 }
 
@@ -83,44 +104,45 @@ pub fn replies<'a>(
     Ok(replies)
 }
 
-/// Appends the reply to a formula. What it says is first put into `room`.
+/// Appends the reply to the formula that a text holds. What it says is first put into `room`.
 fn append_reply<'a>(
     converter: &mut Converter<'a>,
     room: &mut String,
     macros: &Macros<'a>,
-    tex: &'a str,
+    text: &'a str,
     format: Format,
     replies: &mut String,
 ) -> Result<(), AllocError>
     ensures { Holding macros.now (λ table. OnOk result ((reply : List ℕ)
-        × IsReply table tex.now format reply
+        × IsReply table text.now format reply
         × (string_bytes replies.new ≡ string_bytes replies.old ++ reply))) }
 {
     room.clear();
-    match append_markup(converter, room, macros, tex, format) {
+    match append_markup(converter, room, macros, text, format) {
         Ok(()) => append_said(replies, "mathml\n", room.as_str()),
         Err(error) => append_refusal(replies, &error, room),
     }
 }
 
-/// Appends the markup of a formula.
+/// Appends the markup of the formula that a text holds.
 fn append_markup<'a>(
     converter: &mut Converter<'a>,
-    text: &mut String,
+    said: &mut String,
     macros: &Macros<'a>,
-    tex: &'a str,
+    text: &'a str,
     format: Format,
 ) -> Result<(), TexError>
     ensures markup { Holding macros.now (λ table. OnOk result ((markup : List ℕ)
-        × IsMarkup table tex.now format markup
-        × (string_bytes text.new ≡ string_bytes text.old ++ markup))) }
+        × IsMarkup table text.now format markup
+        × (string_bytes said.new ≡ string_bytes said.old ++ markup))) }
     ensures refusal { Holding macros.now (λ table. IfErr result (λ error.
-        IfSome (refusal_of error) (IsRefusal table tex.now (style_in format.display)))) }
+        IfSome (refusal_of error) (IsNoMarkup table text.now format))) }
 {
+    let (tex, display) = formula_in(text, format.display);
     if format.is_annotated {
-        converter.append_with_source(text, macros, tex, format.display)
+        converter.append_with_source(said, macros, tex, display)
     } else {
-        converter.append(text, macros, tex, format.display)
+        converter.append(said, macros, tex, display)
     }
 }
 

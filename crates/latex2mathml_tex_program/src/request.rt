@@ -9,11 +9,19 @@ use clap::{Arg, ArgAction, ArgMatches, Command, Error};
 use latex2mathml_tex::DisplayStyle;
 use std::alloc::Global;
 
+/// How the formulas stand.
+#[derive(Debug, Clone, Copy, PartialEq, Eq)]
+pub enum Display {
+    /// All in a line of text, or all on a line of their own.
+    All(DisplayStyle),
+    /// Each as its first line says, which is `inline` or `block`. Without such a line, it stands in a line of text.
+    Each,
+}
+
 /// What the markup of each formula is to be.
 #[derive(Debug, Clone, Copy, PartialEq, Eq)]
 pub struct Format {
-    /// Whether the formulas stand in a line of text or on a line of their own.
-    pub display: DisplayStyle,
+    pub display: Display,
     /// Whether the markup holds the text of the formula, as an annotation.
     pub is_annotated: bool,
 }
@@ -37,7 +45,7 @@ pub fn requested<'a>(alloc: Global, words: &'a [String]) -> Result<Request<'a>, 
     ensures { IsRequested (map string_bytes words.now) result }
 {
     let command = Command::new(alloc, "tex2mathml")
-        .version("0.3.0")
+        .version("0.4.0")
         .about("Turns a LaTeX formula on standard input into MathML on standard output")
         .override_usage("tex2mathml [OPTIONS]")
         .arg(display_argument(alloc))?
@@ -72,9 +80,11 @@ fn display_argument<'a>(alloc: Global) -> Arg<'a>
     Arg::new(alloc, "display")
         .long("display")
         .value_name("DISPLAY")
-        .value_parser(["inline", "block"].as_slice())
+        .value_parser(["inline", "block", "each"].as_slice())
         .default_value("inline")
-        .help("Whether the formula stands in a line of text or on a line of its own")
+        .help(
+            "Whether the formula stands in a line of text or on a line of its own, or, with `each`, as its first line says, which is `inline` or `block`",
+        )
 }
 
 /// Returns the option of this name, which takes no value.
@@ -102,12 +112,13 @@ fn definitions_argument<'a>(alloc: Global) -> Arg<'a>
 }
 
 /// Returns the value of `--display`.
-fn display_in(matches: &ArgMatches) -> DisplayStyle
+fn display_in(matches: &ArgMatches) -> Display
     ensures { IsDisplay (first_value (found_of matches.now) (codes "display")) result }
 {
     match matches.get_str("display") {
-        Some("block") => DisplayStyle::Block,
-        _ => DisplayStyle::Inline,
+        Some("block") => Display::All(DisplayStyle::Block),
+        Some("each") => Display::Each,
+        _ => Display::All(DisplayStyle::Inline),
     }
 }
 

@@ -1,7 +1,7 @@
 //! Arrows that are as long as what stands above and below them.
 ghost use Rattle.latex2mathml_tex_grammar.specs.Rules.{an_arrow};
 ghost use Rattle.latex2mathml_tex.specs.Models.{context_of};
-ghost use Rattle.latex2mathml_tex.specs.Steps.{BeginsIn, CanBegin, IsStep, LeadsOn};
+ghost use Rattle.latex2mathml_tex.specs.Steps.{BeginsIn, CanBegin, Advances, LeadsOn};
 
 use crate::atoms::{Context, Row};
 use crate::meaning::Style;
@@ -22,7 +22,7 @@ impl<'a> Parser<'a> {
         ensures holds { LeadsOn
             (BeginsIn context (an_arrow place (context_of context) sign) 0)
             self.old self.new result }
-        ensures step { IsStep 13 self.old self.new result }
+        ensures step { Advances 13 self.old self.new result }
     {
         let small = context.styled(Style::InScript);
         if self.input.take_character('[') {

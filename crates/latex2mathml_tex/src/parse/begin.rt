@@ -7,7 +7,7 @@ ghost use Rattle.latex2mathml_tex_grammar.specs.Commands;
 ghost use Rattle.latex2mathml_tex_grammar.specs.Rules.{a_negation, a_root, an_operator_name, character_rule, command_rule, gives, meaning_rule, reads_words, some_dots, takes_delimiter};
 ghost use Rattle.latex2mathml_tex_grammar.specs.{Makes.core, Words.words_atom};
 ghost use Rattle.latex2mathml_tex.specs.{Meanings.alphabet_of, Meanings.class_of, Meanings.meaning_of, Models.context_of, Taking.piece_of};
-ghost use Rattle.latex2mathml_tex.specs.Steps.{AwaitsCore, AwaitsOperand, Begins, BeginsIn, BeginsUnit, CanBegin, HoldsIn, IsStep, LeadsOn, Ready, Took};
+ghost use Rattle.latex2mathml_tex.specs.Steps.{AwaitsCore, AwaitsOperand, Begins, BeginsIn, BeginsUnit, CanBegin, HoldsIn, Advances, LeadsOn, Ready, Took};
 
 use crate::atoms::{Context, Core, Kind, Row, Words};
 use crate::commands;
@@ -31,7 +31,7 @@ impl<'a> Parser<'a> {
         requires ready { Ready self.old State.Next }
         requires due { AwaitsOperand place self.old }
         ensures holds { LeadsOn (HoldsIn State.Next) self.old self.new result }
-        ensures step { IsStep 1 self.old self.new result }
+        ensures step { Advances 1 self.old self.new result }
     {
         self.input.skip_space();
         match self.input.next {
@@ -53,7 +53,7 @@ impl<'a> Parser<'a> {
         requires due { (place : ℕ) × AwaitsOperand place self.old }
         requires some { is_no_operand (piece_of unit.piece) ≡ false }
         ensures holds { LeadsOn (Took unit.entry) self.old self.new result }
-        ensures step { IsStep 13 self.old self.new result }
+        ensures step { Advances 13 self.old self.new result }
     {
         let context = self.frames.innermost(self.style).context();
         match unit.piece {
@@ -73,7 +73,7 @@ impl<'a> Parser<'a> {
         requires ready { Ready self.old State.Next }
         requires due { AwaitsCore place self.old }
         ensures holds { LeadsOn (HoldsIn State.Next) self.old self.new result }
-        ensures step { IsStep 1 self.old self.new result }
+        ensures step { Advances 1 self.old self.new result }
     {
         self.input.skip_space();
         match self.input.next {
@@ -90,7 +90,7 @@ impl<'a> Parser<'a> {
     pub(crate) fn begin_whole(&mut self, unit: Unit<'a>) -> Result<State, AllocError>
         requires begin { CanBegin 0 self.old }
         ensures holds { LeadsOn (BeginsUnit unit.entry) self.old self.new result }
-        ensures step { IsStep 13 self.old self.new result }
+        ensures step { Advances 13 self.old self.new result }
     {
         if let Piece::Character(c) = unit.piece
             && !c.is_ascii_digit()
@@ -111,7 +111,7 @@ impl<'a> Parser<'a> {
     pub(crate) fn begin(&mut self, unit: Unit<'a>) -> Result<State, AllocError>
         requires begin { CanBegin 0 self.old }
         ensures holds { LeadsOn (BeginsUnit unit.entry) self.old self.new result }
-        ensures step { IsStep 13 self.old self.new result }
+        ensures step { Advances 13 self.old self.new result }
     {
         let context = self.frames.innermost(self.style).context();
         match unit.piece {
@@ -133,7 +133,7 @@ impl<'a> Parser<'a> {
         ensures holds { LeadsOn
             (BeginsIn context (character_rule (context_of context) c place) 0)
             self.old self.new result }
-        ensures step { IsStep 13 self.old self.new result }
+        ensures step { Advances 13 self.old self.new result }
     {
         if c.is_ascii_digit() {
             return self.number(context.alphabet, c);
@@ -165,7 +165,7 @@ impl<'a> Parser<'a> {
             (BeginsIn context
             (command_rule place (context_of context) name.now (option_map meaning_of found)) 0)
             self.old self.new result }
-        ensures step { IsStep 13 self.old self.new result }
+        ensures step { Advances 13 self.old self.new result }
     {
         if let Some(meaning) = found {
             return self.meaning(meaning, place, context);
@@ -185,7 +185,7 @@ impl<'a> Parser<'a> {
         ensures holds { LeadsOn
             (BeginsIn context (meaning_rule place (context_of context) (meaning_of meaning)) 0)
             self.old self.new result }
-        ensures step { IsStep 13 self.old self.new result }
+        ensures step { Advances 13 self.old self.new result }
     {
         match meaning {
             Meaning::Shows(symbol) => self.symbol(context.alphabet, symbol),
@@ -257,7 +257,7 @@ impl<'a> Parser<'a> {
         ensures holds { LeadsOn
             (BeginsIn context (some_dots (context_of context)) 0)
             self.old self.new result }
-        ensures step { IsStep 13 self.old self.new result }
+        ensures step { Advances 13 self.old self.new result }
     {
         let dots = if self.input.centers_dots() {
             CENTERED_DOTS
@@ -273,7 +273,7 @@ impl<'a> Parser<'a> {
         ensures holds { LeadsOn
             (BeginsIn context (a_root place (context_of context)) 0)
             self.old self.new result }
-        ensures step { IsStep 13 self.old self.new result }
+        ensures step { Advances 13 self.old self.new result }
     {
         if self.input.take_character('[') {
             return self.open(Frame::Row(
@@ -292,7 +292,7 @@ impl<'a> Parser<'a> {
         ensures holds { LeadsOn
             (BeginsIn context (an_operator_name place (context_of context)) 0)
             self.old self.new result }
-        ensures step { IsStep 13 self.old self.new result }
+        ensures step { Advances 13 self.old self.new result }
     {
         let limits = if self.input.take_character('*') {
             LimitPlace::ByStyle
@@ -315,7 +315,7 @@ impl<'a> Parser<'a> {
         ensures holds { LeadsOn
             (BeginsIn context (a_negation place (context_of context)) 0)
             self.old self.new result }
-        ensures step { IsStep 13 self.old self.new result }
+        ensures step { Advances 13 self.old self.new result }
     {
         if let Some(sign) = self.input.take_negated() {
             self.builder
@@ -332,7 +332,7 @@ impl<'a> Parser<'a> {
             (Begins (reads_words place (option_map alphabet_of alphabet)
             (λ ws. gives (core (words_atom ws)))) 0)
             self.old self.new result }
-        ensures step { IsStep 13 self.old self.new result }
+        ensures step { Advances 13 self.old self.new result }
     {
         self.frames.push(Frame::Text)?;
         self.input.skip_space();
@@ -349,7 +349,7 @@ impl<'a> Parser<'a> {
         ensures holds { LeadsOn
             (BeginsIn context (meaning_rule place (context_of context) Left) 0)
             self.old self.new result }
-        ensures step { IsStep 13 self.old self.new result }
+        ensures step { Advances 13 self.old self.new result }
     {
         let Some(opening) = self.input.take_delimiter() else {
             return Ok(self.refuse_delimiter());
@@ -364,7 +364,7 @@ impl<'a> Parser<'a> {
             (Begins (takes_delimiter
             (λ text. gives (Makes.sized (size_of size) (class_of class) text))) 0)
             self.old self.new result }
-        ensures step { IsStep 13 self.old self.new result }
+        ensures step { Advances 13 self.old self.new result }
     {
         let Some(delimiter) = self.input.take_delimiter() else {
             return Ok(self.refuse_delimiter());

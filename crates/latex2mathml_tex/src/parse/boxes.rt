@@ -2,7 +2,7 @@
 ghost use Rattle.latex2mathml_tex_grammar.specs.Rules.{a_bar, a_box, a_rectangle, a_skip, a_smash, meaning_rule};
 ghost use Rattle.latex2mathml_tex_grammar.specs.Meaning.{Highlight, InColor, Raise, SkipInBraces};
 ghost use Rattle.latex2mathml_tex.specs.{Meanings.box_of, Models.context_of, Scans.spot_of};
-ghost use Rattle.latex2mathml_tex.specs.Steps.{Begins, BeginsIn, CanBegin, IsStep, LeadsOn};
+ghost use Rattle.latex2mathml_tex.specs.Steps.{Begins, BeginsIn, CanBegin, Advances, LeadsOn};
 
 use crate::atoms::{Context, Core, Kind};
 use crate::boxes::put_bar;
@@ -25,7 +25,7 @@ impl<'a> Parser<'a> {
         ensures holds { LeadsOn
             (BeginsIn context (a_skip place (spot_of spot)) 0)
             self.old self.new result }
-        ensures step { IsStep 13 self.old self.new result }
+        ensures step { Advances 13 self.old self.new result }
     {
         let Some(width) = self.take_length(place, spot)? else {
             return Ok(State::Refused);
@@ -44,7 +44,7 @@ impl<'a> Parser<'a> {
         ensures holds { LeadsOn
             (BeginsIn context (meaning_rule place (context_of context) SkipInBraces) 0)
             self.old self.new result }
-        ensures step { IsStep 13 self.old self.new result }
+        ensures step { Advances 13 self.old self.new result }
     {
         self.input.pass(self.alloc, Spot::BeforeStar)?;
         self.skip(Spot::BeforeLengthInBraces, place, context)
@@ -54,7 +54,7 @@ impl<'a> Parser<'a> {
     pub(crate) fn rectangle(&mut self, place: usize, context: Context) -> Result<State, AllocError>
         requires begin { CanBegin 0 self.old }
         ensures holds { LeadsOn (BeginsIn context (a_rectangle place) 0) self.old self.new result }
-        ensures step { IsStep 13 self.old self.new result }
+        ensures step { Advances 13 self.old self.new result }
     {
         if self.input.take_character('[') {
             let spot = Spot::InLength(LengthEnd::AtBracket);
@@ -75,7 +75,7 @@ impl<'a> Parser<'a> {
     ) -> Result<State, AllocError>
         requires begin { CanBegin 0 self.old }
         ensures holds { LeadsOn (BeginsIn context (a_bar place raise) 0) self.old self.new result }
-        ensures step { IsStep 13 self.old self.new result }
+        ensures step { Advances 13 self.old self.new result }
     {
         let Some(width) = self.take_length(place, Spot::BeforeLengthInBraces)? else {
             return Ok(State::Refused);
@@ -93,7 +93,7 @@ impl<'a> Parser<'a> {
         ensures holds { LeadsOn
             (BeginsIn context (meaning_rule place (context_of context) Raise) 0)
             self.old self.new result }
-        ensures step { IsStep 13 self.old self.new result }
+        ensures step { Advances 13 self.old self.new result }
     {
         let Some(height) = self.take_length(place, Spot::BeforeLengthInBraces)? else {
             return Ok(State::Refused);
@@ -107,7 +107,7 @@ impl<'a> Parser<'a> {
         ensures holds { LeadsOn
             (BeginsIn context (meaning_rule place (context_of context) InColor) 0)
             self.old self.new result }
-        ensures step { IsStep 13 self.old self.new result }
+        ensures step { Advances 13 self.old self.new result }
     {
         let Some(color) = self.take_color(place)? else {
             return Ok(State::Refused);
@@ -121,7 +121,7 @@ impl<'a> Parser<'a> {
         ensures holds { LeadsOn
             (BeginsIn context (meaning_rule place (context_of context) Highlight) 0)
             self.old self.new result }
-        ensures step { IsStep 13 self.old self.new result }
+        ensures step { Advances 13 self.old self.new result }
     {
         let Some(color) = self.take_color(place)? else {
             return Ok(State::Refused);
@@ -135,7 +135,7 @@ impl<'a> Parser<'a> {
         ensures holds { LeadsOn
             (Begins (a_smash place (context_of context)) 0)
             self.old self.new result }
-        ensures step { IsStep 13 self.old self.new result }
+        ensures step { Advances 13 self.old self.new result }
     {
         if self.input.take_in_brackets('t') {
             return self.open_box(OperandBox::WithoutHeight, place, context);
@@ -157,7 +157,7 @@ impl<'a> Parser<'a> {
         ensures holds { LeadsOn
             (Begins (a_box place (context_of context) (box_of operand_box)) 0)
             self.old self.new result }
-        ensures step { IsStep 6 self.old self.new result }
+        ensures step { Advances 6 self.old self.new result }
     {
         self.open(Frame::Last(Last::Boxed(operand_box, context.style), place, context))
     }

@@ -7,7 +7,7 @@ ghost use Rattle.latex2mathml_tex_grammar.specs.Makes;
 ghost use Rattle.latex2mathml_elements.specs.Element.{Element};
 ghost use Rattle.latex2mathml_tex.specs.Meanings.{class_of};
 ghost use Rattle.latex2mathml_tex.specs.declared.atoms.{Core.Core, Operand.Operand};
-ghost use Rattle.latex2mathml_tex.specs.Steps.{Begins, CanMake, FirstRead, Holds, HoldsIn, IsStep, LeadsOn, Ready, core_made, elements_of};
+ghost use Rattle.latex2mathml_tex.specs.Steps.{Begins, CanMake, FirstRead, Holds, HoldsIn, Advances, LeadsOn, Ready, core_made, elements_of};
 
 use crate::atoms::{Context, Core, Kind, Operand, Row, Scripts};
 use crate::boxes::put_in_box;
@@ -27,7 +27,7 @@ impl<'a> Parser<'a> {
     pub(crate) fn deliver_core(&mut self, core: Core) -> Result<State, AllocError>
         requires { Ready self.old (State.Core core) }
         ensures holds { LeadsOn (HoldsIn (State.Core core)) self.old self.new result }
-        ensures step { IsStep 3 self.old self.new result }
+        ensures step { Advances 3 self.old self.new result }
     {
         match self.frames.innermost(self.style) {
             Frame::Row(_, _, _, _) => self.go_on(core, Scripts::none(core.kind, core.limits)),
@@ -54,7 +54,7 @@ impl<'a> Parser<'a> {
             (Begins (struck_atom place (core_with core (top (elements_of self.old)))
             (struck (top (elements_of self.old)))) 1)
             self.old self.new result }
-        ensures step { IsStep 4 self.old self.new result }
+        ensures step { Advances 4 self.old self.new result }
     {
         if self.builder.push('\u{338}')? {
             return Ok(State::Core(Core::new(core.kind.without_letters(), core.high)));
@@ -66,7 +66,7 @@ impl<'a> Parser<'a> {
     pub(crate) fn deliver_operand(&mut self, operand: Operand) -> Result<State, AllocError>
         requires { Ready self.old (State.Operand operand) }
         ensures holds { LeadsOn (HoldsIn (State.Operand operand)) self.old self.new result }
-        ensures step { IsStep 2 self.old self.new result }
+        ensures step { Advances 2 self.old self.new result }
     {
         match self.frames.take(self.style) {
             Frame::Last(last, _, _) => self.make(last, operand),
@@ -87,7 +87,7 @@ impl<'a> Parser<'a> {
         ensures holds { (s : Start) (operand : Operand)
             → FirstRead first place context operand s self.old
             → IfOk result (Holds s self.new) }
-        ensures step { IsStep 6 self.old self.new result }
+        ensures step { Advances 6 self.old self.new result }
     {
         let outer = self.frames.innermost(self.style).context();
         self.open(match first {
@@ -107,7 +107,7 @@ impl<'a> Parser<'a> {
             (operand_with operand (top (elements_of self.old)))))
             (last_count last + 1))
             self.old self.new result }
-        ensures step { IsStep 4 self.old self.new result }
+        ensures step { Advances 4 self.old self.new result }
     {
         match last {
             Last::Group => ordinary(operand.high),

@@ -2,7 +2,7 @@
 ghost use Rattle.std.specs.Prelude.{option_map};
 ghost use Rattle.latex2mathml_tex_grammar.specs.Rules.{a_continued_fraction, a_fraction};
 ghost use Rattle.latex2mathml_tex.specs.{Meanings.fraction_rule_of, Meanings.style_of, Models.context_of};
-ghost use Rattle.latex2mathml_tex.specs.Steps.{Begins, CanBegin, IsStep, LeadsOn};
+ghost use Rattle.latex2mathml_tex.specs.Steps.{Begins, CanBegin, Advances, LeadsOn};
 
 use crate::atoms::Context;
 use crate::meaning::{FractionRule, Style};
@@ -21,7 +21,7 @@ impl<'a> Parser<'a> {
         ensures holds { LeadsOn
             (Begins (a_continued_fraction place (context_of context)) 0)
             self.old self.new result }
-        ensures step { IsStep 13 self.old self.new result }
+        ensures step { Advances 13 self.old self.new result }
     {
         let (rule, own) = (FractionRule::Bar, Some(Style::InDisplay));
         if self.input.take_in_brackets('l') {
@@ -46,7 +46,7 @@ impl<'a> Parser<'a> {
             (Begins (a_fraction place (context_of context) (fraction_rule_of rule)
             (option_map style_of own)) 0)
             self.old self.new result }
-        ensures step { IsStep 10 self.old self.new result }
+        ensures step { Advances 10 self.old self.new result }
     {
         let style = own.unwrap_or(context.style).smaller();
         self.open(Frame::First(First::Fraction(rule, own), place, context.styled(style)))

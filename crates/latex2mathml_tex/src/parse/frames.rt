@@ -156,7 +156,8 @@ impl Ending {
 impl Table {
     /// Whether the unit ends a cell.
     fn is_ended_by(self, piece: Piece) -> bool
-        ensures { (place : ℕ) → result ≡ ends (InCell (table_end self) place) (piece_of piece.entry) }
+        ensures { (place : ℕ) → result
+            ≡ ends (InCell (table_end self) place) (piece_of piece.entry) }
     {
         match piece {
             Piece::Command("\\" | "cr" | "newline") => true,
@@ -194,7 +195,8 @@ impl Table {
     /// The row of the cell, before its first atom.
     pub(crate) fn begun_cell(self) -> Row
         ensures row { result ≡ record empty_row { before = result.before } }
-        ensures before { before_of result.before ≡ before_cell (column_at (columns_of self.columns) self.cells) }
+        ensures before { before_of result.before
+            ≡ before_cell (column_at (columns_of self.columns) self.cells) }
     {
         let before = match self.columns.column_at(self.cells) {
             Column::SecondOfPair => Before::After(Class::Ordinary),

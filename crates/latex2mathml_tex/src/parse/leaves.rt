@@ -12,7 +12,7 @@ ghost use Rattle.latex2mathml_elements.specs.{Element.Element};
 ghost use Rattle.latex2mathml_tex.specs.{Frames.Start, Left.units_at, Meanings.alphabet_of, Meanings.limit_place_of, Models.core_with};
 ghost use Rattle.latex2mathml_tex.specs.Meanings;
 ghost use Rattle.latex2mathml_tex.specs.Numbers.{digit_in};
-ghost use Rattle.latex2mathml_tex.specs.Steps.{Begins, CanBegin, Holds, IsStep, LeadsOn, NumberBegins, PointBegins};
+ghost use Rattle.latex2mathml_tex.specs.Steps.{Begins, CanBegin, Holds, Advances, LeadsOn, NumberBegins, PointBegins};
 
 use crate::alphabets::in_alphabet;
 use crate::atoms::{Core, Kind};
@@ -38,7 +38,7 @@ impl<'a> Parser<'a> {
             (Begins (gives
             (Makes.symbol (option_map alphabet_of alphabet) (Meanings.symbol_of symbol))) 0)
             self.old self.new result }
-        ensures step { IsStep 13 self.old self.new result }
+        ensures step { Advances 13 self.old self.new result }
     {
         Ok(State::Core(put_symbol(&mut self.builder, alphabet, symbol)?))
     }
@@ -53,7 +53,7 @@ impl<'a> Parser<'a> {
         ensures holds { LeadsOn
             (Begins (gives (core (Makes.letter (option_map alphabet_of alphabet) c))) 0)
             self.old self.new result }
-        ensures step { IsStep 13 self.old self.new result }
+        ensures step { Advances 13 self.old self.new result }
     {
         Ok(State::Core(put_letter(&mut self.builder, alphabet, c)?))
     }
@@ -68,7 +68,7 @@ impl<'a> Parser<'a> {
         ensures holds { LeadsOn
             (Begins (gives (core (Makes.upright_letter (option_map alphabet_of alphabet) c))) 0)
             self.old self.new result }
-        ensures step { IsStep 13 self.old self.new result }
+        ensures step { Advances 13 self.old self.new result }
     {
         Ok(State::Core(put_upright_letter(&mut self.builder, alphabet, c)?))
     }
@@ -83,7 +83,7 @@ impl<'a> Parser<'a> {
         ensures holds { LeadsOn
             (Begins (gives (Makes.function_name (limit_place_of limits) name.now)) 0)
             self.old self.new result }
-        ensures step { IsStep 13 self.old self.new result }
+        ensures step { Advances 13 self.old self.new result }
     {
         self.builder.text(Token::Mi, Attributes::plain(), name)?;
         Ok(State::Core(Core {
@@ -99,7 +99,7 @@ impl<'a> Parser<'a> {
         ensures holds { LeadsOn
             (Begins (gives (core (Makes.spacing width))) 0)
             self.old self.new result }
-        ensures step { IsStep 13 self.old self.new result }
+        ensures step { Advances 13 self.old self.new result }
     {
         self.builder.space(i32::from(width))?;
         Ok(State::Core(Core::new(Kind::Blank, false)))
@@ -114,7 +114,7 @@ impl<'a> Parser<'a> {
         requires begin { CanBegin 0 self.old }
         requires digit { digit < 128 }
         ensures holds { LeadsOn (NumberBegins alphabet digit) self.old self.new result }
-        ensures step { IsStep 13 self.old self.new result }
+        ensures step { Advances 13 self.old self.new result }
     {
         begin_number(&mut self.builder, alphabet, digit)?;
         digits(&mut self.input, &mut self.builder, alphabet)?;
@@ -137,7 +137,7 @@ impl<'a> Parser<'a> {
             → option_map alphabet_of alphabet ≡ (context_of context).alphabet
             → Begins (a_symbol (context_of context) c (symbol_of c)) 0 s self.old
             → IfOk result (Holds s self.new) }
-        ensures step { IsStep 13 self.old self.new result }
+        ensures step { Advances 13 self.old self.new result }
     {
         match symbol_of(c) {
             Some(symbol) => self.symbol(alphabet, symbol),
@@ -149,7 +149,7 @@ impl<'a> Parser<'a> {
     pub(crate) fn point(&mut self, alphabet: Option<Alphabet>) -> Result<State, AllocError>
         requires { CanBegin 0 self.old }
         ensures holds { LeadsOn (PointBegins alphabet) self.old self.new result }
-        ensures step { IsStep 13 self.old self.new result }
+        ensures step { Advances 13 self.old self.new result }
     {
         let Some(digit) = self.input.take_digit() else {
             return self.other_character(alphabet, '.');

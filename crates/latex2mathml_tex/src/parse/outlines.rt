@@ -5,7 +5,7 @@ ghost use Rattle.latex2mathml_tex_grammar.specs.Rules;
 ghost use Rattle.latex2mathml_tex_grammar.specs.Rules.{a_general_fraction, a_line, an_outer_delimiter, an_outline};
 ghost use Rattle.latex2mathml_tex_grammar.specs.Scanning.{BeforeArgument, Number};
 ghost use Rattle.latex2mathml_tex.specs.{Delimiters.delimiter_text, HandedOn.TookBy, Meanings.style_of, Models.context_of, Outlines.outline_of};
-ghost use Rattle.latex2mathml_tex.specs.Steps.{Begins, CanBegin, IsStep, LeadsOn, TookValue};
+ghost use Rattle.latex2mathml_tex.specs.Steps.{Begins, CanBegin, Advances, LeadsOn, TookValue};
 
 use crate::atoms::Context;
 use crate::error::TexErrorKind;
@@ -27,7 +27,7 @@ impl<'a> Parser<'a> {
         ensures holds { LeadsOn
             (Begins (a_general_fraction place (context_of context)) 0)
             self.old self.new result }
-        ensures step { IsStep 13 self.old self.new result }
+        ensures step { Advances 13 self.old self.new result }
     {
         let Some(outline) = self.take_outline(place)? else {
             return Ok(State::Refused);
@@ -63,7 +63,8 @@ impl<'a> Parser<'a> {
 
     /// Takes a delimiter.
     fn take_outer_delimiter(&mut self, place: usize) -> Option<Option<char>>
-        ensures { TookBy (an_outer_delimiter place) self.old self.new (option_map delimiter_text result) }
+        ensures { TookBy (an_outer_delimiter place) self.old self.new
+            (option_map delimiter_text result) }
     {
         if let Some(delimiter) = self.input.take_outer_delimiter() {
             return Some(delimiter);

@@ -2,7 +2,7 @@
 ghost use Rattle.std.specs.Prelude.{◌≡◌, ◌≢◌, ◌+◌, ◌≤◌, ℕ, false};
 ghost use Rattle.latex2mathml_tex_grammar.specs.{Makes.no_scripts, Meaning.Beside, Starts.empty_base, Starts.ends};
 ghost use Rattle.latex2mathml_tex.specs.{Frames.ending_count, Frames.ending_of, Meanings.change_of, Models.row_count, Taking.piece_of, Frames.Start};
-ghost use Rattle.latex2mathml_tex.specs.Steps.{Awaits, AwaitsAtom, BeginsDivider, BeginsRest, CanBegin, CanMake, ClosesRow, EndsFormula, EndsRow, EndsText, EndsWithText, HasElements, HoldsIn, InnermostIs, IsStep, LeadsOn, MadeAtom, Ready, Took, TookMark, TookUnmarked, atom_made, core_made, ending_weight, level, row_makes, Closes, Follows, Holds, to_do};
+ghost use Rattle.latex2mathml_tex.specs.Steps.{Awaits, AwaitsAtom, BeginsDivider, BeginsRest, CanBegin, CanMake, ClosesRow, EndsFormula, EndsRow, EndsText, EndsWithText, HasElements, HoldsIn, InnermostIs, Advances, LeadsOn, MadeAtom, Ready, Took, TookMark, TookUnmarked, atom_made, core_made, ending_weight, level, row_makes, Closes, Follows, Holds, to_do};
 ghost use Rattle.latex2mathml_tex.specs.declared.atoms.{Context.Context, Row.Row};
 
 use crate::atoms::{Context, Core, Kind, Operand, Row, Scripts, Words};
@@ -31,7 +31,7 @@ impl<'a> Parser<'a> {
         requires ready { Ready self.old State.Next }
         requires due { InnermostIs (Frame.Row ending place context row) self.old }
         ensures holds { LeadsOn (HoldsIn State.Next) self.old self.new result }
-        ensures step { IsStep 1 self.old self.new result }
+        ensures step { Advances 1 self.old self.new result }
     {
         self.input.skip_space();
         match self.input.next {
@@ -57,7 +57,7 @@ impl<'a> Parser<'a> {
         requires due { (place : ℕ) × ((row : Row) × AwaitsAtom ending place row self.old) }
         requires some { (place : ℕ) → ends (ending_of ending place) (piece_of unit.piece) ≡ false }
         ensures holds { LeadsOn (Took unit.entry) self.old self.new result }
-        ensures step { IsStep 13 self.old self.new result }
+        ensures step { Advances 13 self.old self.new result }
     {
         if ending.is_divided_by(unit.piece) {
             return self.divider();
@@ -76,7 +76,7 @@ impl<'a> Parser<'a> {
         requires begin { CanBegin 0 self.old }
         requires row { Awaits atom_made self.old }
         ensures holds { LeadsOn (TookUnmarked unit.entry) self.old self.new result }
-        ensures step { IsStep 13 self.old self.new result }
+        ensures step { Advances 13 self.old self.new result }
     {
         let Piece::Command(name) = unit.piece else {
             return self.begin_whole(unit);
@@ -95,7 +95,7 @@ impl<'a> Parser<'a> {
         requires begin { CanBegin 0 self.old }
         requires row { Awaits atom_made self.old }
         ensures holds { LeadsOn (BeginsRest (change_of change) place) self.old self.new result }
-        ensures step { IsStep 13 self.old self.new result }
+        ensures step { Advances 13 self.old self.new result }
     {
         let Frame::Row(ending, at, context, row) = self.frames.take(self.style) else {
             unreachable!()
@@ -138,7 +138,7 @@ impl<'a> Parser<'a> {
             (λ s. TookMark mark place (level 0 s self.old) empty_base
             (no_scripts empty_base.kind Beside) s)
             self.old self.new result }
-        ensures step { IsStep 13 self.old self.new result }
+        ensures step { Advances 13 self.old self.new result }
     {
         self.builder
             .container(Container::Mrow, Attributes::plain(), 0)?;
@@ -156,7 +156,7 @@ impl<'a> Parser<'a> {
         requires begin { CanBegin 0 self.old }
         requires row { Awaits atom_made self.old }
         ensures holds { LeadsOn BeginsDivider self.old self.new result }
-        ensures step { IsStep 13 self.old self.new result }
+        ensures step { Advances 13 self.old self.new result }
     {
         let Some(delimiter) = self.input.take_delimiter() else {
             return Ok(self.refuse_delimiter());
@@ -169,7 +169,7 @@ impl<'a> Parser<'a> {
     pub(crate) fn put(&mut self, core: Core) -> Result<State, AllocError>
         requires { CanMake atom_made 1 self.old }
         ensures holds { LeadsOn (MadeAtom core) self.old self.new result }
-        ensures step { IsStep 2 self.old self.new result }
+        ensures step { Advances 2 self.old self.new result }
     {
         let Frame::Row(ending, place, context, row) = self.frames.innermost(self.style) else {
             unreachable!()
@@ -191,7 +191,7 @@ impl<'a> Parser<'a> {
     ) -> Result<State, AllocError>
         requires can { CanMake (row_makes ending) (row_count row + ending_count ending) self.old }
         ensures holds { LeadsOn (EndsText ending place style row at) self.old self.new result }
-        ensures step { IsStep (ending_weight ending + 1) self.old self.new result }
+        ensures step { Advances (ending_weight ending + 1) self.old self.new result }
     {
         let kind = match ending {
             Ending::Text => return self.end_formula(style, row),
@@ -211,7 +211,7 @@ impl<'a> Parser<'a> {
     fn end_formula(&mut self, style: Style, row: Row) -> Result<State, AllocError>
         requires elements { HasElements (row_count row) self.old }
         ensures holds { LeadsOn (EndsFormula style row) self.old self.new result }
-        ensures step { IsStep 1 self.old self.new result }
+        ensures step { Advances 1 self.old self.new result }
     {
         let row = finish(&mut self.builder, style, row)?;
         Ok(State::End(row.count))
@@ -231,7 +231,7 @@ impl<'a> Parser<'a> {
         ensures holds { LeadsOn
             (EndsWithText (Ending.Cell table) place style row at)
             self.old self.new result }
-        ensures step { IsStep 5 self.old self.new result }
+        ensures step { Advances 5 self.old self.new result }
     {
         let row = finish(&mut self.builder, style, row)?;
         self.end_cells(table, row.count, at)
@@ -248,8 +248,9 @@ impl<'a> Parser<'a> {
     ) -> Result<State, AllocError>
         requires ends { ending ≢ Ending.Text }
         requires can { CanMake (row_makes ending) (row_count row + ending_count ending) self.old }
-        ensures holds { LeadsOn (EndsRow ending place style row unit.entry) self.old self.new result }
-        ensures step { IsStep 13 self.old self.new result }
+        ensures holds { LeadsOn (EndsRow ending place style row unit.entry)
+            self.old self.new result }
+        ensures step { Advances 13 self.old self.new result }
     {
         let row = finish(&mut self.builder, style, row)?;
         self.close(ending, place, row, unit)
@@ -266,7 +267,7 @@ impl<'a> Parser<'a> {
         requires ends { ending ≢ Ending.Text }
         requires can { CanMake (row_makes ending) (row.count + ending_count ending) self.old }
         ensures holds { LeadsOn (Closes ending place row unit.entry) self.old self.new result }
-        ensures step { IsStep 13 self.old self.new result }
+        ensures step { Advances 13 self.old self.new result }
     {
         match ending {
             Ending::Text => unreachable!(),
@@ -312,7 +313,7 @@ impl<'a> Parser<'a> {
         ensures holds { LeadsOn
             (ClosesRow (Ending.Delimiters opening) 0 row)
             self.old self.new result }
-        ensures step { IsStep 13 self.old self.new result }
+        ensures step { Advances 13 self.old self.new result }
     {
         let Some(closing) = self.input.take_delimiter() else {
             return Ok(self.refuse_delimiter());

@@ -6,7 +6,7 @@ ghost use Rattle.latex2mathml_tex_grammar.specs.Makes;
 ghost use Rattle.latex2mathml_tex_grammar.specs.Starts;
 ghost use Rattle.latex2mathml_tex.specs.{Errors.second_on, Frames.base_of, Frames.primes_put, Meanings.limit_place_of, Meanings.style_of, Shapes.changed_at, Taking.piece_of};
 ghost use Rattle.latex2mathml_tex.specs.Models.{core_with, script_count, scripts_with, top};
-ghost use Rattle.latex2mathml_tex.specs.Steps.{CanMake, HoldsIn, IsStep, LeadsOn, Ready, TookMark, TookScript, atom_made, elements_of, level, mark_model};
+ghost use Rattle.latex2mathml_tex.specs.Steps.{CanMake, HoldsIn, Advances, LeadsOn, Ready, TookMark, TookScript, atom_made, elements_of, level, mark_model};
 
 use crate::atoms::{Core, Scripts};
 use crate::error::TexErrorKind;
@@ -49,7 +49,7 @@ impl<'a> Parser<'a> {
     pub(crate) fn go_on(&mut self, core: Core, scripts: Scripts) -> Result<State, AllocError>
         requires { Ready self.old (State.Atom core scripts) }
         ensures holds { LeadsOn (HoldsIn (State.Atom core scripts)) self.old self.new result }
-        ensures step { IsStep 2 self.old self.new result }
+        ensures step { Advances 2 self.old self.new result }
     {
         self.input.skip_space();
         match self.input.next {
@@ -80,7 +80,7 @@ impl<'a> Parser<'a> {
             (base_of core scripts (elements_of self.old)).atom
             (scripts_with scripts (elements_of self.old)) s)
             self.old self.new result }
-        ensures step { IsStep 13 self.old self.new result }
+        ensures step { Advances 13 self.old self.new result }
     {
         match mark {
             Mark::Limits(limits) => {
@@ -128,7 +128,7 @@ impl<'a> Parser<'a> {
         requires { CanMake atom_made (primes_put side scripts.primes + (script_count scripts + 2))
             self.old }
         ensures holds { LeadsOn (TookScript core scripts side) self.old self.new result }
-        ensures step { IsStep 3 self.old self.new result }
+        ensures step { Advances 3 self.old self.new result }
     {
         Ok(State::Atom(
             core,

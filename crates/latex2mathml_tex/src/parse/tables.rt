@@ -1,20 +1,16 @@
-//! Tables: how they begin, how each cell ends, and what is made of them.
-ghost use Rattle.std.specs.Prelude.{◌≡◌, ◌+◌, ◌∷◌, ◌<◌, ◌≤◌, IfOk, MatchBool, MatchOption, OnOk, Some, drop, false, length, option_map, reverse, string_bytes, take, true, nat_le};
-ghost use Rattle.latex2mathml_builder.specs.{Built.elements_in, Columns.column_of, Columns.columns_of, Stacks.table_with};
-ghost use Rattle.latex2mathml_elements.specs.{Attributes.styled, Columns.Listed};
+//! Tables: how each cell begins and ends, and what is made of them.
+ghost use Rattle.std.specs.Prelude.{◌≡◌, ◌+◌, ◌∷◌, ◌<◌, ◌≤◌, IfOk, MatchBool, OnOk, drop, length, option_map, reverse, string_bytes, take};
+ghost use Rattle.latex2mathml_builder.specs.{Built.elements_in, Columns.columns_of, Stacks.table_with};
+ghost use Rattle.latex2mathml_elements.specs.{Attributes.styled};
 ghost use Rattle.latex2mathml_builder.specs.Names.{math_style_of};
-ghost use Rattle.latex2mathml_tex_grammar.specs.Environments;
-ghost use Rattle.latex2mathml_tex_grammar.specs.Scanning.{BeforeArgument, ColumnList, Number};
 ghost use Rattle.latex2mathml_tex_grammar.specs.Tables;
-ghost use Rattle.latex2mathml_tex_grammar.specs.{Meaning.BeginTable, Meaning.Substack, Starts.cell_end, Tables.a_row, Rows.row_element};
-ghost use Rattle.latex2mathml_tex_grammar.specs.Rules.{argument_rule, environment_rule, listed_rule, meaning_rule, most_columns, rows_of_text, rows_rule, takes_found};
-ghost use Rattle.latex2mathml_tex.specs.{Frames.context_at, Meanings.style_of, Models.context_of, Taking.piece_of};
-ghost use Rattle.latex2mathml_tex.specs.Scans.{argument_of, spot_of};
-ghost use Rattle.latex2mathml_tex.specs.Tables.{cell_end_of, delimiter_texts, environment_of};
-ghost use Rattle.latex2mathml_tex.specs.Steps.{BeginsIn, CanBegin, CanMake, Begins, ClosesCell, EndsCells, EndsRows, GoesOnTable, IsStep, LeadsOn, MakesTable, TookText, core_made, level};
+ghost use Rattle.latex2mathml_tex_grammar.specs.{Meaning.Substack, Starts.cell_end, Tables.a_row, Rows.row_element};
+ghost use Rattle.latex2mathml_tex_grammar.specs.Rules.{meaning_rule, rows_of_text};
+ghost use Rattle.latex2mathml_tex.specs.{Frames.context_at, Meanings.style_of, Models.context_of, Scans.spot_of, Taking.piece_of};
+ghost use Rattle.latex2mathml_tex.specs.Tables.{cell_end_of, delimiter_texts};
+ghost use Rattle.latex2mathml_tex.specs.Steps.{BeginsIn, CanBegin, CanMake, Begins, ClosesCell, EndsCells, EndsRows, GoesOnTable, Advances, LeadsOn, MakesTable, TookText, core_made, level};
 
 use crate::atoms::{Context, Core, Kind, Row};
-use crate::environments;
 use crate::environments::Environment;
 use crate::error::TexErrorKind;
 use crate::meaning::{Class, Style};
@@ -38,28 +34,6 @@ enum CellEnd {
 }
 
 impl<'a> Parser<'a> {
-    /// Begins the table whose name stands next.
-    pub(crate) fn begin_table(
-        &mut self,
-        place: usize,
-        context: Context,
-    ) -> Result<State, AllocError>
-        requires begin { CanBegin 0 self.old }
-        ensures holds { LeadsOn
-            (BeginsIn context (meaning_rule place (context_of context) BeginTable) 0)
-            self.old self.new result }
-        ensures step { IsStep 13 self.old self.new result }
-    {
-        let spot = Spot::BeforeArgument(Argument::Name);
-        let Some(name) = self.take_text(place, spot)? else {
-            return Ok(State::Refused);
-        };
-        let Some(environment) = environments::look_up(name.as_str()) else {
-            return Ok(self.refuse(TexErrorKind::UnknownEnvironment(name), place));
-        };
-        self.begin_placed(environment, place, context)
-    }
-
     /// Takes the text that is found from this spot on. Where it does not stand here, the formula is refused, and nothing is
     /// returned.
     pub(crate) fn take_text(
@@ -80,143 +54,6 @@ impl<'a> Parser<'a> {
         Ok(Some(text))
     }
 
-    /// Begins an environment, behind its name.
-    fn begin_placed(
-        &mut self,
-        environment: &'static Environment,
-        place: usize,
-        context: Context,
-    ) -> Result<State, AllocError>
-        requires begin { CanBegin 0 self.old }
-        ensures holds { LeadsOn
-            (BeginsIn context (environment_rule place (context_of context) environment.now.name.now
-            (Some (environment_of environment.now))) 0)
-            self.old self.new result }
-        ensures step { IsStep 13 self.old self.new result }
-    {
-        if environment.may_have_position {
-            self.input.pass(self.alloc, Spot::BeforePosition)?;
-            return self.begin_environment(environment, place, context);
-        }
-        self.begin_environment(environment, place, context)
-    }
-
-    /// Begins an environment, behind its name and the letter that says how it stands in its line.
-    fn begin_environment(
-        &mut self,
-        environment: &'static Environment,
-        place: usize,
-        context: Context,
-    ) -> Result<State, AllocError>
-        requires begin { CanBegin 0 self.old }
-        ensures holds { LeadsOn
-            (BeginsIn context (argument_rule place (context_of context) environment.now.name.now
-            (environment_of environment.now) (environment_of environment.now).argument) 0)
-            self.old self.new result }
-        ensures step { IsStep 13 self.old self.new result }
-    {
-        match environment.argument {
-            Some(argument) => self.begin_argument(argument, environment, place, context),
-            None => self.begin_rows(environment, environment.layout.columns(), place, context),
-        }
-    }
-
-    /// Begins an environment that takes this argument.
-    fn begin_argument(
-        &mut self,
-        argument: Argument,
-        environment: &'static Environment,
-        place: usize,
-        context: Context,
-    ) -> Result<State, AllocError>
-        requires begin { CanBegin 0 self.old }
-        ensures holds { LeadsOn
-            (BeginsIn context (argument_rule place (context_of context) environment.now.name.now
-            (environment_of environment.now) (Some (argument_of argument))) 0)
-            self.old self.new result }
-        ensures step { IsStep 13 self.old self.new result }
-    {
-        match argument {
-            Argument::ColumnList => self.begin_listed(environment, place, context),
-            Argument::Number => self.begin_numbered(environment, place, context),
-            Argument::Name | Argument::ColorName => {
-                self.begin_rows(environment, environment.layout.columns(), place, context)
-            }
-        }
-    }
-
-    /// Begins an environment behind whose name a number stands, which means nothing.
-    fn begin_numbered(
-        &mut self,
-        environment: &'static Environment,
-        place: usize,
-        context: Context,
-    ) -> Result<State, AllocError>
-        requires begin { CanBegin 0 self.old }
-        ensures holds { LeadsOn
-            (BeginsIn context (takes_found (BeforeArgument Number) place
-            (λ number. rows_rule place (context_of context) environment.now.name.now
-            (environment_of environment.now) (environment_of environment.now).columns)) 0)
-            self.old self.new result }
-        ensures step { IsStep 13 self.old self.new result }
-    {
-        let spot = Spot::BeforeArgument(Argument::Number);
-        let Some(_number) = self.take_text(place, spot)? else {
-            return Ok(State::Refused);
-        };
-        self.begin_rows(environment, environment.layout.columns(), place, context)
-    }
-
-    /// Begins an environment whose columns stand next.
-    fn begin_listed(
-        &mut self,
-        environment: &'static Environment,
-        place: usize,
-        context: Context,
-    ) -> Result<State, AllocError>
-        requires begin { CanBegin 0 self.old }
-        ensures holds { LeadsOn
-            (BeginsIn context (takes_found (BeforeArgument ColumnList) place
-            (λ letters. listed_rule place (context_of context) environment.now.name.now
-            (environment_of environment.now) letters)) 0)
-            self.old self.new result }
-        ensures step { IsStep 13 self.old self.new result }
-    {
-        let spot = Spot::BeforeArgument(Argument::ColumnList);
-        let Some(letters) = self.take_text(place, spot)? else {
-            return Ok(State::Refused);
-        };
-        let Some(columns) = listed(letters.as_str()) else {
-            return Ok(self.refuse(TexErrorKind::TooManyColumns, place));
-        };
-        self.begin_rows(environment, columns, place, context)
-    }
-
-    /// Begins the rows of an environment.
-    fn begin_rows(
-        &mut self,
-        environment: &'static Environment,
-        columns: Columns,
-        place: usize,
-        context: Context,
-    ) -> Result<State, AllocError>
-        requires begin { CanBegin 0 self.old }
-        ensures holds { LeadsOn
-            (BeginsIn context (rows_rule place (context_of context) environment.now.name.now
-            (environment_of environment.now) (columns_of columns)) 0)
-            self.old self.new result }
-        ensures step { IsStep 12 self.old self.new result }
-    {
-        self.input.pass(self.alloc, Spot::BeforeRow)?;
-        let table = Table {
-            kind: TableKind::Environment(environment),
-            columns,
-            rows: 0,
-            cells: 0,
-        };
-        self.begin_cell(table, place)
-    }
-
     /// Begins rows in braces.
     pub(crate) fn begin_substack(
         &mut self,
@@ -227,7 +64,7 @@ impl<'a> Parser<'a> {
         ensures holds { LeadsOn
             (BeginsIn context (meaning_rule place (context_of context) Substack) 0)
             self.old self.new result }
-        ensures step { IsStep 13 self.old self.new result }
+        ensures step { Advances 13 self.old self.new result }
     {
         let Some(_brace) = self.take_text(place, Spot::BeforeBrace)? else {
             return Ok(State::Refused);
@@ -248,7 +85,7 @@ impl<'a> Parser<'a> {
         ensures holds { LeadsOn
             (λ s. Begins (rows_of_text (context_at (level 0 s self.old))) 0 s)
             self.old self.new result }
-        ensures step { IsStep 13 self.old self.new result }
+        ensures step { Advances 13 self.old self.new result }
     {
         self.input.pass(self.alloc, Spot::BeforeRow)?;
         let table = Table {
@@ -261,10 +98,10 @@ impl<'a> Parser<'a> {
     }
 
     /// Begins the next cell of a table.
-    fn begin_cell(&mut self, table: Table, place: usize) -> Result<State, AllocError>
+    pub(crate) fn begin_cell(&mut self, table: Table, place: usize) -> Result<State, AllocError>
         requires can { CanMake core_made (table.cells + table.rows) self.old }
         ensures holds { LeadsOn (GoesOnTable table place) self.old self.new result }
-        ensures step { IsStep 6 self.old self.new result }
+        ensures step { Advances 6 self.old self.new result }
     {
         let around = self.frames.innermost(self.style).context();
         let context = around.styled(table.style());
@@ -281,7 +118,7 @@ impl<'a> Parser<'a> {
     ) -> Result<State, AllocError>
         requires can { CanMake core_made (row.count + (table.cells + table.rows)) self.old }
         ensures holds { LeadsOn (ClosesCell table place row unit.entry) self.old self.new result }
-        ensures step { IsStep 13 self.old self.new result }
+        ensures step { Advances 13 self.old self.new result }
     {
         match cell_end(unit.piece) {
             CellEnd::PartsCells => {
@@ -318,7 +155,7 @@ impl<'a> Parser<'a> {
     ) -> Result<State, AllocError>
         requires can { CanMake core_made (count + (table.cells + table.rows)) self.old }
         ensures holds { LeadsOn (EndsCells table count at) self.old self.new result }
-        ensures step { IsStep 5 self.old self.new result }
+        ensures step { Advances 5 self.old self.new result }
     {
         // an empty last row is none
         if is_no_row(count, table) {
@@ -341,7 +178,7 @@ impl<'a> Parser<'a> {
         requires can { CanMake core_made rows self.old }
         requires some { 0 < rows }
         ensures holds { LeadsOn (EndsRows kind columns rows at) self.old self.new result }
-        ensures step { IsStep 5 self.old self.new result }
+        ensures step { Advances 5 self.old self.new result }
     {
         match kind {
             TableKind::Environment(environment) => {
@@ -365,7 +202,7 @@ impl<'a> Parser<'a> {
         ensures holds { LeadsOn
             (EndsRows (TableKind.Environment environment.entry) columns rows at)
             self.old self.new result }
-        ensures step { IsStep 5 self.old self.new result }
+        ensures step { Advances 5 self.old self.new result }
     {
         let spot = Spot::BeforeArgument(Argument::Name);
         let Some(name) = self.take_text(at, spot)? else {
@@ -389,7 +226,7 @@ impl<'a> Parser<'a> {
         requires some { 0 < rows }
         ensures holds { LeadsOn (MakesTable delimiters columns style rows)
             self.old self.new result }
-        ensures step { IsStep 5 self.old self.new result }
+        ensures step { Advances 5 self.old self.new result }
     {
         let around = self.frames.innermost(self.style).context();
         let said = said_style(style, around.style);
@@ -451,32 +288,6 @@ fn put_last(builder: &mut Builder, count: usize, cells: usize) -> Result<(), All
     put_row(builder, count)?;
     let _ = builder.len();
     builder.container(Container::Mrow, Attributes::plain(), cells + 1)
-}
-
-/// The column that a letter says.
-fn column(letter: u8) -> Column
-    ensures { column_of result ≡ Environments.column_of letter }
-{
-    match letter {
-        b'l' => Column::LeftAligned,
-        b'r' => Column::RightAligned,
-        _ => Column::Centered,
-    }
-}
-
-/// The columns that these letters say, unless there are too many.
-fn listed(letters: &str) -> Option<Columns>
-    ensures { MatchOption result (nat_le (length letters.now) most_columns ≡ false)
-        (λ columns. (nat_le (length letters.now) most_columns ≡ true)
-        × (columns_of columns ≡ Listed (Environments.columns_of letters.now))) }
-{
-    let mut columns = Columns::none();
-    'letters: for &letter in letters.as_bytes() {
-        if !columns.push(column(letter)) {
-            return None;
-        }
-    }
-    Some(columns)
 }
 
 /// The style that a table says, where its cells have the first one, and the second stands around it.

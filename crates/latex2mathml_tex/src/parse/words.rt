@@ -8,14 +8,14 @@ ghost use Rattle.latex2mathml_tex_grammar.specs.Words as words;
 ghost use Rattle.latex2mathml_tex_grammar.specs.Refusal.{CommandInWords, refusal_at};
 ghost use Rattle.latex2mathml_tex_grammar.specs.{Rows.single, Rules.gives, Symbols.InText, Units.Character, Units.Close, Units.Command};
 ghost use Rattle.latex2mathml_tex.specs.{Errors.refusal_of, Meanings.alphabet_of, Meanings.symbol_of, Models.words_with, Taking.piece_of};
-ghost use Rattle.latex2mathml_tex.specs.Steps.{Begins, BeginsWordOf, CanMake, HoldsIn, IsStep, LeadsOn, Ready, WordGiven, core_made, elements_of, words_made};
+ghost use Rattle.latex2mathml_tex.specs.Steps.{Begins, BeginsWordOf, CanMake, HoldsIn, Advances, LeadsOn, Ready, WordGiven, core_made, elements_of, words_made};
 
 use crate::alphabets::in_alphabet;
 use crate::atoms::{Context, Core, Kind, Row, Words};
 use crate::commands;
 use crate::dots::LOW_DOTS;
 use crate::error::TexErrorKind;
-use crate::meaning::{Alphabet, Class, Meaning, Style, Symbol};
+use crate::meaning::{Alphabet, Change, Class, Meaning, Style, Symbol};
 use crate::parse::frames::{Ending, Frame};
 use crate::parse::symbols::put_symbol;
 use crate::parse::{Parser, State};
@@ -38,7 +38,7 @@ impl<'a> Parser<'a> {
         ensures holds { LeadsOn
             (HoldsIn (State.Word words place alphabet))
             self.old self.new result }
-        ensures step { IsStep 1 self.old self.new result }
+        ensures step { Advances 1 self.old self.new result }
     {
         match self.input.next {
             Next::Fault(fault, at) => Ok(self.refuse_fault(fault, at)),
@@ -66,7 +66,7 @@ impl<'a> Parser<'a> {
             (BeginsWordOf words (piece_of unit.entry.piece) unit.entry.place
             (option_map alphabet_of alphabet))
             self.old self.new result }
-        ensures step { IsStep 13 self.old self.new result }
+        ensures step { Advances 13 self.old self.new result }
     {
         match unit.piece {
             Piece::Open => {
@@ -92,7 +92,7 @@ impl<'a> Parser<'a> {
         ensures holds { LeadsOn
             (BeginsWordOf words (Character c) place (option_map alphabet_of alphabet))
             self.old self.new result }
-        ensures step { IsStep 13 self.old self.new result }
+        ensures step { Advances 13 self.old self.new result }
     {
         if c == '$' {
             let context = Context {
@@ -122,7 +122,7 @@ impl<'a> Parser<'a> {
         ensures holds { LeadsOn
             (BeginsWordOf words (Command name.now) place (option_map alphabet_of alphabet))
             self.old self.new result }
-        ensures step { IsStep 13 self.old self.new result }
+        ensures step { Advances 13 self.old self.new result }
     {
         if let Some(c) = text_character(name) {
             return self.show(words, c);
@@ -136,6 +136,10 @@ impl<'a> Parser<'a> {
                     self.input.skip_space();
                     Ok(State::Word(words, place, alphabet))
                 }
+                Meaning::Changes(change) => match change {
+                    Change::ToAlphabet(_) => Ok(State::Words(words)),
+                    _ => self.refuse_command(name, place),
+                },
                 _ => self.refuse_command(name, place),
             },
             None => {
@@ -161,7 +165,7 @@ impl<'a> Parser<'a> {
     pub(crate) fn deliver_words(&mut self, words: Words) -> Result<State, AllocError>
         requires { Ready self.old (State.Words words) }
         ensures holds { LeadsOn (HoldsIn (State.Words words)) self.old self.new result }
-        ensures step { IsStep 2 self.old self.new result }
+        ensures step { Advances 2 self.old self.new result }
     {
         match self.frames.innermost(self.style) {
             Frame::Text => {
@@ -188,7 +192,7 @@ impl<'a> Parser<'a> {
     fn show(&mut self, words: Words, c: char) -> Result<State, AllocError>
         requires { CanMake words_made words.count self.old }
         ensures holds { LeadsOn (WordGiven words (Shown (Makes.text c))) self.old self.new result }
-        ensures step { IsStep 13 self.old self.new result }
+        ensures step { Advances 13 self.old self.new result }
     {
         if words.ends_in_text && words.count > 0 && self.builder.push(c)? {
             return Ok(State::Words(words));
@@ -209,7 +213,7 @@ impl<'a> Parser<'a> {
             (WordGiven words
             (Formula (single InText (Makes.symbol None (symbol_of symbol)).atom).element))
             self.old self.new result }
-        ensures step { IsStep 13 self.old self.new result }
+        ensures step { Advances 13 self.old self.new result }
     {
         let core = put_symbol(&mut self.builder, None, symbol)?;
         let row = with_atom(&mut self.builder, Style::InText, Row::empty(), core)?;
@@ -228,7 +232,7 @@ impl<'a> Parser<'a> {
             (Begins (gives (core (words_atom (words_with words (elements_of self.old)))))
             words.count)
             self.old self.new result }
-        ensures step { IsStep 6 self.old self.new result }
+        ensures step { Advances 6 self.old self.new result }
     {
         if words.count == 0 {
             self.builder.token(Token::Mtext, Attributes::plain())?;

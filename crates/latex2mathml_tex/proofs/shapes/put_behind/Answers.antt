@@ -1,7 +1,8 @@
-use Rattle.std.proofs.Common.{◌≡◌, ◌∙◌, suc, ap, arith, length, pos}
+use Rattle.std.proofs.Common.{◌≡◌, ◌+◌, ◌∙◌, suc, ap, arith, length, pos, sym, take}
 use Rattle.latex2mathml_builder.specs.Built.{elements_in}
 use Rattle.latex2mathml_elements.specs.Element.{space}
-use Rattle.latex2mathml_tex.proofs.Shaping.{length_changed, length_parted}
+use Rattle.latex2mathml_tex.specs.{Meanings.style_of, Models.before_of, Models.kind_of}
+use Rattle.latex2mathml_tex.proofs.Shaping.{length_changed, length_parted, put_adapted}
 use Rattle.latex2mathml_tex.proofs.shapes.put_behind.Goals as goal
 use Rattle.latex2mathml_tex.proofs.shapes.put_behind.Goals.{After-adapt, In_ok-space_below}
 
@@ -28,3 +29,11 @@ overflow_add-result-2 c = omega (arith, adapted (goal.at.overflow_add-result-2 c
 
 pub returns-clause-count : goal.returns-clause-count
 returns-clause-count c = omega (arith, adapted (goal.at.returns-clause-count c).After-adapt)
+
+pub returns-clause-elements : goal.returns-clause-elements
+returns-clause-elements c =
+    let xs = elements_in c.args.builder.now in
+    let n = c.args.row.count in
+    let next : n + 1 ≡ suc n = omega arith in
+    rw (← c.continues_word.ensures, c.if-continues_word.false, next)
+    (ap (take (suc n)) c.adapt.ensures ∙ put_adapted n (style_of c.args.style) (before_of c.args.row.before) (kind_of c.args.kind) xs (omega arith) (sym c.is_parted.ensures ∙ c.if-is_parted.false))

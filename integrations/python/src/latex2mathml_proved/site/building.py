@@ -10,7 +10,7 @@ from latex2mathml_proved.site.pages import Fault, Options, convert
 from latex2mathml_proved.site.processes import CHUNK, results
 from latex2mathml_proved.site.record import Known, Record
 from latex2mathml_proved.site.writing import (
-    Signature, check_writable, copy_file, make_link, remove_leftovers, replace, signature, write_beside)
+    Signature, check_writable, copy_file, make_link, remove_leftovers, replace, replace_unchanged, signature, write_beside)
 
 # How many pages are worth a second process.
 FEW = 32
@@ -109,7 +109,7 @@ class _Run:
         self._report = report
         self._progress = progress
         self._record = Record(plan.target or plan.source, plan.options)
-        self._waiting: List[Tuple[Copy, Outcome]] = []
+        self._waiting: List[Tuple[Copy, str, Signature]] = []
         self._errors = 0
         self._changed = 0
         self._formulas = 0
@@ -131,9 +131,9 @@ class _Run:
                 self._progress(number, len(pages))
                 self._take(page, Outcome(faults=known.faults, signatures=(known.source, known.target)) if known else next(outcomes))
         if plan.strict and (self._refused or self._errors):
-            for _, outcome in self._waiting:
+            for _, beside, _ in self._waiting:
                 with contextlib.suppress(OSError):
-                    os.unlink(outcome.beside)
+                    os.unlink(beside)
         return self._summary()
 
     def finish(self, summary: Summary) -> Summary:
@@ -142,12 +142,12 @@ class _Run:
             return summary
         waiting = iter(self._waiting)
         try:
-            for page, outcome in waiting:
-                self._try(page.target, lambda: replace(outcome.beside, page.target))
+            for page, beside, before in waiting:
+                self._changed -= not self._try(page.target, lambda: _put(page, beside, before))
         finally:
-            for _, outcome in waiting:
+            for _, beside, _ in waiting:
                 with contextlib.suppress(OSError):
-                    os.unlink(outcome.beside)
+                    os.unlink(beside)
         if self._plan.target:
             for other in self._site.others:
                 self._try(other.target, lambda: copy_file(*other))
@@ -166,19 +166,22 @@ class _Run:
         for fault in outcome.faults:
             place = f"{fault.line}:{fault.column}: " if fault.line else " "
             self._report(f"{shown(page.source)}:{place}{printable(fault.reason)}")
-        if outcome.beside:
-            self._waiting.append((page, outcome))
+        if outcome.beside and outcome.signatures:
+            self._waiting.append((page, outcome.beside, outcome.signatures[0]))
         if outcome.signatures:
             self._record.keep(page, Known(*outcome.signatures, outcome.faults))
         self._refused += len(outcome.faults)
         self._formulas += outcome.formulas
         self._changed += outcome.is_changed
 
-    def _try(self, path: str, step: Callable[[], object]) -> None:
+    def _try(self, path: str, step: Callable[[], object]) -> bool:
+        """Does a step, or says why it failed. Returns whether it was done."""
         try:
             step()
         except OSError as error:
             self._fail(f"{shown(path)}: {error.strerror}")
+            return False
+        return True
 
     def _fail(self, line: str) -> None:
         self._errors += 1
@@ -239,8 +242,16 @@ def _write_page(page: Copy, plan: Plan, status: os.stat_result, content: bytes, 
         after = signature(os.stat(beside))
     if plan.strict:
         return Outcome(True, signatures=(before, after), beside=beside)
-    replace(beside, page.target)
+    _put(page, beside, before)
     return Outcome(True, signatures=(before, after))
+
+
+def _put(page: Copy, beside: str, before: Signature) -> None:
+    """Puts what was made of a page in its place, unless that is a page which was written anew since it was read."""
+    if page.source == page.target:
+        replace_unchanged(beside, page.target, before)
+    else:
+        replace(beside, page.target)
 
 
 def _holds(path: str, content: bytes) -> bool:

@@ -100,7 +100,7 @@ def run(plan: Plan, is_quiet: bool = False) -> int:
         return WELL
     for line in lines:
         screen.report(line)
-    if plan.strict and not is_well:
+    if plan.strict and not is_well and not summary.changed:
         screen.report(f"{NAME}: nothing was changed")
     print(line_of(summary, plan, screen.seconds()), flush=True)
     return WELL if is_well else UNWELL

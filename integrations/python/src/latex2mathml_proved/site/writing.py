@@ -1,6 +1,7 @@
 """Writes files beside those that they replace, and renames them. So at each moment a file is the old one or the new one."""
 import contextlib
 import errno
+import functools
 import itertools
 import os
 import re
@@ -8,8 +9,9 @@ import shutil
 import stat
 from typing import Iterator, Optional, Tuple
 
-# The name of a file that is being written has the number of the process that writes it.
-_LEFTOVER = re.compile(r"\.latex2mathml-([0-9]+)-[0-9]+\.new")
+# The name of a file that is being written has the number of the process that writes it, and when that began: a later process may get
+# the same number.
+_LEFTOVER = re.compile(r"\.latex2mathml-([0-9]+)-([0-9]+)-[0-9]+\.new")
 
 _numbers = itertools.count()
 
@@ -27,19 +29,37 @@ def remove_leftovers(folder: str, own: bool = False) -> None:
     with contextlib.suppress(OSError), os.scandir(folder) as listed:
         for entry in listed:
             written = _LEFTOVER.fullmatch(entry.name)
-            if written and (own and int(written[1]) == os.getpid() or not _is_alive(int(written[1]))):
+            if written and (own and int(written[1]) == os.getpid() or not _is_alive(int(written[1]), written[2])):
                 with contextlib.suppress(OSError):
                     os.unlink(entry.path)
 
 
-def _is_alive(process: int) -> bool:
+def _is_alive(process: int, began: str) -> bool:
+    """Whether the process of this number is there, and is the one that began then."""
     try:
         os.kill(process, 0)
     except (ProcessLookupError, OverflowError):
         return False
     except PermissionError:
-        return True
-    return True
+        pass
+    return _beginning(process) == began
+
+
+def _beginning(process: int) -> str:
+    """When a process began, in ticks since the system did, as Linux tells it; 0 where nothing is told.
+
+    The text is empty for one that has ended, and is still listed because no other asked how.
+    """
+    with contextlib.suppress(OSError), open(f"/proc/{process}/stat", "rb") as file:
+        # the name of the program stands in parentheses, and may have spaces
+        words = file.read().rpartition(b")")[2].split()
+        return "" if words[0] in (b"Z", b"X") else words[19].decode()
+    return "0"
+
+
+@functools.lru_cache(maxsize=1)
+def _own_beginning(process: int) -> str:
+    return _beginning(process)
 
 
 def signature(status: os.stat_result) -> Signature:
@@ -74,6 +94,14 @@ def replace(beside: str, path: str) -> None:
         raise
 
 
+def replace_unchanged(beside: str, path: str, before: Signature) -> None:
+    """The same, where the file that is replaced must still be the one that was read. Otherwise it stays as it is."""
+    if signature(os.stat(path)) != before:
+        os.unlink(beside)
+        raise OSError(errno.EBUSY, "changed while it was converted: left as it is", path)
+    replace(beside, path)
+
+
 def check_writable(path: str) -> None:
     """Raises `PermissionError` if a file may only be read. A file can be replaced all the same, which its owner does not expect."""
     if not os.access(path, os.W_OK):
@@ -105,10 +133,14 @@ def make_link(path: str, text: str) -> bool:
     return True
 
 
+def _name_beside(process: int) -> str:
+    return f".latex2mathml-{process}-{_own_beginning(process)}-{next(_numbers)}.new"
+
+
 @contextlib.contextmanager
 def _beside(path: str) -> Iterator[str]:
     """The path of a file to be written, which is removed if the block raises an error."""
-    beside = os.path.join(os.path.dirname(path), f".latex2mathml-{os.getpid()}-{next(_numbers)}.new")
+    beside = os.path.join(os.path.dirname(path), _name_beside(os.getpid()))
     try:
         yield beside
     except BaseException:

@@ -1,7 +1,11 @@
-use Rattle.std.proofs.Common.{◌≡◌, drop, map}
-use Rattle.latex2mathml_tex_grammar.specs.UsualMacros.{entry_macro}
-use Rattle.latex2mathml_tex.specs.Bodies.{entry_of}
+-- The entries that are left decide the look-up, and their number falls.
+use Rattle.std.proofs.Common.{length}
+use Rattle.latex2mathml_tex.specs.Bodies.{named_entry}
+use Rattle.latex2mathml_tex.proofs.Lookups.{Narrowed, its_macro}
 use Rattle.latex2mathml_tex.proofs.macros.usual.find.Given as goal
 
-abbrev pub invariant-loop-entry : goal.invariant-loop-entry
-invariant-loop-entry l = entry_macro (map entry_of (drop l.entry-index l.table)) l.name ≡ entry_macro (map entry_of l.table) l.name
+abbrev pub invariant-loop-entries : goal.invariant-loop-entries
+invariant-loop-entries l = Narrowed its_macro named_entry l.table l.entries l.name
+
+abbrev pub decreases-loop-entries : goal.decreases-loop-entries
+decreases-loop-entries l = length l.entries

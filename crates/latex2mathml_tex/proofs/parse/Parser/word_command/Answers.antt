@@ -2,13 +2,15 @@ use Rattle.std.proofs.Common.{◌≡◌, ◌≤◌, ◌∙◌, None, Option, Som
 use Rattle.latex2mathml_tex_grammar.specs.Makes
 use Rattle.latex2mathml_tex_grammar.specs.Refusal.{UnknownCommand, refusal_at}
 use Rattle.latex2mathml_tex_grammar.specs.{Dots.low_dots, Rows.single, Symbols.Alphabet, Symbols.InText, Units.Command}
-use Rattle.latex2mathml_tex_grammar.specs.Words.{Formula, Shown, word_space}
+use Rattle.latex2mathml_tex_grammar.specs.Words.{Formula, Nothing, Shown, word_space}
 use Rattle.latex2mathml_tex.specs.{Errors.refusal_of, Left.unit_count, Left.units_at, Steps.left_of}
 use Rattle.latex2mathml_tex.specs.Meanings
 use Rattle.latex2mathml_tex.specs.Meanings.{alphabet_of, symbol_of}
+use Rattle.latex2mathml_tex.specs.declared.meaning.Change.TheVariants as code_change
+use Rattle.latex2mathml_tex.specs.declared.meaning.Meaning.TheVariants as code_meaning
 use Rattle.latex2mathml_tex.proofs.Nexts.{no_more_past_space}
-use Rattle.latex2mathml_tex.proofs.WordRules.{IsNoWord, command_meant, command_refused, command_step, character_shown, not_in_words, unknown}
-use Rattle.latex2mathml_tex.proofs.Wording.{in_alphabet_due, no_part, stands}
+use Rattle.latex2mathml_tex.proofs.WordRules.{IsNoWord, command_meant, command_refused, command_step, character_shown, not_in_words, other_change, unknown}
+use Rattle.latex2mathml_tex.proofs.Wording.{in_alphabet_due, no_part, stands, words_stay}
 use Rattle.latex2mathml_tex.proofs.parse.Parser.word_command.Goals as goal
 
 pub returns-in-Some-clause-holds : goal.returns-in-Some-clause-holds
@@ -60,12 +62,34 @@ returns-in-Words-clause-step c =
 pub returns-in_default-meaning : goal.returns-in_default-meaning
 returns-in_default-meaning c =
     let p = c.args.self.now in
+    let q = c.refuse_command-in_default-meaning.new.self in
+    let a : Option Alphabet = option_map alphabet_of c.args.alphabet in
+    let name = c.args.name.now in
+    let says = c.refuse_command-in_default-meaning.ensures in
+    let other = c.in_default-meaning in
+    let none : IsNoWord c.in-Some-look_up.meaning = record { no_sign = other.not-Shows; no_dots = other.not-Dots; no_space = other.not-Spacing; no_words = other.not-Words; no_alphabet = λ b e. other.not-Changes (code_change.ToAlphabet b) e } in
+    let rule = not_in_words a name (sym c.in_default.ensures) c.in-Some-look_up.meaning c.in-Some-look_up.ensures none in
+    record {
+      holds = λ s g. command_refused p q says.parser s c.args.words name c.args.place a c.refuse_command-in_default-meaning.result says.state says.refusal rule g;
+      step = command_step p q says.parser c.args.words.count c.refuse_command-in_default-meaning.result says.state c.requires.elements;
+    }
+
+pub returns-in-ToAlphabet-clause-holds : goal.returns-in-ToAlphabet-clause-holds
+returns-in-ToAlphabet-clause-holds c = λ s g.
+    let a : Option Alphabet = option_map alphabet_of c.args.alphabet in
+    let name = c.args.name.now in
+    let is = c.in-Changes.is ∙ ap code_meaning.Changes c.in-ToAlphabet.is in
+    let meant = c.in-Some-look_up.ensures ∙ ap (λ m. Some (Meanings.meaning_of m)) is in
+    words_stay s c.args.self.now c.args.words (stands s c.args.self.now c.args.words (Command name) c.args.place a Nothing (command_meant a name (sym c.in_default.ensures) _ meant) g)
+
+pub returns-in_default-change : goal.returns-in_default-change
+returns-in_default-change c =
+    let p = c.args.self.now in
     let q = c.refuse_command.new.self in
     let a : Option Alphabet = option_map alphabet_of c.args.alphabet in
     let name = c.args.name.now in
     let says = c.refuse_command.ensures in
-    let other = c.in_default-meaning in
-    let none : IsNoWord c.in-Some-look_up.meaning = record { no_sign = other.not-Shows; no_dots = other.not-Dots; no_space = other.not-Spacing; no_words = other.not-Words } in
+    let none = other_change c.in-Some-look_up.meaning c.in-Changes.change c.in-Changes.is c.in_default-change.not-ToAlphabet in
     let rule = not_in_words a name (sym c.in_default.ensures) c.in-Some-look_up.meaning c.in-Some-look_up.ensures none in
     record {
       holds = λ s g. command_refused p q says.parser s c.args.words name c.args.place a c.refuse_command.result says.state says.refusal rule g;

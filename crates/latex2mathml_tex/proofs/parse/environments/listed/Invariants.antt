@@ -3,7 +3,7 @@ use Rattle.std.proofs.Common.{◌≡◌, ◌≤◌, take}
 use Rattle.latex2mathml_elements.specs.Columns.{Listed}
 use Rattle.latex2mathml_builder.specs.Columns as builder
 use Rattle.latex2mathml_tex_grammar.specs.Environments.{columns_of}
-use Rattle.latex2mathml_tex.proofs.parse.tables.listed.Given as goal
+use Rattle.latex2mathml_tex.proofs.parse.environments.listed.Given as goal
 
 abbrev pub invariant-letters : goal.invariant-letters
 invariant-letters l = record {

@@ -1,0 +1,239 @@
+//! Environments: how they begin.
+ghost use Rattle.std.specs.Prelude.{◌≡◌, MatchOption, Some, false, length, true, nat_le};
+ghost use Rattle.latex2mathml_builder.specs.{Columns.column_of, Columns.columns_of};
+ghost use Rattle.latex2mathml_elements.specs.Columns.{Listed};
+ghost use Rattle.latex2mathml_tex_grammar.specs.Environments;
+ghost use Rattle.latex2mathml_tex_grammar.specs.{Meaning.BeginTable};
+ghost use Rattle.latex2mathml_tex_grammar.specs.Scanning.{BeforeArgument, ColumnList, Number};
+ghost use Rattle.latex2mathml_tex_grammar.specs.Rules.{alignment_rule, argument_rule, environment_rule, listed_rule, meaning_rule, most_columns, rows_rule, takes_found};
+ghost use Rattle.latex2mathml_tex.specs.{Models.context_of, Scans.argument_of, Tables.environment_of};
+ghost use Rattle.latex2mathml_tex.specs.Steps.{BeginsIn, CanBegin, Advances, LeadsOn};
+
+use crate::atoms::Context;
+use crate::environments;
+use crate::environments::{Bracket, Environment};
+use crate::error::TexErrorKind;
+use crate::parse::frames::{Table, TableKind};
+use crate::parse::{Parser, State};
+use crate::scanning::{Argument, Spot};
+use latex2mathml_builder::columns::{Column, Columns};
+use std::alloc::AllocError;
+
+impl<'a> Parser<'a> {
+    /// Begins the table whose name stands next.
+    pub(crate) fn begin_table(
+        &mut self,
+        place: usize,
+        context: Context,
+    ) -> Result<State, AllocError>
+        requires begin { CanBegin 0 self.old }
+        ensures holds { LeadsOn
+            (BeginsIn context (meaning_rule place (context_of context) BeginTable) 0)
+            self.old self.new result }
+        ensures step { Advances 13 self.old self.new result }
+    {
+        let spot = Spot::BeforeArgument(Argument::Name);
+        let Some(name) = self.take_text(place, spot)? else {
+            return Ok(State::Refused);
+        };
+        let Some(environment) = environments::look_up(name.as_str()) else {
+            return Ok(self.refuse(TexErrorKind::UnknownEnvironment(name), place));
+        };
+        self.begin_placed(environment, place, context)
+    }
+
+    /// Begins an environment, behind its name.
+    fn begin_placed(
+        &mut self,
+        environment: &'static Environment,
+        place: usize,
+        context: Context,
+    ) -> Result<State, AllocError>
+        requires begin { CanBegin 0 self.old }
+        ensures holds { LeadsOn
+            (BeginsIn context (environment_rule place (context_of context) environment.now.name.now
+            (Some (environment_of environment.now))) 0)
+            self.old self.new result }
+        ensures step { Advances 13 self.old self.new result }
+    {
+        match environment.bracket {
+            Bracket::Nothing => self.begin_environment(environment, place, context),
+            Bracket::Position => {
+                self.input.pass(self.alloc, Spot::BeforePosition)?;
+                self.begin_environment(environment, place, context)
+            }
+            Bracket::Alignment => self.begin_aligned(environment, place, context),
+        }
+    }
+
+    /// Begins an environment of columns in which a letter in brackets may say where cells stand.
+    fn begin_aligned(
+        &mut self,
+        environment: &'static Environment,
+        place: usize,
+        context: Context,
+    ) -> Result<State, AllocError>
+        requires begin { CanBegin 0 self.old }
+        ensures holds { LeadsOn
+            (BeginsIn context (alignment_rule place (context_of context) environment.now.name.now
+            (environment_of environment.now)) 0)
+            self.old self.new result }
+        ensures step { Advances 13 self.old self.new result }
+    {
+        if self.input.take_in_brackets('l') {
+            let columns = Columns::alike(Column::LeftAligned);
+            return self.begin_rows(environment, columns, place, context);
+        }
+        if self.input.take_in_brackets('c') {
+            let columns = Columns::alike(Column::Centered);
+            return self.begin_rows(environment, columns, place, context);
+        }
+        if self.input.take_in_brackets('r') {
+            let columns = Columns::alike(Column::RightAligned);
+            return self.begin_rows(environment, columns, place, context);
+        }
+        self.begin_rows(environment, environment.layout.columns(), place, context)
+    }
+
+    /// Begins an environment, behind its name and the letter that says how it stands in its line.
+    fn begin_environment(
+        &mut self,
+        environment: &'static Environment,
+        place: usize,
+        context: Context,
+    ) -> Result<State, AllocError>
+        requires begin { CanBegin 0 self.old }
+        ensures holds { LeadsOn
+            (BeginsIn context (argument_rule place (context_of context) environment.now.name.now
+            (environment_of environment.now) (environment_of environment.now).argument) 0)
+            self.old self.new result }
+        ensures step { Advances 13 self.old self.new result }
+    {
+        match environment.argument {
+            Some(argument) => self.begin_argument(argument, environment, place, context),
+            None => self.begin_rows(environment, environment.layout.columns(), place, context),
+        }
+    }
+
+    /// Begins an environment that takes this argument.
+    fn begin_argument(
+        &mut self,
+        argument: Argument,
+        environment: &'static Environment,
+        place: usize,
+        context: Context,
+    ) -> Result<State, AllocError>
+        requires begin { CanBegin 0 self.old }
+        ensures holds { LeadsOn
+            (BeginsIn context (argument_rule place (context_of context) environment.now.name.now
+            (environment_of environment.now) (Some (argument_of argument))) 0)
+            self.old self.new result }
+        ensures step { Advances 13 self.old self.new result }
+    {
+        match argument {
+            Argument::ColumnList => self.begin_listed(environment, place, context),
+            Argument::Number => self.begin_numbered(environment, place, context),
+            Argument::Name | Argument::ColorName => {
+                self.begin_rows(environment, environment.layout.columns(), place, context)
+            }
+        }
+    }
+
+    /// Begins an environment behind whose name a number stands, which means nothing.
+    fn begin_numbered(
+        &mut self,
+        environment: &'static Environment,
+        place: usize,
+        context: Context,
+    ) -> Result<State, AllocError>
+        requires begin { CanBegin 0 self.old }
+        ensures holds { LeadsOn
+            (BeginsIn context (takes_found (BeforeArgument Number) place
+            (λ number. rows_rule place (context_of context) environment.now.name.now
+            (environment_of environment.now) (environment_of environment.now).columns)) 0)
+            self.old self.new result }
+        ensures step { Advances 13 self.old self.new result }
+    {
+        let spot = Spot::BeforeArgument(Argument::Number);
+        let Some(_number) = self.take_text(place, spot)? else {
+            return Ok(State::Refused);
+        };
+        self.begin_rows(environment, environment.layout.columns(), place, context)
+    }
+
+    /// Begins an environment whose columns stand next.
+    fn begin_listed(
+        &mut self,
+        environment: &'static Environment,
+        place: usize,
+        context: Context,
+    ) -> Result<State, AllocError>
+        requires begin { CanBegin 0 self.old }
+        ensures holds { LeadsOn
+            (BeginsIn context (takes_found (BeforeArgument ColumnList) place
+            (λ letters. listed_rule place (context_of context) environment.now.name.now
+            (environment_of environment.now) letters)) 0)
+            self.old self.new result }
+        ensures step { Advances 13 self.old self.new result }
+    {
+        let spot = Spot::BeforeArgument(Argument::ColumnList);
+        let Some(letters) = self.take_text(place, spot)? else {
+            return Ok(State::Refused);
+        };
+        let Some(columns) = listed(letters.as_str()) else {
+            return Ok(self.refuse(TexErrorKind::TooManyColumns, place));
+        };
+        self.begin_rows(environment, columns, place, context)
+    }
+
+    /// Begins the rows of an environment.
+    fn begin_rows(
+        &mut self,
+        environment: &'static Environment,
+        columns: Columns,
+        place: usize,
+        context: Context,
+    ) -> Result<State, AllocError>
+        requires begin { CanBegin 0 self.old }
+        ensures holds { LeadsOn
+            (BeginsIn context (rows_rule place (context_of context) environment.now.name.now
+            (environment_of environment.now) (columns_of columns)) 0)
+            self.old self.new result }
+        ensures step { Advances 12 self.old self.new result }
+    {
+        self.input.pass(self.alloc, Spot::BeforeRow)?;
+        let table = Table {
+            kind: TableKind::Environment(environment),
+            columns,
+            rows: 0,
+            cells: 0,
+        };
+        self.begin_cell(table, place)
+    }
+}
+
+/// The column that a letter says.
+fn column(letter: u8) -> Column
+    ensures { column_of result ≡ Environments.column_of letter }
+{
+    match letter {
+        b'l' => Column::LeftAligned,
+        b'r' => Column::RightAligned,
+        _ => Column::Centered,
+    }
+}
+
+/// The columns that these letters say, unless there are too many.
+fn listed(letters: &str) -> Option<Columns>
+    ensures { MatchOption result (nat_le (length letters.now) most_columns ≡ false)
+        (λ columns. (nat_le (length letters.now) most_columns ≡ true)
+        × (columns_of columns ≡ Listed (Environments.columns_of letters.now))) }
+{
+    let mut columns = Columns::none();
+    'letters: for &letter in letters.as_bytes() {
+        if !columns.push(column(letter)) {
+            return None;
+        }
+    }
+    Some(columns)
+}
