@@ -10,7 +10,6 @@ import contextlib
 import filecmp
 import json
 import os
-import pathlib
 import re
 import resource
 import shutil

@@ -5,11 +5,9 @@ import enum
 import functools
 import os.path
 import re
-import unittest
 
-from tests.support import c_library, program, run
-
-ERROR = b"LaTeX2MathML Error: "
+from tests.support import Case, c_library, program, run
+from tests.texts import ERROR, NO_TEXT
 
 # The most characters of an input or of a difference that a failure shows.
 LIMIT = 2000
@@ -34,7 +32,7 @@ def by_program(word, given):
         return Code.DONE, markup
     reason = done.stderr.removeprefix(ERROR).removesuffix(b"\n")
     if done.returncode == 1 and not done.stdout and done.stderr == ERROR + reason + b"\n":
-        return Code.NOT_UTF8 if reason == b"The input is not UTF-8 text." else Code.REFUSED, reason
+        return Code.NOT_UTF8 if reason == NO_TEXT.encode() else Code.REFUSED, reason
     return f"status {done.returncode}", b"standard output: " + done.stdout + b"\nstandard error: " + done.stderr
 
 
@@ -56,11 +54,11 @@ def by_library(word, given):
     return answer_of(library().latex2mathml_formula, [given, len(given), word == "block"])
 
 
-def tex_by_library(word, given, definitions=b""):
+def tex_by_library(word, given):
     """The same for LaTeX as authors write it, and the place of what is refused."""
     place = ctypes.c_size_t(1)
-    texts = [definitions, len(definitions), given, len(given)]
-    code, text = answer_of(library().latex2mathml_tex, [*texts, word == "block", 0], ctypes.byref(place))
+    words = [b"", 0, given, len(given), word == "block", 0]
+    code, text = answer_of(library().latex2mathml_tex, words, ctypes.byref(place))
     return code, text, place.value
 
 
@@ -98,7 +96,7 @@ def show(given):
     return text if len(text) <= LIMIT else f"{text[:LIMIT]}.. ({len(given)} bytes)"
 
 
-class AnswerCase(unittest.TestCase):
+class AnswerCase(Case):
     """A case: an input and the expected result."""
 
     def comes_to(self, place, word, given, code, wanted):

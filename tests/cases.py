@@ -6,6 +6,7 @@ import unicodedata
 from dataclasses import dataclass
 
 from tests.support import ROOT
+from tests.texts import math
 
 CASES = ROOT / "cases"
 
@@ -13,11 +14,7 @@ ESCAPE = re.compile(r'\[(?:U\+(?P<code>[0-9A-F]{4,6})|byte (?P<byte>[0-9A-F]{2})
 PLACE = "[place]"
 COLUMNS = re.compile(r" {2,}")
 
-MATH = '<math xmlns="http://www.w3.org/1998/Math/MathML" display="{}">'
-TAGS = {
-    b"<inline>": MATH.format("inline").encode(), b"</inline>": b"</math>",
-    b"<block>": MATH.format("block").encode(), b"</block>": b"</math>",
-}
+TAGS = {f"<{display}>".encode(): math("", display).removesuffix(b"</math>") for display in ("inline", "block")}
 
 
 class WrongCase(ValueError):
@@ -65,7 +62,7 @@ class Case:
     @property
     def document_answer(self):
         """The result, with whole tags in place of the short ones."""
-        return re.sub(rb"</?(?:inline|block)>", lambda tag: TAGS[tag[0]], self.answer)
+        return re.sub(rb"</?(?:inline|block)>", lambda tag: TAGS.get(tag[0], b"</math>"), self.answer)
 
     def with_space(self, number, space):
         """The formula of white_space.txt with this space at the place of this number, and at no other."""
@@ -194,11 +191,6 @@ TABLES = {"commands.txt": ("test_commands.Entries", commands)}
 def every_rule():
     """Each rule of the grammar once: pairs of a formula and the contents of its `math` element, as text."""
     return [(case.input.decode(), case.answer.decode()) for case in read("formulas/every_rule.txt")]
-
-
-def math(display, contents):
-    """The `math` element with these contents, as bytes. The display is `inline` or `block`."""
-    return MATH.format(display).encode() + contents + b"</math>"
 
 
 def test_name(word):

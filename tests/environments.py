@@ -66,9 +66,11 @@ def run_python(python, *words, **more):
     return run([python, *words], env={**kept, "PYTHONWARNINGS": "ignore::DeprecationWarning"}, **{"cwd": run_folder(), **more})
 
 
-def ask(python, script, question, **more):
-    """What a script answers as JSON on standard output, to a question that it reads as JSON."""
-    done = run_python(python, "-c", script, stdin=json.dumps(question).encode(), **more)
+def ask(python, script, *questions, **more):
+    """What the function `answer` of a script answers to each question: a list of its arguments, or its only one."""
+    questions = json.dumps([it if isinstance(it, list) else [it] for it in questions])
+    whole = f"{script}\nimport json, sys\nprint(json.dumps([answer(*it) for it in json.load(sys.stdin)]))"
+    done = run_python(python, "-c", whole, stdin=questions.encode(), **more)
     if done.returncode:
         raise AssertionError(f"the script ended with status {done.returncode}:\n{done.stderr.decode()}")
     return json.loads(done.stdout)

@@ -1,6 +1,4 @@
 """Programs whose calls of the C library fail or are counted, by preloading `faults.c` or `counts.c`."""
-import atexit
-import contextlib
 import dataclasses
 import functools
 import os
@@ -9,29 +7,22 @@ import shutil
 
 from tests import support
 
-ERROR = b"LaTeX2MathML Error: "
-START = '<math xmlns="http://www.w3.org/1998/Math/MathML" display="{}">'
 # beyond any call
 ALL = 10**9
 
 
-def math(contents, display="inline"):
-    """The `math` element with these contents, as bytes."""
-    return f"{START.format(display)}{contents}</math>".encode()
-
-
-X = math("<mi>x</mi>")
+@functools.cache
+def public_folder():
+    """A folder of this process that another user may read, because a case may run as one."""
+    folder = support.kept_folder()
+    folder.chmod(0o755)
+    return folder
 
 
 @functools.cache
 def library(name):
-    """The path of `tests/NAME.c` as a library, which is built once per run."""
-    keeping = contextlib.ExitStack()
-    atexit.register(keeping.close)
-    folder = keeping.enter_context(support.scratch())
-    # others may load it, because a case may run as another user
-    folder.chmod(0o755)
-    built = folder / f"{name}.so"
+    """The path of `tests/NAME.c` as a library, which is built once per process."""
+    built = public_folder() / f"{name}.so"
     done = support.run(["cc", "-O2", "-Wall", "-shared", "-fPIC", "-o", built, support.ROOT / f"tests/{name}.c", "-ldl"])
     if done.returncode:
         raise RuntimeError(done.stderr.decode(errors="replace"))
@@ -49,11 +40,7 @@ def preload(*names):
 @functools.cache
 def program():
     """The path of a copy of the program that another user may run."""
-    keeping = contextlib.ExitStack()
-    atexit.register(keeping.close)
-    folder = keeping.enter_context(support.scratch())
-    folder.chmod(0o755)
-    copy = pathlib.Path(shutil.copy(support.program(), folder / "latex2mathml"))
+    copy = pathlib.Path(shutil.copy(support.program(), public_folder() / "latex2mathml"))
     copy.chmod(0o755)
     return copy
 
@@ -97,23 +84,33 @@ def run_with(words, *, fault=None, marked=False, step=None, errors=None, command
     """
     with support.scratch() as folder:
         report = folder / "report"
-        told = {**preload("faults"), "FAULT_REPORT": str(report)}
-        if fault:
-            told["FAULT"] = str(fault)
-        if marked:
-            told["FAULT_MARKED"] = "1"
-        if step:
-            told["FAULT_STEP"] = str(step)
-        if errors is not None:
-            told["FAULT_ERRORS"] = str(errors)
+        told = {"FAULT_REPORT": report, "FAULT": fault, "FAULT_MARKED": 1 if marked else None, "FAULT_STEP": step,
+                "FAULT_ERRORS": errors, "COUNTS": counts}
         if counts:
             counts.unlink(missing_ok=True)
-            told |= {**preload("faults", "counts"), "COUNTS": str(counts)}
         if command:
-            told |= {"FAULT_PATH": command.path, "FAULT_TIME": str(command.time), "FAULT_RUN": command.text}
-        done = support.run(words, stdin=stdin, timeout=timeout, env=os.environ | told, **more)
+            told |= {"FAULT_PATH": command.path, "FAULT_TIME": command.time, "FAULT_RUN": command.text}
+        environment = os.environ | preload("faults", *(["counts"] if counts else []))
+        environment |= {name: str(value) for name, value in told.items() if value is not None}
+        done = support.run(words, stdin=stdin, timeout=timeout, env=environment, **more)
         failed = report.read_text().split() if report.exists() else []
     return done, failed
+
+
+class OneByteAtATime(support.Case):
+    """Programs whose calls move one byte each."""
+
+    def fails_at_each(self, kind, number, calls, words, given, answer, due, left=None):
+        """Each of so many calls of a kind fails in turn with this error number, and one more that is not made. The
+        answer is due if none fails, and otherwise what `due` says of the failing call: the status and the streams.
+        `left` says how much is not read then."""
+        for call in range(1, calls + 2):
+            with self.subTest(words=words[1:], given=given, error=number, call=call), open_input(given) as source:
+                done, failed = run_with(words, stdin=source, fault=Fault(kind, call, call, number), step=1)
+                self.assertEqual(bool(failed), call <= calls)
+                self.expect(done, *(due(call) if failed else (0, answer)))
+                if left and failed:
+                    self.assertEqual(len(source.read()), left(call))
 
 
 def counts_of(words, *, stdin=b"", timeout=60, **more):

@@ -1,8 +1,5 @@
-"""Results and refusals of the programs, for the tests of the integrations."""
+"""Results of the programs, for the tests of the integrations."""
 from tests.support import program, run, tex_program
-
-# Why `latex2mathml` refuses `{x`.
-UNCLOSED = 'The token "RBrace" is expected, but the token "EOF" is found."'
 
 
 def answer_of(latex, word="inline"):

@@ -1,24 +1,10 @@
 """Random formulas, as strategies of hypothesis."""
-import re
-
 from hypothesis import strategies as st
 
-from tests.support import ROOT
-
-COMMANDS = ROOT / "crates/latex2mathml_tokens/specs/Commands.antt"
+from tests.command_table import in_the_definitions
 
 # characters that XML allows, some of them hostile
 CHARACTERS = list("abcxyzABC0123456789.+-*/=,;:!?|()[]{}<>&\"'~@%$^_# \t\n") + list("é∂∑−⟨⟩字ℝ𝔸😀\u0338")
-
-
-def command_names():
-    """The names of the command table."""
-    found = re.findall(r'^\s*\((?:codes )?"((?:[^"\\]|\\.)*)",', COMMANDS.read_text(encoding="utf-8"), re.MULTILINE)
-    names = {re.sub(r"\\(.)", r"\1", name) for name in found}
-    if len(names) < 400:
-        raise ValueError(f"{COMMANDS} has {len(names)} names that can be read")
-    # the backslash itself may be written by its code
-    return sorted(names | {"\\"})
 
 
 def joined(parts, most):
@@ -50,7 +36,7 @@ def longer(inner):
 
 def formulas():
     """Formulas: most are built as one would write them, some are noise."""
-    command = st.sampled_from(command_names()).map(lambda name: "\\" + name + (" " if name[-1].isalpha() else ""))
+    command = st.sampled_from(sorted(in_the_definitions())).map(lambda name: "\\" + name + (" " if name[-1].isalpha() else ""))
     sizes = st.builds("\\big{}{}".format, st.sampled_from("lr"), st.sampled_from("()[]|"))
     words = around("", st.builds("{}{{{}".format, st.sampled_from(["\\text", "\\operatorname"]), st.sampled_from(["abc", "a<b & c", "if "])))
     noise = joined(st.one_of(st.sampled_from(CHARACTERS), command), 11)

@@ -4,17 +4,10 @@ import os
 from tests.environments import ask, environment, run_python
 from tests.support import run_folder
 
-# Converts formulas by the calls of the package.
-TEX = """
-import json, sys
-import latex2mathml_proved
-print(json.dumps([latex2mathml_proved.tex(*words) for words in json.load(sys.stdin)]))
-"""
-
 
 def tex(*formulas):
     """The markup of each formula, which is a text, or a list of the arguments of `latex2mathml_proved.tex`."""
-    answers = ask(environment(), TEX, [[it] if isinstance(it, str) else it for it in formulas])
+    answers = ask(environment(), "from latex2mathml_proved import tex as answer", *formulas)
     assert all(it.startswith("<math ") for it in answers), f"a formula has no markup: {answers}"
     return answers
 
@@ -30,7 +23,6 @@ def command(*words):
     return [environment(), "-m", "latex2mathml_proved", "site", *words]
 
 
-def site(*words, cwd, modules=(), **more):
+def site(*words, cwd, **more):
     """Runs the command in a folder."""
-    keep_caches_here()
-    return run_python(environment(*modules), "-m", "latex2mathml_proved", "site", *words, cwd=cwd, **{"timeout": 300, **more})
+    return run_python(*command(*words), cwd=cwd, **{"timeout": 300, **more})

@@ -1,15 +1,19 @@
 """What all modules of the tests share: where things are, running a program, and skipping a case whose tool is missing."""
 import atexit
 import contextlib
+import dataclasses
 import fcntl
 import functools
 import importlib.util
 import os
 import pathlib
+import re
 import resource
 import shutil
+import signal
 import subprocess
 import tempfile
+import time
 import unittest
 
 ROOT = pathlib.Path(__file__).resolve().parent.parent
@@ -34,6 +38,9 @@ QUOTA = pathlib.Path("/sys/fs/cgroup/cpu.max")
 
 # The most bytes of a stream that a failure shows.
 SHOWN = 2000
+
+# The user that no file belongs to.
+NOBODY = 65534
 
 
 @functools.cache
@@ -72,11 +79,15 @@ def c_library():
 @functools.cache
 def run_folder():
     """The folder that all processes of a run share: that of `./test`, or otherwise one of this process."""
-    if RUN in os.environ:
-        return pathlib.Path(os.environ[RUN])
+    return pathlib.Path(os.environ[RUN]) if RUN in os.environ else kept_folder()
+
+
+def kept_folder():
+    """A folder that lasts as long as this process."""
     keeping = contextlib.ExitStack()
+    folder = keeping.enter_context(scratch())
     atexit.register(keeping.close)
-    return keeping.enter_context(scratch())
+    return folder
 
 
 @contextlib.contextmanager
@@ -92,6 +103,11 @@ def kit():
     """The folder of the Rattle toolchain."""
     done = subprocess.run(["rt", "doc"], stdin=subprocess.DEVNULL, stdout=subprocess.PIPE, check=True, timeout=60)
     return pathlib.Path(os.fsdecode(done.stdout).strip()).parent
+
+
+def newest_version():
+    """The version of the newest heading of the change log."""
+    return re.search(r"^## (\d+\.\d+\.\d+)", (ROOT / "CHANGELOG.md").read_text(encoding="utf-8"), re.MULTILINE)[1]
 
 
 def processors():
@@ -116,33 +132,54 @@ def run(words, *, stdin=b"", timeout=60, **more):
     return subprocess.run([os.fspath(word) for word in words], timeout=timeout, **given, **more)
 
 
-def limit_processor(seconds):
-    """A `preexec_fn` for `run`: it ends a command that takes more than these seconds of a processor, however busy the machine is."""
-    return lambda: resource.setrlimit(resource.RLIMIT_CPU, (seconds, seconds))
+def limit(**most):
+    """A `preexec_fn` for `run` that sets limits by their names, as in `limit(STACK=8 << 20)`. `CPU` ends a command that
+    takes more seconds of a processor, however busy the machine is."""
+    limits = [(getattr(resource, f"RLIMIT_{name}"), (value, value)) for name, value in most.items()]
+    return lambda: [resource.setrlimit(*it) for it in limits]
+
+
+def hear_signals():
+    """A `preexec_fn`: what a shell runs in the background ignores an interruption, and so would all that it begins."""
+    for number in (signal.SIGINT, signal.SIGTERM, signal.SIGHUP):
+        signal.signal(number, signal.SIG_DFL)
+
+
+def as_nobody(folder):
+    """What `run` is told so that there are files that a command may not open. If this user may open everything, as root
+    may, another user runs it, to whom the folder is given."""
+    if os.geteuid():
+        return {}
+    for path in (folder, *folder.rglob("*")):
+        os.chown(path, NOBODY, NOBODY)
+    return {"user": NOBODY, "group": NOBODY, "extra_groups": []}
+
+
+def read_terminal(terminal):
+    """All that a terminal shows until it is closed. The system hands it on in pieces, and tells the end by an error."""
+    shown = b""
+    with open(terminal, "rb", buffering=0) as screen, contextlib.suppress(OSError):
+        while part := screen.read(1 << 16):
+            shown += part
+    return shown.decode()
+
+
+def put(folder, texts):
+    """Writes texts or bytes to files below a folder, by their names. What begins with `#!` can be run."""
+    for name, text in texts.items():
+        path, held = folder / os.fsdecode(name), text if isinstance(text, bytes) else text.encode()
+        path.parent.mkdir(parents=True, exist_ok=True)
+        path.write_bytes(held)
+        if held.startswith(b"#!"):
+            path.chmod(0o755)
 
 
 @contextlib.contextmanager
 def scratch():
-    """A folder for the time of a `with`, as a `pathlib.Path`; removed afterwards, whatever rights are left in it.
-
-    In a case, `self.enterContext(scratch())` gives one that lasts as long as the case.
-    """
-    folder = pathlib.Path(tempfile.mkdtemp(prefix="latex2mathml-"))
-    try:
-        yield folder
-    finally:
-        for path, inner, _ in os.walk(folder):
-            for name in inner:
-                # what was ended, as a browser, may still be tidying up
-                with contextlib.suppress(FileNotFoundError):
-                    if not os.path.islink(os.path.join(path, name)):
-                        os.chmod(os.path.join(path, name), 0o700)
-        shutil.rmtree(folder, ignore_errors=True)
-
-
-def missing_tools(*tools):
-    """Those of these tools and Python modules that are missing. A module is written `python:NAME`."""
-    return [tool for tool in tools if not is_there(tool)]
+    """A folder for the time of a `with`, as a `pathlib.Path`; removed afterwards, whatever rights are left in it."""
+    # what was ended, as a browser, may still be tidying up
+    with tempfile.TemporaryDirectory(prefix="latex2mathml-", ignore_cleanup_errors=True) as folder:
+        yield pathlib.Path(folder)
 
 
 def is_there(tool):
@@ -157,16 +194,53 @@ def requires(*tools):
 
     Where LATEX2MATHML_SKIP_NOTHING is 1, `./test` counts every case that is skipped as one that failed.
     """
-    lacking = missing_tools(*tools)
+    lacking = [tool for tool in tools if not is_there(tool)]
     return unittest.skipIf(lacking, f"{', '.join(lacking)} not found")
+
+
+def each_row(table):
+    """Makes a case of each row of a table, which is named by its key. The method is given what is in the row."""
+    def mark(method):
+        method.rows = table
+        return method
+    return mark
+
+
+@dataclasses.dataclass(eq=False)
+class Has:
+    """Stands for any stream in which this part is found."""
+    part: bytes
+
+    def __eq__(self, stream):
+        return isinstance(stream, bytes) and self.part in stream
 
 
 class Case(unittest.TestCase):
     """A case that runs programs."""
 
+    def __init_subclass__(cls):
+        for method in list(vars(cls).values()):
+            for key, row in getattr(method, "rows", {}).items():
+                name = "test_" + re.sub("[ ,]+", "_", key)
+                if hasattr(cls, name):
+                    raise NameError(f"{cls.__name__} has two cases {name}")
+                setattr(cls, name, functools.wraps(method)(lambda self, method=method, row=row: method(self, *row)))
+
+    @functools.cached_property
+    def folder(self):
+        """A folder that lasts as long as the case."""
+        return self.enterContext(scratch())
+
+    def wait_for(self, is_so):
+        for _ in range(600):
+            if is_so():
+                return
+            time.sleep(0.05)
+        self.fail("it did not come to that within half a minute")
+
     def expect(self, done, status=0, stdout=None, stderr=b""):
         """Checks the status and the streams of a finished command. A stream that is None may contain anything."""
-        if (done.returncode == status and stdout in (None, done.stdout) and stderr in (None, done.stderr)):
+        if done.returncode == status and stdout in (None, done.stdout) and stderr in (None, done.stderr):
             return
         lines = [f"ran: {' '.join(map(show, done.args))}"]
         for name, wanted, came in (("status", status, done.returncode), ("stdout", stdout, done.stdout), ("stderr", stderr, done.stderr)):

@@ -8,7 +8,8 @@ import unittest.mock
 
 from tests import answers
 from tests.answers import AnswerCase, Code
-from tests.support import ROOT, Case
+from tests.support import ROOT, Case, Has, each_row
+from tests.texts import error
 
 # what a function asserts by, besides `assert`
 ASSERTING = {"fail", "AssertionError"}
@@ -25,10 +26,13 @@ class Differences(unittest.TestCase):
             with self.subTest(status=status, stdout=stdout, stderr=stderr):
                 self.assertEqual(fails(lambda: Case().expect(done, status, stdout, stderr)), not met)
         self.assertTrue(fails(lambda: Case().expect(subprocess.CompletedProcess(["a"], 0, b"", b"c"))))
+        for part, met in ((b"b", True), (b"", True), (b"c", False), (b"bb", False)):
+            self.assertEqual(fails(lambda: Case().expect(done, 1, Has(part), b"c")), not met)
+            self.assertEqual(fails(lambda: Case().expect(done, 0, Has(part), b"c")), True)
 
     def test_of_a_case(self):
         """The answers of the program and of the library for C are compared, each with its status or code, and with standard error."""
-        told = answers.ERROR + b"r\n"
+        told = error("r")
         programs = {"right": (0, b"x\n", b""), "another answer": (0, b"y\n", b""), "another status": (1, b"x\n", b""),
                     "something told": (0, b"x\n", b"e"), "refused": (1, b"", told), "refused and written": (1, b"x", told)}
         libraries = {"right": (Code.DONE, b"x"), "another answer": (Code.DONE, b"y"), "another code": (Code.REFUSED, b"x"),
@@ -40,6 +44,20 @@ class Differences(unittest.TestCase):
                 for name, code, answer in (("right", Code.DONE, b"x"), ("refused", Code.REFUSED, b"r")):
                     differs = fails(lambda: AnswerCase().comes_to("here", "inline", b"x", code, answer))
                     self.assertEqual(differs, (program, library) != (name, name))
+
+
+class Rows(Case):
+    def test_each_is_a_case(self):
+        """It is named by its key, and is given what is in the row. No case takes the place of another."""
+        def add(self, *numbers):
+            return sum(numbers)
+
+        made = type("Made", (Case,), {"add": each_row({"one": (1,), "two, and more": (1, 2, 3)})(add)})
+        names = unittest.defaultTestLoader.getTestCaseNames(made)
+        self.assertEqual({name: getattr(made(name), name)() for name in names}, {"test_one": 1, "test_two_and_more": 6})
+        for table in ({"a b": (), "a, b": ()}, {"one": ()}):
+            with self.subTest(table), self.assertRaises(NameError):
+                type("Twice", (made,), {"add": each_row(table)(add)})
 
 
 class Library:
@@ -75,14 +93,18 @@ class Assertions(unittest.TestCase):
             "self.assertEqual(a, a)": True, "self.assertEqual(f(a), f(a))": True, "self.assertEqual(a, b)": False, "self.assertIn('', a)": True,
             "self.assertIn(a, (a, b))": False, "assert a, b": False, "assert (a, b)": True, "assert 'a'": True, "assert a == a": True,
             "assert a is not None": False, "self.assertTrue(a == a)": True, "self.assertLessEqual(a, a)": True,
+            "self.expect(a, 1, Has(b''))": True, "self.expect(a, 1, Has(b'b'))": False,
             "self.assertGreaterEqual(len(a), 0)": True, "self.assertGreater(len(a), 0)": False, "assert f'{a}'": True, "assert len(a) >= 0": True,
         }.items():
             with self.subTest(line):
                 self.assertEqual(bool(empty_assertions(ast.parse(line))), is_empty)
 
     def test_cases_without_an_assertion(self):
-        text = "def f(): g()\ndef g(x): assert x\nclass A:\n    def test_a(self): self.f()\n    def test_b(self): h()\n    def test_c(self): pass\n"
-        self.assertEqual(cases_without_an_assertion([("test_m", ast.parse(text))]), ["test_m.py:5: test_b", "test_m.py:6: test_c"])
+        text = ("def f(): g()\ndef g(x): assert x\nclass A:\n    def test_a(self): self.f()\n"
+                "    def test_b(self): h()\n    def test_c(self): pass\n    @each_row({})\n    def d(self): g()\n    @support.each_row({})\n"
+                "    def e(self): h()\n    def i(self): pass\n")
+        self.assertEqual(cases_without_an_assertion([("test_m", ast.parse(text))]),
+                         ["test_m.py:5: test_b", "test_m.py:6: test_c", "test_m.py:10: e"])
 
     def test_the_tests(self):
         modules = [(file.stem, ast.parse(file.read_text(encoding="utf-8"))) for file in sorted((ROOT / "tests").glob("*.py"))]
@@ -100,6 +122,8 @@ def is_empty(node):
         return is_always_true(node.test)
     if isinstance(node, ast.Compare):
         return is_always_true(node)
+    if isinstance(node, ast.Call) and name_of(node.func) == "Has":
+        return is_of_any("assertIn", *node.args, None)
     if not isinstance(node, ast.Call) or not isinstance(node.func, ast.Attribute) or not node.func.attr.startswith("assert"):
         return False
     name, operands = node.func.attr, node.args
@@ -148,8 +172,14 @@ def cases_without_an_assertion(modules):
     asserting = set(ASSERTING)
     while found := {it.name for _, it in functions if it.name not in asserting and asserts(it, asserting)}:
         asserting |= found
-    cases = [(name, it) for name, it in functions if name.startswith("test_") and it.name.startswith("test_")]
+    cases = [(name, it) for name, it in functions if name.startswith("test_") and is_case(it)]
     return [f"{name}.py:{it.lineno}: {it.name}" for name, it in cases if not asserts(it, asserting)]
+
+
+def is_case(function):
+    """Whether it is one, or makes one of each row of a table."""
+    is_of_rows = any(isinstance(it, ast.Call) and name_of(it.func) == "each_row" for it in function.decorator_list)
+    return is_of_rows or function.name.startswith("test_")
 
 
 def asserts(function, asserting):
@@ -160,7 +190,3 @@ def asserts(function, asserting):
         if name and (name.startswith("assert") or name in asserting):
             return True
     return False
-
-
-if __name__ == "__main__":
-    unittest.main()

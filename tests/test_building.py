@@ -2,19 +2,17 @@
 
 `rt` is another program here: it makes what the toolchain would make, and prints what that prints.
 """
-import contextlib
 import os
 import pathlib
 import pty
 import shutil
 import signal
-import stat
 import subprocess
 import sys
 import time
 import unittest
 
-from tests.support import BUILD_NOTHING, Case, ROOT, run, scratch
+from tests.support import BUILD_NOTHING, Case, Has, ROOT, hear_signals, put, read_terminal, run
 
 CRATES_TXT = """# a remark
 low:
@@ -58,49 +56,23 @@ esac
 """
 
 
-def listen():
-    """Ignores no signal that would end a building, as a command in the background may."""
-    for number in (signal.SIGINT, signal.SIGTERM, signal.SIGHUP):
-        signal.signal(number, signal.SIG_DFL)
-
-
-def read_terminal(terminal):
-    """All that was shown on a terminal, which is closed. The system hands it on in pieces, and tells the end by an error."""
-    shown = b""
-    with open(terminal, "rb", buffering=0) as screen, contextlib.suppress(OSError):
-        while part := screen.read(1 << 16):
-            shown += part
-    return shown.decode()
-
-
 class House(Case):
     """A folder with crates, and with an `rt` that makes what the toolchain would make."""
 
     def setUp(self):
-        self.folder = self.enterContext(scratch())
         self.house = self.folder / "a house"  # a path may have spaces
-        (self.house / "tools").mkdir(parents=True)
-        for name in ("built", "build", "progress.py"):
-            shutil.copy(ROOT / "tools" / name, self.house / "tools")
+        tools = {f"tools/{name}": (ROOT / "tools" / name).read_text() for name in ("built", "build", "progress.py")}
         self.memory = self.folder / "meminfo"
         self.memory.write_text("MemTotal: 64000000 kB\nMemAvailable: 32000000 kB\n")
-        build = self.house / "tools/build"
-        self.assertIn('"/proc/meminfo"', build.read_text())
-        build.write_text(build.read_text().replace("/proc/meminfo", str(self.memory)))
-        (self.house / "crates.txt").write_text(CRATES_TXT)
+        self.assertIn('"/proc/meminfo"', tools["tools/build"])
+        tools["tools/build"] = tools["tools/build"].replace("/proc/meminfo", str(self.memory))
+        put(self.house, {**tools, "crates.txt": CRATES_TXT})
+        sources = ("src/lib.rt", "src/inner/part.rt", "specs/Lib.antt", *(f"proofs/{it}/Answers.antt" for it in "fg"))
         for crate in CRATES:
-            for file in ("src/lib.rt", "src/inner/part.rt", "specs/Lib.antt", "proofs/f/Answers.antt", "proofs/g/Answers.antt"):
-                path = self.house / "crates" / crate / file
-                path.parent.mkdir(parents=True, exist_ok=True)
-                path.write_text("")
-            (path.parents[2] / "args").write_text("inline\n")
+            put(self.house / "crates" / crate, {**dict.fromkeys(sources, ""), "args": "inline\n"})
         self.in_the_past(3600)
         self.calls = self.folder / "calls"
-        self.calls.write_text("")
-        rt = self.folder / "bin/rt"
-        rt.parent.mkdir()
-        rt.write_text(RT)
-        rt.chmod(rt.stat().st_mode | stat.S_IXUSR)
+        put(self.folder, {"calls": "", "bin/rt": RT})
 
     def in_the_past(self, seconds):
         """Makes everything there older by this much."""
@@ -240,9 +212,8 @@ class Building(House):
         for name in ("sh", "env", "dirname", "awk", "find", "mktemp", "rm", "touch"):
             (tools / name).symlink_to(shutil.which(name))
         (tools / "python3").symlink_to(sys.executable)
-        done = self.build(PATH=str(tools))
-        self.expect(done, 1, b"", None)
-        self.assertIn(b"the command rt of the Rattle toolchain is not on the path", done.stderr)
+        said = Has(b"the command rt of the Rattle toolchain is not on the path")
+        self.expect(self.build(PATH=str(tools)), 1, b"", said)
 
     def test_lines(self):
         """One line per crate, if a line cannot be updated in place."""
@@ -272,20 +243,13 @@ class Building(House):
         process.unlink(missing_ok=True)
         words = [sys.executable, self.house / "tools/build", target]
         environment = self.environment(LASTS=crate, **more)
-        with subprocess.Popen(words, env=environment, stderr=subprocess.PIPE, preexec_fn=listen) as building:
+        with subprocess.Popen(words, env=environment, stderr=subprocess.PIPE, preexec_fn=hear_signals) as building:
             self.wait_for(process.exists)
             building.send_signal(number)
             said = building.communicate(timeout=30)[1]
         running = pathlib.Path("/proc", process.read_text().strip())
         self.wait_for(lambda: not running.exists())
         return building.returncode, said.decode()
-
-    def wait_for(self, is_so):
-        for _ in range(600):
-            if is_so():
-                return
-            time.sleep(0.05)
-        self.fail("it did not come to that within half a minute")
 
     def test_an_interruption_ends_all(self):
         for number in (signal.SIGINT, signal.SIGTERM, signal.SIGHUP):
@@ -325,18 +289,14 @@ class SideBySide(House):
     def test_no_more_than_there_are_processors(self):
         (self.folder / "met").write_text("")
         one = {min(os.sched_getaffinity(0))}
-        environment = self.environment(MEETS="left right")
         words = [sys.executable, self.house / "tools/build", "both"]
-        done = run(words, env=environment, preexec_fn=lambda: os.sched_setaffinity(0, one))
-        self.expect(done, 1, b"", None)
-        self.assertIn("the other did not begin", done.stderr.decode())
+        done = run(words, env=self.environment(MEETS="left right"), preexec_fn=lambda: os.sched_setaffinity(0, one))
+        self.expect(done, 1, b"", Has(b"the other did not begin"))
 
     def test_no_more_than_there_is_memory_for(self):
         (self.folder / "met").write_text("")
         self.memory.write_text("MemAvailable: 8000000 kB\n")
-        done = self.build("both", MEETS="left right")
-        self.expect(done, 1, b"", None)
-        self.assertIn("the other did not begin", done.stderr.decode())
+        self.expect(self.build("both", MEETS="left right"), 1, b"", Has(b"the other did not begin"))
 
     def test_a_failure_ends_the_rest(self):
         (self.folder / "met").write_text("")

@@ -6,8 +6,9 @@ import shlex
 import shutil
 
 from tests.cases import every_rule
-from tests.support import Case, ROOT, c_library, requires, run, scratch
+from tests.support import Case, ROOT, c_library, each_row, requires, run, scratch
 from tests.test_tex_depth import CONSTRUCTS
+from tests.texts import LESS, LESS_BLOCK, UNCLOSED
 
 CC = shlex.split(os.environ.get("CC", "cc"))
 CXX = shlex.split(os.environ.get("CXX", "c++"))
@@ -16,14 +17,9 @@ ADDR_NO_RANDOMIZE = 0x0040000
 WRAP = ["-Wl,--wrap=malloc,--wrap=realloc,--wrap=free", "-pthread"]
 
 
-def math(display):
-    return f'<math xmlns="http://www.w3.org/1998/Math/MathML" display="{display}"><mi>x</mi><mo>&lt;</mo><mi>y</mi></math>'
-
-
-INLINE, BLOCK = math("inline"), math("block")
+INLINE, BLOCK = LESS.decode(), LESS_BLOCK.decode()
 ANNOTATED = INLINE.replace("><mi>x", ' alttext="x&lt;y"><semantics><mrow><mi>x').replace(
     "</math>", '</mrow><annotation encoding="application/x-tex">x&lt;y</annotation></semantics></math>')
-REASON = b'The token "RBrace" is expected, but the token "EOF" is found."'
 CALLS = {"latex2mathml_formula", "latex2mathml_document", "latex2mathml_tex"}
 
 # Lines of `readelf`, and of a shared library whose name is another, that binds late, or leaves writable what was bound or the stack
@@ -36,8 +32,7 @@ LINKED_BADLY = [r"\(TEXTREL\)", r"\((?:RPATH|RUNPATH)\)", r"^ +LOAD .* RWE "]
 @requires(CC[0], "nm", "ldd")
 class Folder(Case):
     def test_a_folder_that_exists_is_left_alone(self):
-        done = run([ROOT / "tools/make-c-library", c_library()])
-        self.expect(done, 1, b"", None)
+        self.expect(run([ROOT / "tools/make-c-library", c_library()]), 1, b"", None)
 
     def test_names(self):
         """A program can link only to the three calls."""
@@ -70,15 +65,14 @@ class Folder(Case):
     @requires(CXX[0])
     def test_cpp(self):
         """A file of C++ is compiled, linked and run."""
-        folder = self.enterContext(scratch())
-        program = folder / "header"
+        program = self.folder / "header"
         self.expect(run([*CXX, "-std=c++11", "-pedantic", "-Wall", "-Wextra", "-Werror", "-I", c_library(), ROOT / "tests/header.cc",
                          c_library() / "liblatex2mathml.a", "-o", program]))
         self.expect(run([program]), stdout=f"{BLOCK}\na {INLINE}\n{BLOCK}\n".encode())
 
     def test_a_caller_of_the_shared_library(self):
         """It is linked by the library's name, and finds the library again as it starts."""
-        caller = self.enterContext(scratch()) / "caller"
+        caller = self.folder / "caller"
         self.expect(run([*CC, "-I", c_library(), c_library() / "examples/formula.c", "-L", c_library(), "-llatex2mathml",
                          f"-Wl,-rpath,{c_library()}", "-o", caller]))
         self.expect(run([caller, "x<y"]), stdout=f"{INLINE}\n".encode())
@@ -124,20 +118,16 @@ class Built(Case):
 class Calls(Built):
     options = ["-O2"]
 
-    def test_answers(self):
-        self.judge("answers")
-
-    def test_memory(self):
-        self.judge("memory")
-
-    def test_every_rule_with_memory_refused(self):
-        self.judge("rules", "".join(f"{formula}\n" for formula, _ in every_rule()).encode())
-
-    def test_each_construct_of_tex_with_memory_refused(self):
-        self.judge("tex_rules", "".join(f"{each.before}x{each.behind}\n" for each in CONSTRUCTS.values()).encode())
-
-    def test_threads(self):
-        self.judge("threads")
+    @each_row({
+        "answers": ("answers",),
+        "memory": ("memory",),
+        "every rule with memory refused": ("rules", [formula for formula, _ in every_rule()]),
+        "each construct of tex with memory refused": (
+            "tex_rules", [f"{it.before}x{it.behind}" for it in CONSTRUCTS.values()]),
+        "threads": ("threads",),
+    })
+    def are_passed(self, word, lines=()):
+        self.judge(word, "".join(f"{line}\n" for line in lines).encode())
 
     def test_a_word_that_names_no_cases(self):
         self.expect(run([self.program, "answer"]), 2, b"", b"no cases have the name answer\n")
@@ -163,14 +153,9 @@ class Sanitized(Built):
         """The sanitizer of older compilers sometimes finds its own room taken where vm.mmap_rnd_bits is 32."""
         ctypes.CDLL(None).personality(ADDR_NO_RANDOMIZE)
 
-    def test_answers(self):
-        self.judge("answers")
-
-    def test_memory(self):
-        self.judge("memory")
-
-    def test_random_inputs(self):
-        self.judge("random")
+    @each_row({"answers": ("answers",), "memory": ("memory",), "random inputs": ("random",)})
+    def are_passed(self, word):
+        self.judge(word)
 
 
 @requires(CC[0])
@@ -185,10 +170,12 @@ class Examples(Case):
     def check_example(self, *words):
         """A program that prints the markup of its last argument, or the reason for its refusal with another status."""
         self.expect(run([*words, "x<y"]), stdout=f"{INLINE}\n".encode())
-        refused = run([*words, "{x"])
-        self.assertNotEqual(refused.returncode, 0, refused)
-        self.assertEqual(refused.stdout, b"")
-        self.assertIn(REASON, refused.stderr)
+        self.is_refused(run([*words, "{x"]))
+
+    def is_refused(self, done):
+        self.assertNotEqual(done.returncode, 0, done)
+        self.assertEqual(done.stdout, b"")
+        self.assertIn(UNCLOSED.encode(), done.stderr)
 
     def test_they_are_built(self):
         self.expect(self.built)
@@ -205,9 +192,8 @@ class Examples(Case):
             with self.subTest(reason):
                 self.expect(run([program, *words]), 1, b"", reason.encode())
 
-    def python(self, expression):
-        words = ["python3", "-c", f"import latex2mathml; print({expression})"]
-        return run(words, cwd=self.folder / "examples")
+    def python(self, script):
+        return run(["python3", "-c", f"import latex2mathml\n{script}"], cwd=self.folder / "examples")
 
     @requires("python3")
     def test_python(self):
@@ -219,15 +205,14 @@ class Examples(Case):
                                    (r"latex2mathml.tex(r'x\less y', definitions=r'\def\less{<}')", INLINE),
                                    ("latex2mathml.tex('x<y', annotation=True)", ANNOTATED)]:
             with self.subTest(expression):
-                self.expect(self.python(expression), stdout=f"{answer}\n".encode())
+                self.expect(self.python(f"print({expression})"), stdout=f"{answer}\n".encode())
 
     @requires("python3")
     def test_refused_tex_in_python(self):
         for words, place, is_definition in [("r'x+\\foo'", 2, False), ("'x', definitions=' x'", 1, True)]:
             with self.subTest(words):
-                script = f"import latex2mathml as it\ntry:\n    it.tex({words})\nexcept it.TexRefused as refused:\n" \
-                         "    print(refused.place, refused.is_definition)"
-                done = run(["python3", "-c", script], cwd=self.folder / "examples")
+                done = self.python(f"try:\n    latex2mathml.tex({words})\nexcept latex2mathml.TexRefused as refused:\n"
+                                   "    print(refused.place, refused.is_definition)")
                 self.expect(done, stdout=f"{place} {is_definition}\n".encode())
 
     @requires("python3")
@@ -253,7 +238,4 @@ class Examples(Case):
             with self.subTest(expression):
                 self.expect(self.node(expression), stdout=f"{answer}\n".encode())
         with self.subTest("refused"):
-            refused = self.node("'{x', false")
-            self.assertNotEqual(refused.returncode, 0, refused)
-            self.assertEqual(refused.stdout, b"")
-            self.assertIn(REASON, refused.stderr)
+            self.is_refused(self.node("'{x', false"))

@@ -1,10 +1,10 @@
 """Gives each case of `cases/` to the built programs and to the library for C. Each case is a test, named by its line."""
 import functools
-import unittest
 
 from tests import cases
 from tests.answers import WAYS, AnswerCase, Code, show, tex_by_library
-from tests.support import build, run, scratch, tex_program
+from tests.support import Case, build, put, run, tex_program
+from tests.texts import math
 
 WHITE_SPACE = [space * count for space in (b" ", b"\t", b"\n", b"\r") for count in (1, 1000)]
 NO_WHITE_SPACE = ["\u000c".encode(), "\u00a0".encode()]
@@ -15,7 +15,7 @@ class CaseOfFile(AnswerCase):
 
     def formula(self, case):
         for word in ("inline", "block"):
-            self.comes_to(case.place, word, case.input, Code.DONE, cases.math(word, case.answer))
+            self.comes_to(case.place, word, case.input, Code.DONE, math(case.answer, word))
 
     def refused_formula(self, case):
         for word in ("inline", "block"):
@@ -31,7 +31,7 @@ class CaseOfFile(AnswerCase):
 
     def white_space(self, case):
         """White space at one place changes nothing, and a character that is not white space changes the result."""
-        answer = cases.math("inline", case.answer)
+        answer = math(case.answer)
         self.comes_to(case.place, "inline", case.with_space(0, b""), Code.DONE, answer)
         for number in case.places:
             for space in WHITE_SPACE:
@@ -40,7 +40,6 @@ class CaseOfFile(AnswerCase):
                 given = case.with_space(number, character)
                 for name, way in WAYS:
                     self.assertNotEqual(way("inline", given), (Code.DONE, answer), f"{case.place}, place {number}: {show(given)} by {name}")
-
 
     def counts(self, case):
         """The steps of a formula: a command takes 1 to 9 comparisons."""
@@ -55,21 +54,11 @@ class CaseOfFile(AnswerCase):
             else:
                 self.assertEqual(found[f"{name.removesuffix('s')}s"], count, f"{case.place}: {name}")
 
-
-    def tex_formula(self, case):
-        self.tex_inline(case)
-        self.tex_block(case)
-
-    def tex_inline(self, case):
-        self.tex_comes_to(case, "inline")
-
-    def tex_block(self, case):
-        self.tex_comes_to(case, "block")
-
-    def tex_comes_to(self, case, display):
-        markup = cases.math(display, case.answer)
-        self.assertEqual(tex_reply(case, display), b"mathml\n" + markup, case.place)
-        self.assertEqual(tex_by_library(display, case.input), (Code.DONE, markup, 0), case.place)
+    def tex_formula(self, case, displays=("inline", "block")):
+        for display in displays:
+            markup = math(case.answer, display)
+            self.assertEqual(tex_reply(case, display), b"mathml\n" + markup, case.place)
+            self.assertEqual(tex_by_library(display, case.input), (Code.DONE, markup, 0), case.place)
 
     def tex_refusal(self, case):
         place = int(case.answer.rpartition(b" at ")[2])
@@ -111,8 +100,8 @@ KINDS = [
     ("white_space.txt", CaseOfFile.white_space),
     ("counts.txt", CaseOfFile.counts),
     ("tex/*.txt", CaseOfFile.tex_formula),
-    ("tex_inline.txt", CaseOfFile.tex_inline),
-    ("tex_block.txt", CaseOfFile.tex_block),
+    ("tex_inline.txt", functools.partial(CaseOfFile.tex_formula, displays=["inline"])),
+    ("tex_block.txt", functools.partial(CaseOfFile.tex_formula, displays=["block"])),
     ("tex_refusals.txt", CaseOfFile.tex_refusal),
 ]
 
@@ -128,7 +117,7 @@ for pattern, kind in KINDS:
         globals()[cases.class_name(file)] = tests_of(file, kind)
 
 
-class Reader(unittest.TestCase):
+class Reader(Case):
     """The reader of the files: a mistake in the form is reported with its line."""
 
     def test_wrong_cases(self):
@@ -140,10 +129,10 @@ class Reader(unittest.TestCase):
             ("a\tb\nc\n", "1: a character that cannot be seen is [U+0009]"),
             ("a\u00a0b\nc\n", "1: a character that cannot be seen is [U+00A0]"),
         ]:
-            with self.subTest(text), scratch() as folder:
-                (folder / "wrong.txt").write_text(text, encoding="utf-8")
+            with self.subTest(text):
+                put(self.folder, {"wrong.txt": text})
                 with self.assertRaises(cases.WrongCase) as raised:
-                    cases.read(folder / "wrong.txt")
+                    cases.read(self.folder / "wrong.txt")
                 self.assertIn(f"wrong.txt:{told}", str(raised.exception))
 
     def test_every_rule(self):
@@ -154,7 +143,3 @@ class Reader(unittest.TestCase):
     def test_all_files_are_read(self):
         read = {file for pattern, _ in KINDS for file in cases.files(pattern)} | set(cases.TABLES)
         self.assertEqual(sorted(read), cases.files("**/*.txt"))
-
-
-if __name__ == "__main__":
-    unittest.main()

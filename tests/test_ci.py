@@ -4,7 +4,7 @@
 """
 import shutil
 
-from tests.support import Case, ROOT, run, scratch
+from tests.support import Case, Has, ROOT, put, run, scratch
 
 PACKAGES = "# a remark\nhere\nmissing # behind a package too\n\nlost\n"
 
@@ -21,20 +21,13 @@ STUBS = {
 
 class Run(Case):
     def setUp(self):
-        self.folder = self.enterContext(scratch())
         self.house = self.folder / "a house"  # a path may have spaces
         shutil.copytree(ROOT / ".ci", self.house / ".ci")
-        (self.house / ".ci/packages").write_text(PACKAGES)
-        self.program(self.house / "test", 'echo "skips nothing: $LATEX2MATHML_SKIP_NOTHING"; exit ${STATUS:-0}')
-        for name, text in STUBS.items():
-            self.program(self.folder / "bin" / name, text)
+        test = '#!/bin/sh\necho "skips nothing: $LATEX2MATHML_SKIP_NOTHING"; exit ${STATUS:-0}\n'
+        put(self.house, {".ci/packages": PACKAGES, "test": test})
+        put(self.folder / "bin", {name: f"#!/bin/sh\n{text}\n" for name, text in STUBS.items()})
         for name in ("sh", "dirname", "sed", "grep", "timeout", "date"):
             (self.folder / "bin" / name).symlink_to(shutil.which(name))
-
-    def program(self, path, text):
-        path.parent.mkdir(exist_ok=True)
-        path.write_text(f"#!/bin/sh\n{text}\n")
-        path.chmod(0o755)
 
     def run_ci(self, **environment):
         calls = self.folder / "calls"
@@ -62,8 +55,7 @@ class Run(Case):
     def test_one_cannot_be_installed(self):
         """The others are, and `./test` runs, in which what needs it fails."""
         done, calls = self.run_ci(NOT_THERE="lost")
-        self.expect(done, stdout=b"skips nothing: 1\n", stderr=None)
-        self.assertIn(b"lost could not be installed", done.stderr)
+        self.expect(done, stdout=b"skips nothing: 1\n", stderr=Has(b"lost could not be installed"))
         self.assertEqual(calls[2:], ["install --no-install-recommends missing", "install --no-install-recommends lost"])
 
     def test_nothing_can_be_installed(self):
@@ -83,14 +75,13 @@ class Run(Case):
     def test_a_network_that_never_answers(self):
         """Once a quarter of an hour is over, no other package is tried alone."""
         (self.folder / "bin/date").unlink()
-        self.program(self.folder / "bin/date", """
+        put(self.folder, {"bin/date": """#!/bin/sh
             echo >>"$CALLS.dates"
             while read -r _; do now=$((now + 600)); done <"$CALLS.dates"
-            echo $now""")
+            echo $now\n"""})
         done, calls = self.run_ci(NOT_THERE="install")
-        self.expect(done, stdout=b"skips nothing: \n", stderr=None)
+        self.expect(done, stdout=b"skips nothing: \n", stderr=Has(b"lost could not be installed"))
         self.assertEqual(calls[2:], ["install --no-install-recommends missing"])
-        self.assertIn(b"lost could not be installed", done.stderr)
 
     def test_the_status(self):
         self.expect(self.run_ci(STATUS="1")[0], 1, None, None)
@@ -102,12 +93,8 @@ class Pytest(Case):
     def run_test(self, install, is_there=False):
         """What `./test` does where `.ci/install` is this command, and which packages that was to install."""
         house = self.enterContext(scratch())
-        (house / ".ci").mkdir()
-        shutil.copy(ROOT / "test", house)
-        python = 'case $1 in -c) test -e has-pytest ;; *) echo "ran: $*" ;; esac'
-        for name, text in (("python", python), (".ci/install", f'echo "$*" >installed; {install}')):
-            (house / name).write_text(f"#!/bin/sh\n{text}\n")
-            (house / name).chmod(0o755)
+        put(house, {"test": (ROOT / "test").read_text(), ".ci/install": f'#!/bin/sh\necho "$*" >installed; {install}\n',
+                    "python": '#!/bin/sh\ncase $1 in -c) test -e has-pytest ;; *) echo "ran: $*" ;; esac\n'})
         if is_there:
             (house / "has-pytest").touch()
         done = run([house / "test", "test_c", "-x"], env={"PATH": "/usr/bin:/bin", "PYTHON": str(house / "python")})
@@ -130,5 +117,4 @@ class Pytest(Case):
         for install in ("exit 1", "exit 0"):
             with self.subTest(install):
                 done, packages = self.run_test(install)
-                self.expect(done, 1, b"", None)
-                self.assertIn(f"apt-get install {' '.join(packages)}\n".encode(), done.stderr)
+                self.expect(done, 1, b"", Has(f"apt-get install {' '.join(packages)}\n".encode()))

@@ -7,7 +7,7 @@ import unittest
 
 from tests import tex_command_table as table
 from tests.command_table import PAGE
-from tests.support import ROOT, Case, program, run, scratch, tex_program
+from tests.support import ROOT, Case, Has, program, run, tex_program
 
 # what `[t]` and the like stand for in the code
 ARGUMENTS = {"": None, "{lcr}": "ColumnList", "{2}": "Number"}
@@ -23,14 +23,14 @@ class Page(Case):
         self.expect(run([ROOT / "tools/commands"]), stdout=PAGE.read_bytes())
 
     def test_an_entry_of_an_unknown_form_is_told(self):
-        folder = self.enterContext(scratch())
+        folder = self.folder
         for part in ("tools", "crates"):
             shutil.copytree(ROOT / part, folder / part, ignore=shutil.ignore_patterns("out", "must-fail", "proofs", "src"))
         definitions = [it for crate in ("latex2mathml_tex_grammar", "latex2mathml_tokens") for it in (folder / "crates" / crate / "specs").iterdir()]
         tex, tokens = (f"is of a form that tools/{name}_commands.py does not know: " for name in ("tex", "token"))
         for old, new, told in (
             ('(codes "sqrt", Root)', '(codes "sqrt", Uproot)', f"sqrt {tex}Uproot"),
-            ('(codes "sqrt", Root)', '(codes "sqrt", λ x. x)', "λ begins no value"),
+            ('(codes "sqrt", Root)', '(codes "sqrt", λ x. x)', ": λ begins no value"),
             ('(codes "sqrt", Root)', '(codes "sqrt", a_root)', "a_root has no equation, or more than one"),
             ("(0x21, Sign Closing 0x21)", "(0x21, Sign Curly 0x21)", f"! {tex}Sign Curly 33"),
             ("\npairs = cells_in InPairs InDisplay", "\npairs = cells_in InPairs InRed", f"{tex}'InRed'"),
@@ -174,14 +174,9 @@ class Read(Case):
         for name in re.findall(r"`(\w+)`", listed):
             with self.subTest(name):
                 done = run([program(), "inline"], stdin=f"\\begin{{{name}}}a\\end{{{name}}}".encode())
-                self.expect(done, stdout=None)
-                self.assertIn(b"<mtable", done.stdout)
+                self.expect(done, stdout=Has(b"<mtable"))
 
 
 def text_in(reply):
     """The text of a reply, without its tags; all of it, if it is no markup."""
     return html.unescape(re.sub(r"<[^>]*>", "", reply.removeprefix("mathml\n"))) if reply.startswith("mathml\n") else reply
-
-
-if __name__ == "__main__":
-    unittest.main()

@@ -5,6 +5,8 @@ import unittest
 from tests import cases
 from tests.answers import WAYS, AnswerCase, Code
 from tests.command_table import DEFINITIONS, PAGE, in_the_definitions, on_the_page
+from tests.support import each_row
+from tests.texts import math
 
 # Commands that name the next token in a refusal. No parenthesis is missing if one follows a \\left.
 SHOWS_TOKEN = "\\left{}"
@@ -36,12 +38,17 @@ class Table(unittest.TestCase):
 class Entries(AnswerCase):
     """Each entry is a test, named by its line."""
 
+    @each_row({str(entry.line.number): (entry,) for entry in ENTRIES})
+    def is_right(self, entry):
+        self.alone(entry)
+        self.token(entry)
+
     def alone(self, entry):
         """The command alone is a formula."""
         for word in ("inline", "block"):
             code, wanted = Code.REFUSED, entry.alone.encode()
             if entry.alone.startswith("<"):
-                code, wanted = Code.DONE, cases.math(word, wanted)
+                code, wanted = Code.DONE, math(wanted, word)
             self.comes_to(entry.line.place, word, entry.formula, code, wanted)
 
     def token(self, entry):
@@ -52,18 +59,3 @@ class Entries(AnswerCase):
             self.assertEqual(told and told[1].decode(), entry.token, f"{entry.line.place}: the token by {name}")
         self.assertEqual(on_the_page().get(entry.name), entry.token, f"{entry.line.place}: the token by {PAGE.name}")
         self.assertEqual(in_the_definitions().get(entry.name), entry.token, f"{entry.line.place}: the token by {DEFINITIONS.name}")
-
-
-def test_of(entry):
-    def test(self):
-        self.alone(entry)
-        self.token(entry)
-    return test
-
-
-for each in ENTRIES:
-    setattr(Entries, f"test_{each.line.number}", test_of(each))
-
-
-if __name__ == "__main__":
-    unittest.main()

@@ -3,13 +3,11 @@ stack: in a style, cut off, and dropped after a refusal or a refused request for
 
 Each kind of node and each place in it is tried, nested in itself; `productions.py` has them.
 """
-import resource
-import unittest
-
 import pytest
 
 from tests import faulty, support
 from tests.productions import MISSING, PRODUCTIONS, WIDE, count_tokens
+from tests.texts import NO_MEMORY, OPEN, error, math
 
 pytestmark = [pytest.mark.long, pytest.mark.timeout(1800)]
 
@@ -19,10 +17,11 @@ pytestmark = [pytest.mark.long, pytest.mark.timeout(1800)]
 MOST_EACH = 101
 OWN_BYTES = 64 << 10
 
-OPEN = 'The token "{}" is expected, but the token "EOF" is found."'
-NO_MEMORY = "Memory could not be found."
 # what `\middle` refuses, whatever follows
 NO_STRETCH = 'There must be a parenthesis after "Middle", but not found. Insted, "Middle" is found.'
+
+
+KINDS = {kind.name: (kind,) for kind in PRODUCTIONS + WIDE}
 
 
 def room_of(text):
@@ -32,43 +31,41 @@ def room_of(text):
 
 class Depth(support.Case):
     nodes = 1_000_000
-    stack = 8 << 20
-
-    def limit_stack(self):
-        resource.setrlimit(resource.RLIMIT_STACK, (self.stack, self.stack))
+    limited = {"preexec_fn": support.limit(STACK=8 << 20)}
 
     def answers(self, formula, contents, tokens):
         """Checks the whole markup, byte for byte, and the peak memory."""
-        done, counts = faulty.counts_of([support.program(), "inline"], stdin=formula.encode(), preexec_fn=self.limit_stack)
+        done, counts = faulty.counts_of([support.program(), "inline"], stdin=formula.encode(), **self.limited)
         self.assertEqual((done.returncode, done.stderr), (0, b""))
-        self.assertTrue(done.stdout == faulty.math(contents) + b"\n", f"answered {support.show(done.stdout)}")
+        self.assertTrue(done.stdout == math(contents) + b"\n", f"answered {support.show(done.stdout)}")
         rooms = room_of(formula.encode()) + room_of(done.stdout)
         most = rooms + MOST_EACH * tokens + OWN_BYTES
         self.assertLessEqual(counts["peak"], most, f"{rooms:,} bytes of room, and {tokens:,} tokens")
 
     def is_refused(self, formula, reason):
-        done = support.run([support.program(), "inline"], stdin=formula.encode(), preexec_fn=self.limit_stack)
-        self.expect(done, 1, b"", faulty.ERROR + reason.encode() + b"\n")
+        done = support.run([support.program(), "inline"], stdin=formula.encode(), **self.limited)
+        self.expect(done, 1, b"", error(reason))
 
     def wants_memory(self, formula, request):
         """Checks the result if this allocation fails, and no other."""
         fault = faulty.Fault("memory", request, request, 12)
         words = [support.program(), "inline"]
-        done, failed = faulty.run_with(words, stdin=formula.encode(), fault=fault, preexec_fn=self.limit_stack)
+        done, failed = faulty.run_with(words, stdin=formula.encode(), fault=fault, **self.limited)
         self.assertEqual(failed, ["memory"])
-        self.expect(done, 1, b"", faulty.ERROR + NO_MEMORY.encode() + b"\n")
+        self.expect(done, 1, b"", error(NO_MEMORY))
 
 
 class Shallow(Depth):
     """A quarter of the depth on a quarter of the stack shows the same in a quarter of the time."""
     nodes = Depth.nodes // 4
-    stack = Depth.stack // 4
+    limited = {"preexec_fn": support.limit(STACK=2 << 20)}
 
 
 @support.requires("cc")
 class Printed(Depth):
     """The whole markup."""
 
+    @support.each_row(KINDS)
     def judge(self, kind):
         levels = kind.levels(self.nodes)
         self.answers(kind.nest(levels), kind.contents(levels), count_tokens(kind.nest, levels))
@@ -78,6 +75,7 @@ class Printed(Depth):
 class Styled(Shallow):
     """The whole markup of the node in bold."""
 
+    @support.each_row(KINDS)
     def judge(self, kind):
         levels = kind.levels(self.nodes)
         self.answers("\\mathbf{" + kind.nest(levels) + "}", kind.styled_contents(levels), count_tokens(kind.nest, levels))
@@ -86,6 +84,7 @@ class Styled(Shallow):
 class Dropped(Shallow):
     """The whole node is the member of a group that is never closed."""
 
+    @support.each_row(KINDS)
     def judge(self, kind):
         self.is_refused("{" + kind.nest(kind.levels(self.nodes)), OPEN.format("RBrace"))
 
@@ -94,6 +93,7 @@ class Dropped(Shallow):
 class Cut(Shallow):
     """The text ends in the innermost place."""
 
+    @support.each_row(KINDS)
     def judge(self, kind):
         levels = kind.levels(self.nodes)
         if kind.waits:
@@ -110,19 +110,8 @@ class Cut(Shallow):
 class WithoutMemory(Shallow):
     """An allocation fails while the tree is deep or wide: the one after three quarters of them."""
 
+    @support.each_row(KINDS)
     def judge(self, kind):
         formula = kind.nest(kind.levels(self.nodes))
         _, counts = faulty.counts_of([support.program(), "inline"], stdin=formula.encode())
         self.wants_memory(formula, counts["requests"] * 3 // 4)
-
-
-def add_cases():
-    for way in (Printed, Styled, Dropped, Cut, WithoutMemory):
-        for kind in PRODUCTIONS + WIDE:
-            setattr(way, f"test_{kind.name.replace(' ', '_').replace(',', '')}", lambda self, kind=kind: self.judge(kind))
-
-
-add_cases()
-
-if __name__ == "__main__":
-    unittest.main()

@@ -2,11 +2,10 @@
 write it now, and sentences are short."""
 import re
 import shutil
-import unittest
 
 from tests import cases
 from tests.integration import answer_of
-from tests.support import ROOT, Case, program, requires, run, scratch, tex_program
+from tests.support import ROOT, Case, Has, newest_version, program, put, requires, run, tex_program
 from tools import quotes, specs
 
 # the most words that a sentence may have
@@ -63,7 +62,7 @@ class Quotes(Case):
         self.expect(run([ROOT / "tools/renew-documents", "--check"]), stdout=b"")
 
     def test_a_line_that_moved_is_renewed(self):
-        folder = self.enterContext(scratch())
+        folder = self.folder
         for part in ("docs", "tools", "crates"):
             shutil.copytree(ROOT / part, folder / part, ignore=shutil.ignore_patterns("out", "must-fail", "proofs"))
         source, document = folder / "crates/latex2mathml/specs/Documents.antt", folder / "docs/PROMISES.md"
@@ -72,9 +71,8 @@ class Quotes(Case):
         self.assertIn(f"[`Piece`](../crates/latex2mathml/{link.format(line)}", old)
         source.write_text(f"-- one more line\n{source.read_text()}")
         renew = folder / "tools/renew-documents"
-        shown = run([renew, "--check"])
-        self.expect(shown, 1, None)
-        self.assertIn(f"+| [`Piece`](../crates/latex2mathml/{link.format(line + 1)}", shown.stdout.decode())
+        changed = f"+| [`Piece`](../crates/latex2mathml/{link.format(line + 1)}"
+        self.expect(run([renew, "--check"]), 1, Has(changed.encode()))
         self.assertEqual(document.read_text(), old)
         self.expect(run([renew]), stdout=b"")
         self.assertIn(f"[`Piece`](../crates/latex2mathml/{link.format(line + 1)}", document.read_text())
@@ -159,17 +157,6 @@ def clauses_of_functions():
     return found
 
 
-class Modules(Case):
-    """The table of the library's modules names each file of definitions and each file of lemmas, and no other."""
-
-    def test_the_files_of_the_table_are_those_of_the_crates(self):
-        rows = [line.split("|") for line in (ROOT / "docs/ARCHITECTURE.md").read_text().split("\n") if line.startswith("| ")]
-        for folder, column in (("specs", 3), ("proofs", 4)):
-            named = {name for row in rows if len(row) == 6 for name in re.findall(r"`([A-Z]\w+)`", row[column])}
-            files = {it.stem for crate in (*quotes.LIBRARY, "latex2mathml_parts", "latex2mathml_builder") for it in (ROOT / "crates" / crate / folder).glob("*.antt")}
-            self.assertEqual(named, files - {"Lib"}, folder)
-
-
 class Sentences(Case):
     longMessage = False
 
@@ -204,8 +191,7 @@ class Readme(Case):
     def test_its_formula_prints_what_it_shows(self):
         shown = re.search(r"^    (printf '(.*)' \| \./latex2mathml (\w+))\n\nprints\n\n    (.*)\n", self.text, re.M)
         self.assertIsNotNone(shown)
-        done = run([program(), shown[3]], stdin=shown[2].encode())
-        self.expect(done, stdout=f"{shown[4]}\n".encode())
+        self.expect(run([program(), shown[3]], stdin=shown[2].encode()), stdout=f"{shown[4]}\n".encode())
 
     def test_its_refusal_is_the_one_that_it_shows(self):
         shown = re.search(r"^    \$ printf '(.*)' \| \./latex2mathml (\w+)\n    (.*)\n", self.text, re.M)
@@ -225,16 +211,14 @@ class Readme(Case):
         text = (ROOT / "docs/TEX.md").read_text()
         shown = re.findall(r"^    \$ (printf '.* \| )\./tex2mathml( --definitions .*)\n    (.*)\n", text, re.M)
         self.assertEqual(len(shown), 2)
-        folder = self.enterContext(scratch())
         for before, behind, line in shown:
-            self.expect(run(["sh", "-c", f"{before}{tex_program()}{behind}"], cwd=folder), 1, b"", f"{line}\n".encode())
+            self.expect(run(["sh", "-c", f"{before}{tex_program()}{behind}"], cwd=self.folder), 1, b"", f"{line}\n".encode())
 
     def test_the_file_of_definitions_that_is_shown_is_read(self):
         text = (ROOT / "docs/TEX.md").read_text()
         shown = re.search(r"^    % macros\.tex\n((?:    .*\n)+)", text, re.M)[0]
-        folder = self.enterContext(scratch())
-        (folder / "macros.tex").write_text(shown)
-        done = run([tex_program(), "--definitions", "macros.tex"], stdin=b"\\R", cwd=folder)
+        put(self.folder, {"macros.tex": shown})
+        done = run([tex_program(), "--definitions", "macros.tex"], stdin=b"\\R", cwd=self.folder)
         self.assertEqual((done.returncode, done.stdout.count("<mi>ℝ</mi>".encode())), (0, 1), done)
 
     def test_its_words_are_all_that_there_are(self):
@@ -252,19 +236,16 @@ class Readme(Case):
 
     def test_its_status_of_files(self):
         self.assertIn("converts the others, and then has status 1", " ".join(self.text.split()))
-        folder = self.enterContext(scratch())
-        for name, text in (("a", "${$"), ("b", "$x$")):
-            (folder / f"{name}.html").write_text(text)
-        self.expect(run([program(), "html", folder]), status=1, stdout=b"", stderr=None)
-        self.assertEqual((folder / "a.html").read_text(), "${$")
-        self.assertIn("<mi>x</mi>", (folder / "b.html").read_text())
+        put(self.folder, {"a.html": "${$", "b.html": "$x$"})
+        self.expect(run([program(), "html", self.folder]), status=1, stdout=b"", stderr=None)
+        self.assertEqual((self.folder / "a.html").read_text(), "${$")
+        self.assertIn("<mi>x</mi>", (self.folder / "b.html").read_text())
 
     def test_its_site_is_converted_over_a_copy(self):
         command = re.search(r"^    (rm -rf site\.new site\.old && .*)\n", self.text, re.M)
         self.assertIsNotNone(command)
-        folder = self.enterContext(scratch())
-        (folder / "site").mkdir()
-        (folder / "site/a.html").write_text("<p>$x$</p>")
+        folder = self.folder
+        put(folder, {"site/a.html": "<p>$x$</p>"})
         (folder / "latex2mathml").symlink_to(program())
         self.expect(run(["sh", "-c", command[1]], cwd=folder), stdout=b"")
         self.assertEqual((folder / "site.old/a.html").read_text(), "<p>$x$</p>")
@@ -327,7 +308,7 @@ class Numbers(Case):
         self.assertEqual(set(re.findall(r"`(\w+)`", said[1])), names)
 
     def test_comparisons(self):
-        definition = (ROOT / "crates/latex2mathml_formulas/specs/Counts.antt").read_text()
+        definition = (ROOT / "crates/latex2mathml_grammar/specs/Counts.antt").read_text()
         most = re.search(r"n ≤ (\d+) \* backslashes", definition)[1]
         self.says("README.md", f"at most {most} compared names per command")
         self.says("docs/PROMISES.md", f"1 to {most} names for each token")
@@ -454,7 +435,6 @@ class Versions(Case):
     """The version is the newest heading of the change log, and all other files say the same."""
 
     def test_all_are_one(self):
-        newest = re.search(r"^## (\d+\.\d+\.\d+)", (ROOT / "CHANGELOG.md").read_text(), re.M)[1]
         for name, pattern in {
             "crates/latex2mathml_c/include/latex2mathml.h": r'#define LATEX2MATHML_VERSION "(.*)"',
             "integrations/python/pyproject.toml": r'^version = "(.*)"',
@@ -464,8 +444,4 @@ class Versions(Case):
             with self.subTest(name):
                 found = re.search(pattern, (ROOT / name).read_text(), re.M)
                 self.assertIsNotNone(found, f"{name} has no version")
-                self.assertEqual(found[1], newest)
-
-
-if __name__ == "__main__":
-    unittest.main()
+                self.assertEqual(found[1], newest_version())

@@ -1,8 +1,6 @@
 """Nodes that are made by hand, each a million levels deep in each of its places: dropped on a stack of 8 MiB, with nothing left of
 them, and in as many instructions for each level, however many there are."""
 import functools
-import resource
-import unittest
 
 import pytest
 
@@ -12,8 +10,8 @@ from tests.instructions import instructions
 pytestmark = pytest.mark.long
 
 LEVELS = 1_000_000
-# 8 bytes for a level
-STACK = 8 << 20
+# 8 bytes of stack for a level
+LIMIT = support.limit(STACK=8 << 20)
 
 # each place of each kind of node
 PLACES = 34
@@ -41,16 +39,12 @@ def places():
     return [*names, TURN]
 
 
-def limit_stack():
-    resource.setrlimit(resource.RLIMIT_STACK, (STACK, STACK))
-
-
 @support.requires("cc")
 class Dropped(support.Case):
     def test_a_million_levels(self):
         for place in places():
             with self.subTest(place):
-                done, counts = faulty.counts_of(words(place, LEVELS), preexec_fn=limit_stack)
+                done, counts = faulty.counts_of(words(place, LEVELS), preexec_fn=LIMIT)
                 self.expect(done, stdout=b"answer: true\n")
                 # a level is a box or a list at least
                 self.assertGreaterEqual(counts["requests"], LEVELS - PLACES)
@@ -65,7 +59,3 @@ class Instructions(support.Case):
                 self.expect(support.run(words(place, 4 * FEW_LEVELS)), stdout=b"answer: true\n")
                 few, many = (instructions(words(place, levels)) for levels in (FEW_LEVELS, 4 * FEW_LEVELS))
                 self.assertLessEqual(many, MOST_TIMES * few, f"{few:,} for {FEW_LEVELS:,} levels, {many:,} for four times as many")
-
-
-if __name__ == "__main__":
-    unittest.main()

@@ -7,25 +7,19 @@ import subprocess
 import unittest
 
 from tests import faulty, support
-from tests.faulty import ERROR, Fault, open_input
-
-UNREAD = ERROR + b"The input could not be read.\n"
-USAGE = b"usage: latex2mathml inline | block | document | html PATH\n"
-NO_TEXT = ERROR + b"The input is not UTF-8 text.\n"
+from tests.faulty import Fault, open_input
+from tests.texts import LESS, LESS_BLOCK, NO_TEXT, STOPPED, UNCLOSED, UNPAIRED, UNREAD, USAGE, X, error, math
 
 FORMULA = rb"a<\frac12"
-OF_FORMULA = faulty.math("<mi>a</mi><mo>&lt;</mo><mfrac><mn>1</mn><mn>2</mn></mfrac>") + b"\n"
+OF_FORMULA = math("<mi>a</mi><mo>&lt;</mo><mfrac><mn>1</mn><mn>2</mn></mfrac>") + b"\n"
 DOCUMENT = "é $x$ é".encode()
-OF_DOCUMENT = "é ".encode() + faulty.X + " é".encode()
-
-OF_LESS = "<mi>x</mi><mo>&lt;</mo><mi>y</mi>"
-LESS = faulty.math(OF_LESS) + b"\n"
-ENERGY = faulty.math("<mi>E</mi><mo>=</mo><mi>m</mi><msup><mi>c</mi><mn>2</mn></msup>") + b" is"
+OF_DOCUMENT = "é ".encode() + X + " é".encode()
+ENERGY = math("<mi>E</mi><mo>=</mo><mi>m</mi><msup><mi>c</mi><mn>2</mn></msup>") + b" is"
 
 # words of the program, with inputs and their answers
 ANSWERS = {
-    "inline": [(FORMULA, OF_FORMULA), (b"x<y", LESS)],
-    "block": [(b"x<y", faulty.math(OF_LESS, "block") + b"\n")],
+    "inline": [(FORMULA, OF_FORMULA), (b"x<y", LESS + b"\n")],
+    "block": [(b"x<y", LESS_BLOCK + b"\n")],
     "document": [(DOCUMENT, OF_DOCUMENT), (b"$E = m c^2$ is", ENERGY)],
 }
 
@@ -37,48 +31,34 @@ WRITE_ERRORS = {"a full device": 28, "an interruption": 4, "a closed pipe": 32, 
 # the bytes that the program requests at a time
 ROOM = 4096
 
+WORDS = ("inline", "block", "document")
+NO_INPUT = error(UNREAD)
+
 
 def stop_message(count):
-    return ERROR + b"The output stopped after %d bytes.\n" % count
+    return error(STOPPED.format(count))
 
 
-def case_name(text):
-    return "test_" + re.sub(r"\W+", "_", text)
-
-
-class Streams(support.Case):
+class Streams(faulty.OneByteAtATime):
     def run_with(self, word, stdin, **told):
-        return faulty.run_with([faulty.program(), word], stdin=stdin, **told)
-
-    def judge(self, done, status, stdout, stderr):
-        self.expect(done[0] if isinstance(done, tuple) else done, status, stdout, stderr)
+        return faulty.run_with([faulty.program(), word], stdin=stdin, **told)[0]
 
 
 @support.requires("cc")
 class Inputs(Streams):
-    def fails_at_each_read(self, word, error):
+    @support.each_row({f"{word} {name} at each read": (word, number)
+                       for word in ANSWERS for name, number in READ_ERRORS.items()})
+    def fails_at_each_read(self, word, number):
         """One byte per call, and each call in turn fails, also the one that would report the end. Nothing after it is read."""
         for given, answer in ANSWERS[word]:
-            for number in range(1, len(given) + 3):
-                with self.subTest(given=given, call=number), open_input(given) as source:
-                    done, failed = self.run_with(word, source, fault=Fault("read", number, number, error), step=1)
-                    self.assertEqual(bool(failed), number < len(given) + 2)
-                    if failed:
-                        self.expect(done, 1, b"", UNREAD)
-                        self.assertEqual(len(source.read()), len(given) - number + 1)
-                    else:
-                        self.expect(done, 0, answer)
+            self.fails_at_each("read", number, len(given) + 1, [faulty.program(), word], given, answer,
+                               lambda call: (1, b"", NO_INPUT), left=lambda call, size=len(given): size - call + 1)
 
     def test_formula_by_bytes(self):
-        self.judge(self.run_with("inline", FORMULA, step=1), 0, OF_FORMULA, b"")
+        self.expect(self.run_with("inline", FORMULA, step=1), stdout=OF_FORMULA)
 
     def test_document_by_bytes(self):
-        self.judge(self.run_with("document", DOCUMENT, step=1), 0, OF_DOCUMENT, b"")
-
-
-for word, (name, error) in itertools.product(ANSWERS, READ_ERRORS.items()):
-    setattr(Inputs, case_name(f"{word} {name} at each read"),
-            lambda self, word=word, error=error: self.fails_at_each_read(word, error))
+        self.expect(self.run_with("document", DOCUMENT, step=1), stdout=OF_DOCUMENT)
 
 
 # bytes that are not UTF-8: alone, after text and before text
@@ -90,11 +70,13 @@ NO_TEXTS = {"a beginning": b"$\xc3", "a surrogate": b"\xed\xa0\x80", "no byte of
 class NoText(Streams):
     """Each reports that the bytes are not UTF-8, however they arrive."""
 
+    @support.each_row({f"{word} {name} {step or ROOM} a call": (given, word, step)
+               for (name, given), word, step in itertools.product(NO_TEXTS.items(), WORDS, (None, 1))})
+    def is_told(self, given, word, step):
+        self.expect(self.run_with(word, given, step=step), 1, b"", error(NO_TEXT))
 
-for (name, given), word, step in itertools.product(NO_TEXTS.items(), ("inline", "block", "document"), (None, 1)):
-    def case(self, given=given, word=word, step=step):
-        self.judge(self.run_with(word, given, step=step), 1, b"", NO_TEXT)
-    setattr(NoText, case_name(f"{word} {name} {step or ROOM} a call"), case)
+
+AROUND = range(ROOM - 4, ROOM + 1)
 
 
 class AroundTheRoom(Streams):
@@ -102,46 +84,40 @@ class AroundTheRoom(Streams):
     ends, or has ended within the character.
     """
 
-
-for before in range(ROOM - 4, ROOM + 1):
-    def document(self, before=before):
+    @support.each_row({f"document behind {before}": (before,) for before in AROUND})
+    def document(self, before):
         given = b"z" * before + "𝑥".encode()
-        self.judge(support.run([faulty.program(), "document"], stdin=given), 0, given, b"")
-    setattr(AroundTheRoom, f"test_document_behind_{before}", document)
+        self.expect(support.run([faulty.program(), "document"], stdin=given), stdout=given)
 
-    def formula(self, before=before):
-        answer = faulty.math("<mi>z</mi>" * before + '<mi mathvariant="normal">𝑥</mi>') + b"\n"
-        self.judge(support.run([faulty.program(), "inline"], stdin=b"z" * before + "𝑥".encode()), 0, answer, b"")
-    setattr(AroundTheRoom, f"test_formula_behind_{before}", formula)
+    @support.each_row({f"formula behind {before}": (before,) for before in AROUND})
+    def formula(self, before):
+        answer = math("<mi>z</mi>" * before + '<mi mathvariant="normal">𝑥</mi>') + b"\n"
+        self.expect(support.run([faulty.program(), "inline"], stdin=b"z" * before + "𝑥".encode()), stdout=answer)
 
-    for cut, word in itertools.product((1, 2, 3), ("inline", "document")):
-        def within(self, before=before, cut=cut, word=word):
-            given = b"z" * before + "𝑥".encode()[:cut]
-            self.judge(support.run([faulty.program(), word], stdin=given), 1, b"", NO_TEXT)
-        setattr(AroundTheRoom, f"test_{word}_{cut}_bytes_behind_{before}", within)
+    @support.each_row({f"{word} {cut} bytes behind {before}": (before, cut, word)
+               for before, cut, word in itertools.product(AROUND, (1, 2, 3), ("inline", "document"))})
+    def within(self, before, cut, word):
+        given = b"z" * before + "𝑥".encode()[:cut]
+        self.expect(support.run([faulty.program(), word], stdin=given), 1, b"", error(NO_TEXT))
 
 
 @support.requires("cc")
 class Outputs(Streams):
-    def stops_at_each_write(self, word, error):
+    @support.each_row({f"{word} {name} at each write": (word, number)
+                       for word in ANSWERS for name, number in WRITE_ERRORS.items()})
+    def stops_at_each_write(self, word, number):
         """One byte per call, and each call in turn fails, or takes nothing if the error is 0. Nothing after it is written."""
         for given, answer in ANSWERS[word]:
-            for number in range(1, len(answer) + 2):
-                with self.subTest(given=given, call=number):
-                    done, failed = self.run_with(word, given, fault=Fault("write", number, number, error), step=1)
-                    self.assertEqual(bool(failed), number <= len(answer))
-                    if failed:
-                        self.expect(done, 1, answer[:number - 1], stop_message(number - 1))
-                    else:
-                        self.expect(done, 0, answer)
+            self.fails_at_each("write", number, len(answer), [faulty.program(), word], given, answer,
+                               lambda call, answer=answer: (1, answer[:call - 1], stop_message(call - 1)))
 
     def test_byte_by_byte(self):
-        self.judge(self.run_with("inline", FORMULA, step=1), 0, OF_FORMULA, b"")
+        self.expect(self.run_with("inline", FORMULA, step=1), stdout=OF_FORMULA)
 
 
-for word, (name, error) in itertools.product(ANSWERS, WRITE_ERRORS.items()):
-    setattr(Outputs, case_name(f"{word} {name} at each write"),
-            lambda self, word=word, error=error: self.stops_at_each_write(word, error))
+def ends(due):
+    """Some numbers of bytes after which standard error stops, up to more than are due."""
+    return 0, 1, 9, len(due) // 2, len(due) - 1, len(due), len(due) + 41
 
 
 @support.requires("cc")
@@ -149,99 +125,69 @@ class Errors(Streams):
     """Standard error takes one byte a call and stops after some bytes. It then has the first bytes of what is due, and nothing else
     changes."""
 
-    def each_end(self, due):
-        """Some numbers of bytes after which standard error stops, up to more than are due."""
-        for taken in (0, 1, 9, len(due) // 2, len(due) - 1, len(due), len(due) + 41):
-            with self.subTest(taken=taken):
-                yield taken
-
     def test_wrong_words(self):
         """They leave the input to the next reader."""
-        for taken in self.each_end(USAGE):
-            with open_input(b"x") as source:
-                done, _ = self.run_with("inlines", source, errors=taken)
-                self.expect(done, 2, b"", USAGE[:taken])
+        for taken in ends(USAGE):
+            with self.subTest(taken=taken), open_input(b"x") as source:
+                self.expect(self.run_with("inlines", source, errors=taken), 2, b"", USAGE[:taken])
                 self.assertEqual(source.read(), b"x")
 
     def test_lines(self):
         """Each line is written in one piece, so that the lines of several processes do not mix."""
-        with support.scratch() as folder:
-            for name in "abc":
-                (folder / f"{name}.html").write_bytes(b"$$$")
-            for words, given, lines in ((["inline"], b"{x", 1), (["inlines"], b"", 1), (["html", folder], b"", 3)):
-                with self.subTest(words[0]):
-                    done, counts = faulty.counts_of([support.program(), *words], stdin=given)
-                    self.assertEqual((done.stderr.count(b"\n"), counts["errors"]), (lines, lines))
+        support.put(self.folder, dict.fromkeys(("a.html", "b.html", "c.html"), b"$$$"))
+        for words, given, lines in ((["inline"], b"{x", 1), (["inlines"], b"", 1), (["html", self.folder], b"", 3)):
+            with self.subTest(words[0]):
+                done, counts = faulty.counts_of([support.program(), *words], stdin=given)
+                self.assertEqual((done.stderr.count(b"\n"), counts["errors"]), (lines, lines))
 
     def test_inputs(self):
-        for word, (given, _) in ((word, pair) for word, pairs in ANSWERS.items() for pair in pairs):
-            for taken in self.each_end(UNREAD):
-                done, _ = self.run_with(word, given, fault=Fault("read", 2, 2, 5), step=1, errors=taken)
-                self.expect(done, 1, b"", UNREAD[:taken])
+        for (word, pairs), taken in itertools.product(ANSWERS.items(), ends(NO_INPUT)):
+            for given, _ in pairs:
+                with self.subTest(given=given, taken=taken):
+                    done = self.run_with(word, given, fault=Fault("read", 2, 2, 5), step=1, errors=taken)
+                    self.expect(done, 1, b"", NO_INPUT[:taken])
 
     def test_outputs(self):
-        for error in WRITE_ERRORS.values():
-            for taken in self.each_end(stop_message(2)):
-                done, _ = self.run_with("inline", b"x<y", fault=Fault("write", 3, 3, error), step=1, errors=taken)
+        for number, taken in itertools.product(WRITE_ERRORS.values(), ends(stop_message(2))):
+            with self.subTest(error=number, taken=taken):
+                done = self.run_with("inline", b"x<y", fault=Fault("write", 3, 3, number), step=1, errors=taken)
                 self.expect(done, 1, LESS[:2], stop_message(2)[:taken])
 
     def test_files(self):
         """The stream of the input is not read, and all files are converted."""
-        with support.scratch() as folder:
-            b, c = folder / "b.html", folder / "c.html"
-            lines = ERROR + f"{b}: The number of dollar sings found is invalid.\n".encode()
-            lines += ERROR + f'{c}: The token "RBrace" is expected, but the token "EOF" is found."\n'.encode()
-            for taken in self.each_end(lines):
-                for name, text in (("a", b"$x$"), ("b", b"$$$"), ("c", b"{$x$ ${$")):
-                    (folder / f"{name}.html").write_bytes(text)
-                with open_input(b"x<y") as source:
-                    done, _ = faulty.run_with([faulty.program(), "html", folder], stdin=source, errors=taken)
-                    self.expect(done, 1, b"", lines[:taken])
-                    self.assertEqual(source.read(), b"x<y")
-                self.assertEqual((folder / "a.html").read_bytes(), faulty.X)
+        lines = error(f"{self.folder}/b.html: {UNPAIRED}") + error(f"{self.folder}/c.html: {UNCLOSED}")
+        for taken in ends(lines):
+            support.put(self.folder, {"a.html": b"$x$", "b.html": b"$$$", "c.html": b"{$x$ ${$"})
+            with self.subTest(taken=taken), open_input(b"x<y") as source:
+                done, _ = faulty.run_with([faulty.program(), "html", self.folder], stdin=source, errors=taken)
+                self.expect(done, 1, b"", lines[:taken])
+                self.assertEqual(source.read(), b"x<y")
+                self.assertEqual((self.folder / "a.html").read_bytes(), X)
 
 
 class Pipes(Streams):
-    def nobody_reads(self, word):
-        """The reader closes its end before anything is written. The program gets an error, and no signal ends it."""
+    @support.each_row({**{word: (word, False) for word in WORDS}, "signal": ("inline", True)})
+    def nobody_reads(self, word, is_default):
+        """The reader closes its end before anything is written. The program gets an error, and no signal ends it, also
+        if the signal of a closed pipe has its default effect."""
         read, write = os.pipe()
         os.close(read)
         with open(write, "wb") as output:
-            done = support.run([faulty.program(), word], stdin=b"x", stdout=output, restore_signals=False)
-        self.expect(done, 1, None, stop_message(0))
-
-    def test_inline(self):
-        self.nobody_reads("inline")
-
-    def test_block(self):
-        self.nobody_reads("block")
-
-    def test_document(self):
-        self.nobody_reads("document")
-
-    def test_signal(self):
-        """The same if the signal of a closed pipe has its default effect."""
-        read, write = os.pipe()
-        os.close(read)
-        with open(write, "wb") as output:
-            done = support.run([faulty.program(), "inline"], stdin=b"x", stdout=output)
+            done = support.run([faulty.program(), word], stdin=b"x", stdout=output, restore_signals=is_default)
         self.expect(done, 1, None, stop_message(0))
 
     def test_reader_goes(self):
         """The reader closes its end while there is more to write than a pipe holds."""
         given = b"z" * 1_000_000
-        with support.scratch() as folder:
-            (folder / "in").write_bytes(given)
-            with open(folder / "in", "rb") as source:
-                running = subprocess.Popen([faulty.program(), "document"], stdin=source, stdout=subprocess.PIPE,
-                                           stderr=subprocess.PIPE)
-                first = running.stdout.read(1)
-                running.stdout.close()
-                errors = running.stderr.read()
-                running.stderr.close()
-                status = running.wait(timeout=60)
+        pipes = {"stdout": subprocess.PIPE, "stderr": subprocess.PIPE}
+        words = [faulty.program(), "document"]
+        with open_input(given) as source, subprocess.Popen(words, stdin=source, **pipes) as running:
+            first = running.stdout.read(1)
+            running.stdout.close()
+            errors = running.stderr.read()
+            status = running.wait(timeout=60)
         self.assertEqual((first, status), (b"z", 1))
-        found = re.fullmatch(re.escape(ERROR) + rb"The output stopped after (\d+) bytes\.\n", errors)
+        found = re.fullmatch(rb"LaTeX2MathML Error: The output stopped after (\d+) bytes\.\n", errors)
         self.assertIsNotNone(found, errors)
         self.assertIn(int(found[1]), range(1, len(given)))
 
@@ -251,16 +197,11 @@ FULL = pathlib.Path("/dev/full")
 
 @unittest.skipUnless(FULL.is_char_device(), f"{FULL} not found")
 class FullDevice(Streams):
+    @support.each_row({"inline": ("inline",), "document": ("document",)})
     def is_full(self, word):
         with open(FULL, "wb") as output:
             done = support.run([faulty.program(), word], stdin=b"x", stdout=output)
         self.expect(done, 1, None, stop_message(0))
-
-    def test_inline(self):
-        self.is_full("inline")
-
-    def test_document(self):
-        self.is_full("document")
 
     def test_errors(self):
         with open(FULL, "wb") as errors:
@@ -280,24 +221,20 @@ class Readings(Streams):
         return counts["read"]
 
     def test_short(self):
-        for word in ("inline", "block", "document"):
+        for word in WORDS:
             for given in (b"", b"x", b"x" * (ROOM - 1)):
                 with self.subTest(word=word, bytes=len(given)):
                     self.assertLessEqual(self.reads(word, given), 2)
 
     def test_long(self):
-        for word in ("inline", "block", "document"):
+        for word in WORDS:
             for size in (ROOM, ROOM + 1, 1_000_000, 16_000_000 // (1 + 15 * (word != "document"))):
                 with self.subTest(word=word, bytes=size):
                     self.assertLessEqual(self.reads(word, b"x" * size), size // ROOM + 2)
 
     def test_writes(self):
         """A result is written by one call, if the system takes it completely."""
-        for word in ("inline", "block", "document"):
+        for word in WORDS:
             with open_input(b"x" * 100_000) as source:
                 _, counts = faulty.counts_of([faulty.program(), word], stdin=source)
             self.assertEqual(counts["write"], 1)
-
-
-if __name__ == "__main__":
-    unittest.main()

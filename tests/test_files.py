@@ -1,53 +1,26 @@
 """Files under a path: calls that fail during a walk, files that change meanwhile, full devices, pipes and sockets."""
 import itertools
 import os
-import re
-import resource
 import shutil
-import signal
 import stat
-import unittest
 
 from tests import faulty, support
-from tests.faulty import ALL, Command, ERROR, Fault, X
-
-UNREAD = "The input could not be read."
-UNLISTED = "The directory could not be listed."
-NOT_CREATED = "The file could not be created anew."
-BAD_ENTRY = "An entry of the directory could not be read."
-UNPAIRED = "The number of dollar sings found is invalid."
-STOPPED = "The output stopped after {} bytes."
+from tests.faulty import ALL, Command, Fault
+from tests.texts import BAD_ENTRY, NOT_CREATED, STOPPED, UNLISTED, UNPAIRED, UNREAD, X, error
 
 # four documents, two of them in a folder between the others
 FILES = "a.html", "m/b.html", "m/c.html", "z.html"
 
-NOBODY = 65534
-
-
-def remove(folder):
-    """Removes a folder, whatever its permissions are."""
-    for path, inner, _ in os.walk(folder):
-        for name in inner:
-            os.chmod(os.path.join(path, name), 0o700)
-    shutil.rmtree(folder, ignore_errors=True)
-
-
-def name_of(text):
-    return "test_" + re.sub(r"\W+", "_", text)
-
 
 class Walks(support.Case):
     def setUp(self):
-        self.scratch = self.enterContext(support.scratch())
         # others may read it, because a case may run as another user
-        self.scratch.chmod(0o755)
-        self.site = self.scratch / "site"
+        self.folder.chmod(0o755)
+        self.site = self.folder / "site"
 
     def anew(self):
-        remove(self.site)
-        (self.site / "m").mkdir(parents=True)
-        for file in FILES:
-            (self.site / file).write_bytes(b"$x$")
+        shutil.rmtree(self.site, ignore_errors=True)
+        support.put(self.site, dict.fromkeys(FILES, b"$x$"))
 
     def html(self, **told):
         return faulty.run_with([faulty.program(), "html", self.site], **told)
@@ -57,7 +30,7 @@ class Walks(support.Case):
 
         Files that `held` does not name hold the answer, where they stand.
         """
-        lines = b"".join(ERROR + f"{self.site}{path}: {fault}\n".encode() for path, fault in faults)
+        lines = b"".join(error(f"{self.site}{path}: {fault}") for path, fault in faults)
         self.expect(done, 1 if faults else 0, b"", lines)
         held = dict(held)
         due = {file: held.get(file, X) for file in [*FILES, *held] if file in held or (self.site / file).is_file()}
@@ -93,152 +66,103 @@ class EachCall(Walks):
 
     def test_no_more_calls(self):
         """No call is made after those that fail."""
-        for kind, error in ((kind, error) for kind in CALLS for error in ERRORS[kind]):
-            with self.subTest(kind=kind, error=error):
+        for kind, number in ((kind, number) for kind in CALLS for number in ERRORS[kind]):
+            with self.subTest(kind=kind, error=number):
                 self.anew()
-                done, failed = self.html(fault=Fault(kind, len(CALLS[kind]) + 1, ALL, error))
+                done, failed = self.html(fault=Fault(kind, len(CALLS[kind]) + 1, ALL, number))
                 self.holds(done)
                 self.assertEqual(failed, [])
 
-
-def each_call(kind, error, number, path, fault, kept):
-    def case(self):
+    @support.each_row({f"{kind} {at} error {number}": (kind, number, at, *call)
+               for kind in CALLS for number, (at, call) in itertools.product(ERRORS[kind], enumerate(CALLS[kind], 1))})
+    def one_fails(self, kind, number, at, path, fault, kept):
         self.anew()
-        done, failed = self.html(fault=Fault(kind, number, number, error))
+        done, failed = self.html(fault=Fault(kind, at, at, number))
         self.assertEqual(failed, [kind])
-        self.holds(done, [(path, fault)] if fault else [], {file: b"$x$" for file in kept})
-    return case
-
-
-for kind in CALLS:
-    for error, (number, call) in itertools.product(ERRORS[kind], enumerate(CALLS[kind], 1)):
-        setattr(EachCall, name_of(f"{kind} {number} error {error}"), each_call(kind, error, number, *call))
+        self.holds(done, [(path, fault)] if fault else [], dict.fromkeys(kept, b"$x$"))
 
 
 @support.requires("cc")
 class AllCalls(Walks):
     """Each call of a kind fails."""
 
-    def all_fail(self, kind, error, held, faults):
+    @support.each_row({
+        "open": ("open", 24, b"$x$", [("", UNLISTED)]),
+        "list": ("list", 5, b"$x$", [("", BAD_ENTRY)]),
+        "look": ("look", 13, b"$x$", []),
+        "read": ("read", 4, b"$x$", [(f"/{file}", UNREAD) for file in FILES]),
+        "write": ("write", 28, b"", [(f"/{file}", STOPPED.format(0)) for file in FILES]),
+    })
+    def all_fail(self, kind, number, held, faults):
         self.anew()
-        done, _ = self.html(fault=Fault(kind, 1, ALL, error))
-        self.holds(done, faults, {file: held for file in FILES})
+        done, _ = self.html(fault=Fault(kind, 1, ALL, number))
+        self.holds(done, faults, dict.fromkeys(FILES, held))
 
-    def test_open(self):
-        self.all_fail("open", 24, b"$x$", [("", UNLISTED)])
 
-    def test_list(self):
-        self.all_fail("list", 5, b"$x$", [("", BAD_ENTRY)])
-
-    def test_look(self):
-        self.all_fail("look", 13, b"$x$", [])
-
-    def test_read(self):
-        self.all_fail("read", 4, b"$x$", [(f"/{file}", UNREAD) for file in FILES])
-
-    def test_write(self):
-        self.all_fail("write", 28, b"", [(f"/{file}", STOPPED.format(0)) for file in FILES])
+# the first and the last bytes, and some between
+STOPS = sorted({0, 1, 2, *range(3, len(X), 7), len(X) - 3, len(X) - 2, len(X) - 1})
 
 
 @support.requires("cc")
 class Writing(Walks):
     """The writing of a file stops: it holds the first bytes of its answer, and all others their answers."""
 
-
-def writing_case(error, written):
-    def case(self):
+    @support.each_row({f"error {number} after {written}": (number, written)
+                       for number, written in itertools.product((28, 5, 4, 0), STOPS)})
+    def stops(self, number, written):
         self.anew()
-        number = len(X) + written + 1
-        done, _ = self.html(fault=Fault("write", number, number, error), step=1)
+        call = len(X) + written + 1
+        done, _ = self.html(fault=Fault("write", call, call, number), step=1)
         self.holds(done, [("/m/b.html", STOPPED.format(written))], {"m/b.html": X[:written]})
-    return case
-
-
-# the first and the last bytes, and some between
-STOPS = sorted({0, 1, 2, *range(3, len(X), 7), len(X) - 3, len(X) - 2, len(X) - 1})
-
-for error, written in itertools.product((28, 5, 4, 0), STOPS):
-    setattr(Writing, f"test_error_{error}_after_{written}", writing_case(error, written))
 
 
 @support.requires("cc")
 class Meanwhile(Walks):
     """A command is run before the walk opens a path for the first or the second time."""
 
-    def after(self, path, time, text, faults=(), held=()):
+    @support.each_row({
+        # between the look at it and its opening
+        "file goes": ("a.html", 1, "rm a.html", [("/a.html", UNREAD)], {}, "a.html"),
+        "file becomes folder": ("a.html", 1, "rm a.html && mkdir a.html", [("/a.html", UNREAD)]),
+        "file is refused": ("a.html", 1, "printf '$$$' >a.html", [("/a.html", UNPAIRED)], {"a.html": b"$$$"}),
+        "file gets another text": ("a.html", 1, "printf 'so $x$' >a.html", [], {"a.html": b"so " + X}),
+        "file loses its formula": ("a.html", 1, "printf 'no sign' >a.html", [], {"a.html": b"no sign"}),
+        "folder goes": ("m", 1, "rm -r m", [("/m", UNLISTED)]),
+        "folder becomes file": ("m", 1, "rm -r m && printf x >m", [("/m", UNLISTED)], {"m": b"x"}),
+        # between the listing and the look
+        "file and folder go unseen": ("a.html", 1, "rm -r m z.html", [], {}, "z.html"),
+        "file comes behind the listing": ("a.html", 1, "cp z.html n.html", [], {"n.html": b"$x$"}),
+        # between the reading and the writing: the text that was read is converted
+        "file goes before it is written": ("a.html", 2, "rm a.html", [], {"a.html": X}),
+        "file becomes folder before it is written": (
+            "a.html", 2, "rm a.html && mkdir a.html", [("/a.html", NOT_CREATED)]),
+        "folder goes before its file is written": ("m/b.html", 2, "rm -r m", [("/m/b.html", NOT_CREATED)], {}, "m"),
+    })
+    def after(self, path, time, text, faults, held=(), gone=None):
         self.anew()
         command = Command(str(self.site / path), time, f"cd '{self.site}' && {text}")
         done, failed = self.html(command=command)
         self.assertEqual(failed, ["command"])
         self.holds(done, faults, held)
-
-    # between the look at it and its opening
-    def test_file_goes(self):
-        self.after("a.html", 1, "rm a.html", [("/a.html", UNREAD)])
-        self.assertFalse((self.site / "a.html").exists(), "made anew")
-
-    def test_file_becomes_folder(self):
-        self.after("a.html", 1, "rm a.html && mkdir a.html", [("/a.html", UNREAD)])
-
-    def test_file_is_refused(self):
-        self.after("a.html", 1, "printf '$$$' >a.html", [("/a.html", UNPAIRED)], {"a.html": b"$$$"})
-
-    def test_file_gets_another_text(self):
-        self.after("a.html", 1, "printf 'so $x$' >a.html", held={"a.html": b"so " + X})
-
-    def test_file_loses_its_formula(self):
-        self.after("a.html", 1, "printf 'no sign' >a.html", held={"a.html": b"no sign"})
-
-    def test_folder_goes(self):
-        self.after("m", 1, "rm -r m", [("/m", UNLISTED)])
-
-    def test_folder_becomes_file(self):
-        self.after("m", 1, "rm -r m && printf x >m", [("/m", UNLISTED)], {"m": b"x"})
-
-    # between the listing and the look
-    def test_file_and_folder_go_unseen(self):
-        self.after("a.html", 1, "rm -r m z.html")
-        self.assertFalse((self.site / "z.html").exists(), "made anew")
-
-    def test_file_comes_behind_the_listing(self):
-        self.after("a.html", 1, "cp z.html n.html", held={"n.html": b"$x$"})
-
-    # between the reading and the writing: the text that was read is converted
-    def test_file_goes_before_it_is_written(self):
-        self.after("a.html", 2, "rm a.html", held={"a.html": X})
-
-    def test_file_becomes_folder_before_it_is_written(self):
-        self.after("a.html", 2, "rm a.html && mkdir a.html", [("/a.html", NOT_CREATED)])
-
-    def test_folder_goes_before_its_file_is_written(self):
-        self.after("m/b.html", 2, "rm -r m", [("/m/b.html", NOT_CREATED)])
-        self.assertFalse((self.site / "m").exists(), "made anew")
+        if gone:
+            self.assertFalse((self.site / gone).exists(), "made anew")
 
 
-@unittest.skipUnless(os.geteuid() or shutil.which("setpriv"), "this user may open all files, and setpriv not found")
 class Rights(Walks):
     """Files that a user may not open. If the user may open everything, another user runs the case."""
 
-    def as_user(self, words):
-        drop = [] if os.geteuid() else ["setpriv", f"--reuid={NOBODY}", f"--regid={NOBODY}", "--clear-groups"]
-        return support.run([*drop, *words])
-
     def test_rights(self):
         self.anew()
-        for folder in ("entered", "listed", "kept"):
-            (self.site / folder).mkdir()
-            (self.site / folder / "a.html").write_bytes(b"$x$")
-        (self.site / "y.html").write_bytes(b"no sign")
-        if not os.geteuid():
-            for path in (self.site, *self.site.rglob("*")):
-                os.chown(path, NOBODY, NOBODY)
+        support.put(self.site, {f"{folder}/a.html": b"$x$" for folder in ("entered", "listed", "kept")})
+        support.put(self.site, {"y.html": b"no sign"})
+        user = support.as_nobody(self.site)
         rights = {0o000: ("a.html", "m"), 0o311: ("entered",), 0o444: ("listed", "y.html", "z.html"), 0o555: ("kept",)}
         for mode, names in rights.items():
             for name in names:
                 (self.site / name).chmod(mode)
-        if not self.as_user(["cat", self.site / "a.html"]).returncode:
-            self.skipTest("setpriv makes no user that may not open all files")
-        done = self.as_user([faulty.program(), "html", self.site])
+        if not support.run(["cat", self.site / "a.html"], **user).returncode:
+            self.skipTest("there is no user that may not open all files")
+        done = support.run([faulty.program(), "html", self.site], **user)
         for path in (self.site, *self.site.iterdir()):
             path.chmod(path.stat().st_mode | stat.S_IRWXU)
         kept = ("a.html", "entered/a.html", "listed/a.html", "m/b.html", "m/c.html", "z.html")
@@ -250,6 +174,8 @@ class Rights(Walks):
 class NoFiles(Walks):
     """What is neither a file nor a directory is left alone, whatever its name is, and not opened: that might never end."""
 
+    @support.each_row({"pipe": (os.mkfifo,), "socket": (lambda path: os.mknod(path, stat.S_IFSOCK | 0o600),),
+               "link to a device": (lambda path: path.symlink_to(os.devnull),)})
     def is_left_alone(self, make):
         """Makes something at a path, and walks the folder with it, and then the path alone."""
         self.anew()
@@ -263,15 +189,6 @@ class NoFiles(Walks):
                 self.holds(done)
                 self.assertEqual(counts["open"], opened)
                 self.assertEqual((path.lstat().st_mode, path.lstat().st_ino), (before.st_mode, before.st_ino))
-
-    def test_pipe(self):
-        self.is_left_alone(os.mkfifo)
-
-    def test_socket(self):
-        self.is_left_alone(lambda path: os.mknod(path, stat.S_IFSOCK | 0o600))
-
-    def test_link_to_a_device(self):
-        self.is_left_alone(lambda path: path.symlink_to(os.devnull))
 
 
 class Full(Walks):
@@ -308,18 +225,17 @@ class Full(Walks):
                 done = run_full("document", number=4, stdin=b"$x$" * self.COUNT, stdout=output)
             held = (device / "out").read_bytes()
             self.assertTrue((X * self.COUNT).startswith(held))
-            self.expect(done, 1, None, ERROR + STOPPED.format(len(held)).encode() + b"\n")
+            self.expect(done, 1, None, error(STOPPED.format(len(held))))
         finally:
             if is_mounted:
                 support.run(["umount", device])
 
     def test_limit(self):
-        """The system tells of the limit by a signal that ends a program, unless it is ignored as here, and then by an error."""
-        def limit():
-            signal.signal(signal.SIGXFSZ, signal.SIG_IGN)
-            resource.setrlimit(resource.RLIMIT_FSIZE, (20 << 10, 20 << 10))
+        """The system tells of the limit by a signal that ends a program, unless it is ignored, as Python has it, and
+        then by an error."""
         self.anew()
         (self.site / "limited.html").write_bytes(b"$x$" * self.COUNT)
+        limit = support.limit(FSIZE=20 << 10)
         done = support.run([faulty.program(), "html", self.site], preexec_fn=limit, restore_signals=False)
         self.is_cut(done, "limited.html")
         with self.subTest("a second run does not notice"):
@@ -332,27 +248,15 @@ class Full(Walks):
 class Large(Walks):
     """Documents of many megabytes are converted like any other."""
 
+    @support.each_row({"2 megabytes": (2 << 20,), "64 megabytes": (64 << 20,)})
     def is_converted(self, size):
-        self.site.mkdir()
         prose = b"Let us see what there is. " * (size // 26)
-        (self.site / "a.html").write_bytes(prose + b"$x$")
-        (self.site / "b.html").write_bytes(b"$x$")
+        support.put(self.site, {"a.html": prose + b"$x$", "b.html": b"$x$"})
         self.expect(support.run([support.program(), "html", self.site]), 0, b"")
         self.assertTrue((self.site / "a.html").read_bytes() == prose + X)
         self.assertEqual((self.site / "b.html").read_bytes(), X)
 
-    def test_2_megabytes(self):
-        self.is_converted(2 << 20)
-
-    def test_64_megabytes(self):
-        self.is_converted(64 << 20)
-
     def test_many_formulas(self):
-        self.site.mkdir()
-        (self.site / "a.html").write_bytes(b"$x$" * 700_000)
+        support.put(self.site, {"a.html": b"$x$" * 700_000})
         self.expect(support.run([support.program(), "html", self.site]), 0, b"")
         self.assertTrue((self.site / "a.html").read_bytes() == X * 700_000)
-
-
-if __name__ == "__main__":
-    unittest.main()

@@ -3,12 +3,12 @@
 Instructions are counted by cachegrind, of texts of two sizes; requests and bytes held by `counts.c`. None of these counts hangs
 on what else the machine does.
 """
-import unittest
 
 import pytest
 
 from tests import faulty, support
 from tests.instructions import instructions
+from tests.texts import math
 
 pytestmark = pytest.mark.long
 
@@ -159,8 +159,9 @@ FORMULAS = {
 REFUSED = {"open braces", "white space behind open braces", "groups that are still open", "a long name of an environment"}
 
 
-def status_of(name):
-    return int(name in REFUSED)
+def with_status(texts):
+    """The rows, each behind the status that the program ends with."""
+    return {name: (int(name in REFUSED), *row) for name, row in texts.items()}
 
 
 class Growth(support.Case):
@@ -179,6 +180,7 @@ class Growth(support.Case):
 class Instructions(Growth):
     """Four times the text takes four times the instructions."""
 
+    @support.each_row(with_status(TEXTS))
     def judge(self, status, word, text, size):
         self.is_whole(support.run([support.program(), word], stdin=text(4 * size)), status)
         small, large = (instructions([support.program(), word], text(n), status=status) for n in (size, 4 * size))
@@ -189,6 +191,7 @@ class Instructions(Growth):
 class Memory(Growth):
     """A million bytes of a text are converted, with four times the memory of a quarter of them."""
 
+    @support.each_row(with_status(TEXTS))
     def judge(self, status, word, text, _):
         small, large = (self.count(word, text(n), status)["peak"] for n in (MEGABYTE // 4, MEGABYTE))
         self.assertLessEqual(large, MOST_TIMES * small + OWN_BYTES, f"{small:,} bytes are held, and of four times the text {large:,}")
@@ -197,6 +200,7 @@ class Memory(Growth):
         """Memory is held for the text and the answer alone, whose room is at most twice as large as they are."""
         self.assertLessEqual(peak, 2 * (text + answer) + OWN_BYTES, f"the text has {text:,} bytes, and the answer {answer:,}")
 
+    @support.each_row({f"one at a time of {name}": row for name, row in ONE_AT_A_TIME.items()})
     def judge_one_at_a_time(self, word, text):
         given = text(MEGABYTE)
         counts = self.count(word, given)
@@ -206,7 +210,7 @@ class Memory(Growth):
         """A document of many formulas needs memory for its text and its answer, and room for both to grow."""
         for formula, contents in FORMULAS.items():
             with self.subTest(formula):
-                document, answer = formula.encode() * 200_000, faulty.math(contents) * 200_000
+                document, answer = formula.encode() * 200_000, math(contents) * 200_000
                 done, counts = faulty.counts_of([support.program(), "document"], stdin=document)
                 self.assertEqual((done.returncode, done.stdout == answer), (0, True))
                 self.judge_room(len(document), len(answer), counts["peak"])
@@ -223,28 +227,12 @@ class Memory(Growth):
 class Requests(Growth):
     """Allocations happen only if a text or a list is full, or for a name or a text that is spelled out."""
 
+    @support.each_row(with_status(DOUBLING))
     def judge(self, status, word, text, counted):
         self.assertLessEqual(self.count(word, text(100_000), status)["requests"], counted + MORE_REQUESTS)
 
+    @support.each_row({f"each of {name}": row for name, row in FOR_EACH.items()})
     def judge_each(self, word, piece, each):
         """Those of 5,000 pieces more are so many for each of them, besides the doubling of what grows."""
         few, many = (self.count(word, piece.encode() * pieces)["requests"] for pieces in (5_000, 10_000))
         self.assertLessEqual(many - few, 5_000 * each + MORE_REQUESTS)
-
-
-def add(where, name, judge, given):
-    setattr(where, f"test_{name.replace(' ', '_')}", lambda self: judge(self, *given))
-
-
-for name, given in TEXTS.items():
-    add(Instructions, name, Instructions.judge, (status_of(name), *given))
-    add(Memory, name, Memory.judge, (status_of(name), *given))
-for name, given in ONE_AT_A_TIME.items():
-    add(Memory, f"one at a time of {name}", Memory.judge_one_at_a_time, given)
-for name, given in DOUBLING.items():
-    add(Requests, name, Requests.judge, (status_of(name), *given))
-for name, given in FOR_EACH.items():
-    add(Requests, f"each of {name}", Requests.judge_each, given)
-
-if __name__ == "__main__":
-    unittest.main()

@@ -3,17 +3,15 @@
 The house here has a few cases of its own, and other programs in place of `rt` and of the compiler.
 """
 import os
-import shutil
 import signal
 import subprocess
 import sys
-import time
 import unittest
 import unittest.mock
 
 from tests import cases
 from tests.__main__ import NO_TOOLCHAIN, name_of
-from tests.support import ROOT, SKIP_NOTHING, Case, processors, run, scratch
+from tests.support import ROOT, SKIP_NOTHING, Case, hear_signals, processors, put, run
 from tools.progress import clock
 
 SAMPLES = {
@@ -147,46 +145,37 @@ exit ${LIBRARY:-0}
 
 class Harness(Case):
     def setUp(self):
-        self.folder = self.enterContext(scratch())
         self.house = self.folder / "house"
-        for name in ("pytest.ini", "tests/__init__.py", "tests/__main__.py", "tests/conftest.py", "tests/support.py", "tests/cases.py",
-                     "tools/__init__.py", "tools/progress.py"):
-            (self.house / name).parent.mkdir(parents=True, exist_ok=True)
-            shutil.copy(ROOT / name, self.house / name)
-        for name, text in (("crates.txt", "low:\none: low\nlatex2mathml_c staticlib: one\n"), ("HANDLES", ""), ("crates/one/src/lib.rt", "\n"),
-                           ("crates/latex2mathml_c/src/lib.rt", "\n")):
-            (self.house / name).parent.mkdir(parents=True, exist_ok=True)
-            (self.house / name).write_text(text)
-        for path, text in ((self.folder / "bin/rt", RT), (self.folder / "kit/bin/rattle", RATTLE)):
-            path.parent.mkdir(parents=True, exist_ok=True)
-            path.write_text(text)
-            path.chmod(0o755)
+        names = ("pytest.ini", "tests/__init__.py", "tests/__main__.py", "tests/conftest.py", "tests/support.py",
+                 "tests/cases.py", "tests/texts.py", "tools/__init__.py", "tools/progress.py")
+        put(self.house, {name: (ROOT / name).read_text() for name in names})
+        put(self.house, {"crates.txt": "low:\none: low\nlatex2mathml_c staticlib: one\n", "HANDLES": "",
+                         "crates/one/src/lib.rt": "\n", "crates/latex2mathml_c/src/lib.rt": "\n"})
+        put(self.folder, {"bin/rt": RT, "kit/bin/rattle": RATTLE})
 
     def add(self, *names):
-        for name in names:
-            (self.house / "tests" / name).write_text(SAMPLES[name])
+        put(self.house / "tests", {name: SAMPLES[name] for name in names})
 
     def environment(self, **more):
         kept = {name: value for name, value in os.environ.items() if not name.startswith(("PYTEST", "LATEX2MATHML"))}
         return {**kept, "PATH": f"{self.folder / 'bin'}:{os.environ['PATH']}", "ORDER": str(self.folder / "order"),
                 "PROCESS": str(self.folder / "process"), **more}
 
-    def run_it(self, *words, before=None, **more):
-        """What `./test` with these words prints, and its last line. The status is 1 if something failed."""
+    def comes_to(self, passed, failed, *words, before=None, **more):
+        """What `./test` with these words prints. Its last line has these numbers; its status is 1 if something
+        failed."""
         words = [sys.executable, "-B", "-m", "tests", *words]
         done = run(words, cwd=self.house, env=self.environment(**more), timeout=120, preexec_fn=before)
         shown = (done.stdout + done.stderr).decode()
-        last = done.stdout.decode().splitlines()[-1]
-        self.assertRegex(last, r"\A\d+ passed, \d+ failed\Z", shown)
-        self.assertEqual(done.returncode, int(not last.endswith(" 0 failed")), shown)
-        return last, shown
+        self.assertEqual(done.stdout.decode().splitlines()[-1], f"{passed} passed, {failed} failed", shown)
+        self.assertEqual(done.returncode, int(failed > 0), shown)
+        return shown
 
 
 class Counts(Harness):
     def test_each_case_and_each_part_is_counted(self):
         self.add("test_sample.py")
-        last, shown = self.run_it("test_sample")
-        self.assertEqual(last, "6 passed, 4 failed", shown)
+        shown = self.comes_to(6, 4, "test_sample")
         for told in ("AssertionError: 1 != 2 : one is not two", "test_parts [1]", "it stops", "nothing is ready", "a tool is missing"):
             self.assertIn(told, shown)
         self.assertNotIn("a word of no interest", shown)
@@ -195,26 +184,23 @@ class Counts(Harness):
         self.add("test_sample.py")
         for case, passed in (("test_skipped", 0), ("test_skipped_part", 1)):
             with self.subTest(case):
-                self.assertEqual(self.run_it(f"test_sample.Sample.{case}")[0], f"{passed} passed, 0 failed")
-                self.assertEqual(self.run_it(f"test_sample.Sample.{case}", **{SKIP_NOTHING: "1"})[0], f"{passed} passed, 1 failed")
+                self.comes_to(passed, 0, f"test_sample.Sample.{case}")
+                self.comes_to(passed, 1, f"test_sample.Sample.{case}", **{SKIP_NOTHING: "1"})
 
     def test_a_process_that_ends_before_its_cases(self):
         self.add("test_ends.py")
-        last, shown = self.run_it("test_ends")
-        self.assertEqual(last, "4 passed, 1 failed", shown)
+        shown = self.comes_to(4, 1, "test_ends")
         self.assertIn("FAILED tests/test_ends.py::Ends::test_then\n", shown)
 
     def test_a_process_that_ends_after_its_cases(self):
         """What else it had to say is then lost."""
         self.add("test_last.py")
-        last, shown = self.run_it("test_last")
-        self.assertEqual(last, "1 passed, 1 failed", shown)
+        self.comes_to(1, 1, "test_last")
 
     def test_a_case_that_does_not_end(self):
         """It is named, and those after it are tried, though it waits for a process that never ends."""
         self.add("test_hangs.py")
-        last, shown = self.run_it("test_hangs.HangsShortly")
-        self.assertEqual(last, "1 passed, 1 failed", shown)
+        shown = self.comes_to(1, 1, "test_hangs.HangsShortly")
         self.assertIn("Timeout", shown)
         self.assertIn("FAILED tests/test_hangs.py::HangsShortly::test_it\n", shown)
         self.wait_for(lambda: not os.path.exists(f"/proc/{(self.folder / 'process').read_text()}"))
@@ -223,23 +209,20 @@ class Counts(Harness):
         self.add("test_slow.py")
         path = self.house / "tests/test_slow.py"
         path.write_text(path.read_text().replace("mark.long", "mark.lnog"))
-        last, shown = self.run_it("test_slow")
-        self.assertEqual(last, "0 passed, 1 failed", shown)
+        shown = self.comes_to(0, 1, "test_slow")
         self.assertIn("'lnog' not found", shown)
 
     def test_a_name_that_nothing_has(self):
         self.add("test_sample.py")
         for word in ("test_sample.Nothing", "test_nothing", "test_sample.Sample.test_nothing"):
             with self.subTest(word):
-                self.assertEqual(self.run_it(word)[0], "0 passed, 1 failed")
+                self.comes_to(0, 1, word)
 
     def test_an_interruption_ends_all(self):
         self.add("test_hangs.py")
         process = self.folder / "process"
         words = [sys.executable, "-B", "-m", "tests", "test_hangs.Hangs.test_it"]
-        # these tests may run in the background of a shell, which has an interruption ignored
-        how = {"cwd": self.house, "env": self.environment(), "stdout": subprocess.DEVNULL,
-               "preexec_fn": lambda: signal.signal(signal.SIGINT, signal.SIG_DFL)}
+        how = {"cwd": self.house, "env": self.environment(), "stdout": subprocess.DEVNULL, "preexec_fn": hear_signals}
         for number in (signal.SIGINT, signal.SIGTERM):
             with self.subTest(number), subprocess.Popen(words, **how) as running:
                 self.wait_for(process.exists)
@@ -249,20 +232,12 @@ class Counts(Harness):
                 self.wait_for(lambda: not os.path.exists(f"/proc/{process.read_text()}"))
                 process.unlink()
 
-    def wait_for(self, is_so):
-        for _ in range(600):
-            if is_so():
-                return
-            time.sleep(0.05)
-        self.fail("it did not come to that within half a minute")
-
 
 class Whole(Harness):
     def test_all_passes(self):
         self.add("test_order.py", "test_slow.py")
         one = {min(os.sched_getaffinity(0))}
-        last, shown = self.run_it(BUILDS="1", before=lambda: os.sched_setaffinity(0, one))
-        self.assertEqual(last, "7 passed, 0 failed", shown)
+        shown = self.comes_to(7, 0, BUILDS="1", before=lambda: os.sched_setaffinity(0, one))
         self.assertIn("    3 passed, 0 failed (1 proved)\n", shown)
         self.assertEqual((self.folder / "order").read_text(), "long\nshort 1\n")
         made, source = self.house / "crates/one/out/one", self.house / "crates/one/src/lib.rt"
@@ -270,20 +245,15 @@ class Whole(Harness):
 
     def test_the_proofs_alone(self):
         self.add("test_order.py")
-        self.assertEqual(self.run_it("proofs")[0], "5 passed, 0 failed")
+        self.comes_to(5, 0, "proofs")
         self.assertFalse((self.folder / "order").exists())
 
     def test_nothing_is_tried_over_what_is_not_proved(self):
         self.add("test_order.py")
-        for more, count in [
-            ({"STATUS": "1", "SAYS": "2 passed, 1 failed (it)"}, "3 passed, 1 failed"),
-            ({"STATUS": "1"}, "4 passed, 1 failed"),
-            ({"SAYS": "no line"}, "1 passed, 1 failed"),
-            ({"LIBRARY": "1"}, "4 passed, 1 failed"),
-        ]:
+        for more, passed in [({"STATUS": "1", "SAYS": "2 passed, 1 failed (it)"}, 3), ({"STATUS": "1"}, 4),
+                             ({"SAYS": "no line"}, 1), ({"LIBRARY": "1"}, 4)]:
             with self.subTest(more):
-                last, shown = self.run_it(**more)
-                self.assertEqual(last, count, shown)
+                shown = self.comes_to(passed, 1, **more)
                 self.assertEqual("line 100\n" in shown, "LIBRARY" not in more)
                 self.assertNotIn("line 50\n", shown)
                 self.assertFalse((self.folder / "order").exists())
@@ -291,8 +261,7 @@ class Whole(Harness):
     def test_a_file_that_is_not_in_its_layout(self):
         for formats, told in (("eval echo >>src/lib.rt", "crates/one/src/lib.rt"), ("false", "one")):
             with self.subTest(formats):
-                last, shown = self.run_it(FMT=formats)
-                self.assertEqual(last, "0 passed, 2 failed")
+                shown = self.comes_to(0, 2, FMT=formats)
                 self.assertIn(f"FAILED: not in the layout of `rt fmt`: {told}\n", shown)
                 self.assertEqual((self.house / "crates/one/src/lib.rt").read_text(), "\n")
                 self.assertNotIn("one proved", shown)
@@ -309,12 +278,11 @@ class Whole(Harness):
     def test_a_module_without_a_case(self):
         self.add("test_order.py")
         (self.house / "tests/test_empty.py").write_text("")
-        last, shown = self.run_it()
-        self.assertEqual(last, "6 passed, 1 failed", shown)
+        shown = self.comes_to(6, 1)
         self.assertIn("FAILED: no case of tests/test_empty.py was tried\n", shown)
 
 
-class Names(unittest.TestCase):
+class Names(Case):
     def test_names(self):
         for word in ("tests.test_c", "test_c", "tests/test_c.py", "test_c.py"):
             self.assertEqual(name_of(word), "tests/test_c.py")
@@ -332,7 +300,7 @@ class Names(unittest.TestCase):
 
     def test_processors(self):
         """A quota of a container counts where it is smaller than what can be seen."""
-        quota = self.enterContext(scratch()) / "cpu.max"
+        quota = self.folder / "cpu.max"
         for text, count in (("max 100000", 8), ("200000 100000", 2), ("50000 100000", 1), ("1600000 100000", 8), ("", 8), (None, 8)):
             with self.subTest(text), unittest.mock.patch("tests.support.QUOTA", quota), \
                     unittest.mock.patch("os.sched_getaffinity", return_value=set(range(8))):

@@ -5,7 +5,6 @@ So a change that makes the program or the library for C slower or faster is noti
 `bench/calls.py --renew` then write the files.
 """
 import sys
-import unittest
 
 from tests import support
 
@@ -37,6 +36,7 @@ class Counted(support.Case):
 
 @support.requires("valgrind")
 class Instructions(Counted):
+    @support.each_row({str(number): (name,) for number, name in enumerate(LOADS)})
     def judge(self, name):
         word, text = LOADS[name]
         counted = measure.count_instructions([support.program()], word, text)
@@ -45,6 +45,7 @@ class Instructions(Counted):
 
 @support.requires("valgrind")
 class TexInstructions(Counted):
+    @support.each_row({str(number): (name,) for number, name in enumerate(TEX_LOADS)})
     def judge(self, name):
         counted = measure.count_tex(support.tex_program(), TEX_LOADS[name])
         self.compare(counted, measure.figures()[name], "measure.py", "instructions.txt")
@@ -58,16 +59,6 @@ class Calls(Counted):
     def setUpClass(cls):
         cls.caller = calls.build(support.c_library(), cls.enterClassContext(support.scratch()) / "calls")
 
+    @support.each_row({str(number): (latex,) for number, latex in enumerate(calls.FORMULAS)})
     def judge(self, latex):
         self.compare(calls.a_call(self.caller, latex), calls.figures()[latex], "calls.py", "calls.txt")
-
-
-for number, name in enumerate(LOADS):
-    setattr(Instructions, f"test_{number}", lambda self, name=name: self.judge(name))
-for number, name in enumerate(TEX_LOADS):
-    setattr(TexInstructions, f"test_{number}", lambda self, name=name: self.judge(name))
-for number, latex in enumerate(calls.FORMULAS):
-    setattr(Calls, f"test_{number}", lambda self, latex=latex: self.judge(latex))
-
-if __name__ == "__main__":
-    unittest.main()

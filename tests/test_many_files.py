@@ -1,26 +1,20 @@
 """Folders of many files: whether all are converted, and what a walk takes for each file and each name."""
 import os
-import resource
-import signal
-import unittest
+import shutil
 
 from tests import faulty, support
-from tests.faulty import X
 from tests.instructions import instructions
-from tests.test_files import BAD_ENTRY, STOPPED, UNPAIRED, Walks, remove
+from tests.test_files import Walks
+from tests.texts import BAD_ENTRY, STOPPED, UNPAIRED, X
 
 
 class Folders(Walks):
     """Folders with a given number of files and folders."""
 
     def make(self, files, folders=0, text=b"$x$"):
-        remove(self.site)
-        self.site.mkdir()
-        for number in range(files):
-            (self.site / f"{number}.html").write_bytes(text)
-        for number in range(folders):
-            (self.site / f"folder{number}").mkdir()
-            (self.site / f"folder{number}/a.html").write_bytes(text)
+        shutil.rmtree(self.site, ignore_errors=True)
+        support.put(self.site, {f"{number}.html": text for number in range(files)})
+        support.put(self.site, {f"folder{number}/a.html": text for number in range(folders)})
 
 
 class Many(Folders):
@@ -32,24 +26,17 @@ class Many(Folders):
 
     def test_few_descriptors(self):
         """Each file and each folder is closed before the next is opened."""
-        def limit():
-            resource.setrlimit(resource.RLIMIT_NOFILE, (16, 16))
         self.make(100, 100)
-        deep = self.site.joinpath("deep", *["d"] * 60)
-        deep.mkdir(parents=True)
-        (deep / "a.html").write_bytes(b"$x$")
-        self.expect(support.run([support.program(), "html", self.site], preexec_fn=limit), 0, b"")
+        support.put(self.site, {f"deep/{'d/' * 60}a.html": b"$x$"})
+        self.expect(support.run([support.program(), "html", self.site], preexec_fn=support.limit(NOFILE=16)), 0, b"")
         self.are_converted()
 
     def test_few_descriptors_where_nothing_is_written(self):
         """A file that takes none of its answer is closed too, and the walk goes on."""
-        def limit():
-            signal.signal(signal.SIGXFSZ, signal.SIG_IGN)
-            resource.setrlimit(resource.RLIMIT_FSIZE, (0, 0))
-            resource.setrlimit(resource.RLIMIT_NOFILE, (16, 16))
         self.make(100)
         with open(os.devnull, "wb") as output:
-            done = support.run([support.program(), "html", self.site], preexec_fn=limit, restore_signals=False, stdout=output)
+            done = support.run([support.program(), "html", self.site], preexec_fn=support.limit(FSIZE=0, NOFILE=16),
+                               restore_signals=False, stdout=output)
         self.assertEqual(done.stderr.count(b": " + STOPPED.format(0).encode()), 100, support.show(done.stderr))
         self.expect(done, 1, None, None)
 
@@ -61,13 +48,11 @@ class Many(Folders):
 
     def test_little_stack(self):
         """No stack is taken for each name of a folder, also one that is no text, nor for each line of what was not converted."""
-        def limit():
-            resource.setrlimit(resource.RLIMIT_STACK, (128 << 10, 128 << 10))
         self.make(20_000, text=b"$$$")
         for number in range(20_000):
             os.close(os.open(os.fsencode(self.site) + b"/%d\xff" % number, os.O_CREAT))
         # the variables of an environment would take a part of the stack
-        done = support.run([support.program(), "html", self.site], preexec_fn=limit, env={})
+        done = support.run([support.program(), "html", self.site], preexec_fn=support.limit(STACK=128 << 10), env={})
         self.expect(done, 1, b"", None)
         self.assertEqual([done.stderr.count(fault.encode()) for fault in (UNPAIRED, BAD_ENTRY)], [20_000, 20_000])
 
@@ -90,6 +75,9 @@ class Counts(Folders):
         _, counts = faulty.counts_of([faulty.program(), "html", self.site])
         return counts
 
+    # a letter alone needs no parts, but scripts, fractions, and a text that is spelled out do
+    @support.each_row({"converted": (b"$x$",), "converted parts": (b"$x^2$ $\\frac12$ $\\text{ab}$",),
+                       "unchanged": (b"no sign",), "refused": (b"$$$",), "no text": (b"\xff",)})
     def leaves_nothing(self, text):
         """The memory at the end is the same for a hundred files as for one, and all files are closed."""
         one, hundred = self.counts(1, 1, text), self.counts(100, 100, text)
@@ -97,22 +85,6 @@ class Counts(Folders):
             self.assertEqual(hundred["held"], one["held"])
         with self.subTest("descriptors"):
             self.assertEqual(hundred["open"] - hundred["close"], one["open"] - one["close"])
-
-    def test_converted(self):
-        self.leaves_nothing(b"$x$")
-
-    def test_converted_parts(self):
-        """A letter alone needs no parts. These do, and a text that is spelled out."""
-        self.leaves_nothing(b"$x^2$ $\\frac12$ $\\text{ab}$")
-
-    def test_unchanged(self):
-        self.leaves_nothing(b"no sign")
-
-    def test_refused(self):
-        self.leaves_nothing(b"$$$")
-
-    def test_no_text(self):
-        self.leaves_nothing(b"\xff")
 
     def test_readings(self):
         """A file is opened and read once, 4,096 bytes at a time, and opened once more for writing."""
@@ -146,6 +118,7 @@ class Counts(Folders):
 class Instructions(Folders):
     """Five times the files take five times the instructions, but for the sorting of their names."""
 
+    @support.each_row({"converted": (b"$x$",), "unchanged": (b"no sign",), "refused": (b"$$$", 1)})
     def judge(self, text, status=0):
         counted = []
         for files in (200, 1_000):
@@ -153,16 +126,3 @@ class Instructions(Folders):
             counted.append(instructions([support.program(), "html", self.site], status=status))
         few, many = counted
         self.assertLessEqual(many, 5.5 * few, f"{few:,} for 200 files, {many:,} for 1,000")
-
-    def test_converted(self):
-        self.judge(b"$x$")
-
-    def test_unchanged(self):
-        self.judge(b"no sign")
-
-    def test_refused(self):
-        self.judge(b"$$$", 1)
-
-
-if __name__ == "__main__":
-    unittest.main()

@@ -1,23 +1,22 @@
 """The extension of Python-Markdown: the formulas that it finds, the text that it leaves alone, and its output."""
 import re
-import unittest
-from pathlib import Path
 
 import pytest
 
 from tests.environments import ask, environment, requires_python, run_python
-from tests.support import ROOT, Case, limit_processor, scratch
+from tests.support import ROOT, Case, limit
+from tests.texts import LESS, LESS_BLOCK
 
 pytestmark = pytest.mark.long
 
 # What a process may take that reads a slow text.
-SLOW = {"preexec_fn": limit_processor(20), "timeout": 300}
+SLOW = {"preexec_fn": limit(CPU=20), "timeout": 300}
 
 OPEN = "{ is not closed at column 1"
 
 # Converts each text with its options, and returns the page and the log, or the error.
 CONVERT = """
-import json, logging, sys
+import logging
 import markdown
 
 def answer(text, options, others):
@@ -30,13 +29,11 @@ def answer(text, options, others):
     except ValueError as error:
         return [None, [str(error)]]
     return [page, said]
-
-print(json.dumps([answer(*it) for it in json.load(sys.stdin)]))
 """
 
 # Converts with the module's name and options, and returns the contents of the formula, or the error.
 BY_MODULE = """
-import json, re, sys
+import re
 import markdown
 from latex2mathml_proved.rendering import FaultyFormula
 
@@ -47,22 +44,19 @@ def answer(text):
     except FaultyFormula as error:
         return str(error)
     return re.search("<math [^>]*>(.*)</math>", page)[1]
-
-print(json.dumps([answer(text) for text in json.load(sys.stdin)]))
 """
 
 AGAIN = """
-import json, sys
 import markdown
 
 md = markdown.Markdown(extensions=["latex2mathml"])
-print(json.dumps([md.reset().convert(text) for text in json.load(sys.stdin)]))
-"""
 
+def answer(text):
+    return md.reset().convert(text)
+"""
 
 # Converts a text, in which an inline pattern of another extension converts one with a converter of its own.
 WITHIN = """
-import json, sys
 import markdown
 from latex2mathml_proved.markdown import Latex2MathML
 from markdown.extensions import Extension
@@ -78,12 +72,13 @@ class Outer(Extension):
     def extendMarkdown(self, md):
         md.inlinePatterns.register(Inner("HERE", md), "inner", 1)
 
-print(json.dumps(markdown.markdown(json.load(sys.stdin), extensions=[ours, Outer()])))
+def answer(text):
+    return markdown.markdown(text, extensions=[ours, Outer()])
 """
 
-# Counts the calls of functions, of Python and of C, that the conversion of texts takes: each piece so many times, one after another.
+# Counts the calls of functions, of Python and of C, that the conversion of a text takes.
 CALLS = """
-import json, logging, sys
+import logging, sys
 import markdown
 
 logging.disable()
@@ -93,24 +88,18 @@ def count(frame, event, argument):
     global calls
     calls += event in ("call", "c_call")
 
-def calls_of(text):
+def answer(text):
     global calls
     calls = 0
     sys.setprofile(count)
     markdown.markdown(text, extensions=["latex2mathml"])
     sys.setprofile(None)
     return calls
-
-pieces, times = json.load(sys.stdin)
-# the first conversion also loads the extension
-calls_of("${x$")
-print(json.dumps([calls_of("".join(piece * count for piece in pieces)) for count in times]))
 """
-
 
 # The processor's seconds for finding the lines of formulas, between lines of prose.
 LINES = """
-import json, sys, time
+import time
 from latex2mathml_proved.markdown import Page
 
 def seconds(sources):
@@ -124,13 +113,14 @@ def seconds(sources):
     assert lines == list(range(1, 101 * len(sources), 101))
     return taken
 
-print(json.dumps([min(seconds(sources) for _ in range(3)) for sources in json.load(sys.stdin)]))
+def answer(*sources):
+    return min(seconds(sources) for _ in range(3))
 """
 
 
 def convert(*texts, options=None, others=(), **more):
     """The pages of texts, and the log of each."""
-    return ask(environment("markdown"), CONVERT, [[text, options or {}, others] for text in texts], **more)
+    return ask(environment("markdown"), CONVERT, *([text, options or {}, others] for text in texts), **more)
 
 
 def letters_of(page):
@@ -145,7 +135,7 @@ def letters(markup):
 
 
 @requires_python("markdown")
-class Formulas(unittest.TestCase):
+class Formulas(Case):
     def check(self, cases, **more):
         for (text, wanted), (page, _) in zip(cases.items(), convert(*cases, **more), strict=True):
             with self.subTest(text):
@@ -153,8 +143,8 @@ class Formulas(unittest.TestCase):
 
     def test_markup(self):
         [[page, _]] = convert("a $x<y$ b\n\n$$x<y$$")
-        math = '<math xmlns="http://www.w3.org/1998/Math/MathML" display="{}"><mi>x</mi><mo>&lt;</mo><mi>y</mi></math>'
-        self.assertEqual(page, f'<p>a <span class="math">{math.format("inline")}</span> b</p>\n<p class="math">{math.format("block")}</p>')
+        line, block = LESS.decode(), LESS_BLOCK.decode()
+        self.assertEqual(page, f'<p>a <span class="math">{line}</span> b</p>\n<p class="math">{block}</p>')
 
     def test_in_a_line(self):
         self.check({
@@ -325,12 +315,14 @@ class Formulas(unittest.TestCase):
         """Four times the text takes four times as many, also if its formulas are refused, or stand behind backslashes."""
         for pieces in (["${x$\n\n"], ["\\\\ ", "$a$ "]):
             with self.subTest(pieces):
-                few, many = ask(environment("markdown"), CALLS, [pieces, [100, 400]])
+                texts = ["".join(piece * count for piece in pieces) for count in (100, 400)]
+                # the first conversion also loads the extension
+                _, few, many = ask(environment("markdown"), CALLS, "${x$", *texts)
                 self.assertLessEqual(many, 4.1 * few, f"{few:,} for 100 pieces")
 
 
 @requires_python("markdown")
-class Options(unittest.TestCase):
+class Options(Case):
     def test_macros(self):
         for macros in ({"R": r"\mathbb{R}", "norm": r"\lVert #1 \rVert"}, {r"\R": [r"\mathbb{R}"], r"\norm": [r"\lVert #1 \rVert", 1]}):
             with self.subTest(str(macros)):
@@ -338,7 +330,7 @@ class Options(unittest.TestCase):
                 self.assertEqual((letters_of(page), said), ("<p>[∥x∥∈ℝ]</p>", []))
 
     def test_a_file_of_macros(self):
-        file = Path(self.enterContext(scratch())) / "macros.tex"
+        file = self.folder / "macros.tex"
         file.write_text("\\newcommand{\\R}{\\mathbb{R}}")
         self.assertEqual(letters_of(convert("$\\R$", options={"macros": str(file)})[0][0]), "<p>[ℝ]</p>")
 
@@ -400,7 +392,7 @@ class Options(unittest.TestCase):
         for source in ("${{x$", "${{x{}$"):
             with self.subTest(source):
                 texts = [[source.format(number) for number in range(count)] for count in (500, 2000)]
-                few, many = ask(environment("markdown"), LINES, texts)
+                few, many = ask(environment("markdown"), LINES, *texts)
                 self.assertLess(many, 8 * few, f"{few} s for 500 formulas")
 
     def test_first_refusal(self):
@@ -430,28 +422,25 @@ class Options(unittest.TestCase):
 
     def test_by_the_name_of_the_module(self):
         """A caller that names the module, as one that names the entry point, gives options and catches `FaultyFormula`."""
-        self.assertEqual(ask(environment("markdown"), BY_MODULE, [r"$\R$", r"${x$"]), ["<mi>x</mi>", f"line 1: {{x: {OPEN}"])
+        self.assertEqual(ask(environment("markdown"), BY_MODULE, r"$\R$", r"${x$"), ["<mi>x</mi>", f"line 1: {{x: {OPEN}"])
 
     def test_one_converter_for_many_pages(self):
-        first, second = ask(environment("markdown"), AGAIN, ["$x$", "a $y$"])
+        first, second = ask(environment("markdown"), AGAIN, "$x$", "a $y$")
         self.assertEqual([letters_of(first), letters_of(second)], ["<p>[x]</p>", "<p>a [y]</p>"])
 
     def test_a_converter_at_work_within_another(self):
         """As of an extension that converts docstrings: each has its own formulas, though both have the same extension."""
-        self.assertEqual(letters_of(ask(environment("markdown"), WITHIN, "$a$ HERE $b$")), "<p>[a] <p>[c]</p> [b]</p>")
+        [page] = ask(environment("markdown"), WITHIN, "$a$ HERE $b$")
+        self.assertEqual(letters_of(page), "<p>[a] <p>[c]</p> [b]</p>")
 
 
 @requires_python("markdown")
 class Example(Case):
     def test_example(self):
         """The example of the package is converted without a warning."""
-        folder = self.enterContext(scratch()) / "out"
+        folder = self.folder / "out"
         script = ROOT / "integrations/python/examples/markdown/build.py"
         self.expect(run_python(environment("markdown"), script, folder), 0, b"", b"")
         page = (folder / "page.html").read_text(encoding="utf-8")
         self.assertEqual((page.count("<math "), page.count("<code>"), page.count("\\")), (7, 1, 0))
         self.assertEqual([path.name for path in folder.iterdir()], ["page.html"])
-
-
-if __name__ == "__main__":
-    unittest.main()

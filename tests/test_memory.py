@@ -2,15 +2,10 @@
 it, until a run makes fewer allocations. At the end of each run all memory is freed.
 """
 import itertools
-import unittest
 
 from tests import cases, faulty, support
+from tests.texts import ERROR, LESS, LESS_BLOCK, NO_MEMORY, UNCLOSED, UNPAIRED, USAGE, X, error, math
 from tests.walks import Folder
-
-NO_MEMORY = b"Memory could not be found."
-OPEN_GROUP = b'The token "RBrace" is expected, but the token "EOF" is found."'
-WRONG_SIGNS = b"The number of dollar sings found is invalid."
-USAGE = b"usage: latex2mathml inline | block | document | html PATH\n"
 
 # formulas and documents, and their results
 ERROR_FUNCTION = r"\erf ( x ) = \frac{ 2 }{ \sqrt{ \pi } } \int_0^x e^{- t^2} \, dt"
@@ -18,13 +13,12 @@ OF_ERROR_FUNCTION = (
     "<mi>erf</mi><mo>(</mo><mi>x</mi><mo>)</mo><mo>=</mo><mfrac><mn>2</mn><msqrt><mi>π</mi></msqrt></mfrac>"
     "<msubsup><mo>∫</mo><mn>0</mn><mi>x</mi></msubsup><msup><mi>e</mi><mrow><mo>-</mo><msup><mi>t</mi><mn>2</mn></msup></mrow></msup>"
     '<mspace width="0.167em"/><mi>d</mi><mi>t</mi>')
-OF_LESS = "<mi>x</mi><mo>&lt;</mo><mi>y</mi>"
 OF_FOO = r'<mtext>[PARSE ERROR: Undefined("Command(\"foo\")")]</mtext>'
 ENERGY = "$E = m c^2$ is"
-OF_ENERGY = faulty.math("<mi>E</mi><mo>=</mo><mi>m</mi><msup><mi>c</mi><mn>2</mn></msup>") + b" is"
+OF_ENERGY = math("<mi>E</mi><mo>=</mo><mi>m</mi><msup><mi>c</mi><mn>2</mn></msup>") + b" is"
 PROSE = r"Let $x$ be é, and $$\sum_a^b \frac12$$ its sum."
 OF_SUM = "<munderover><mo>∑</mo><mi>a</mi><mi>b</mi></munderover><mfrac><mn>1</mn><mn>2</mn></mfrac>"
-OF_PROSE = b"Let " + faulty.X + " be é, and ".encode() + faulty.math(OF_SUM, "block") + b" its sum."
+OF_PROSE = b"Let " + X + " be é, and ".encode() + math(OF_SUM, "block") + b" its sum."
 TEX = r"\left(\frac{x_i'^2}{\hat y}\right) \text{if $a$}"
 OF_TEX = (
     '<mrow><mo form="prefix" stretchy="true">(</mo><mfrac><msubsup><mi>x</mi><mi>i</mi>'
@@ -37,28 +31,37 @@ OF_GROUP = "<mrow><mi>a</mi><msup><mi>b</mi><mn>2</mn></msup></mrow>"
 RULES = " ".join(formula for formula, _ in cases.every_rule())
 OF_RULES = "".join(contents for _, contents in cases.every_rule())
 
+
+def answer_of(contents):
+    return b"answer: " + math(contents)
+
+
 # the arguments of a call, its result, and its result if memory runs out
+NO_ROOM = "out of memory"
+NOT_COPIED = "memory allocation failed"
 CALLS = {
-    "a formula": ("latex_to_mathml", ERROR_FUNCTION, b"answer: " + faulty.math(OF_ERROR_FUNCTION), NO_MEMORY),
-    "an unknown command": ("latex_to_mathml", r"\foo", b"answer: " + faulty.math(OF_FOO), NO_MEMORY),
-    "each rule": ("latex_to_mathml", RULES, b"answer: " + faulty.math(OF_RULES), NO_MEMORY),
+    "a formula": ("latex_to_mathml", ERROR_FUNCTION, answer_of(OF_ERROR_FUNCTION), NO_MEMORY),
+    "an unknown command": ("latex_to_mathml", r"\foo", answer_of(OF_FOO), NO_MEMORY),
+    "each rule": ("latex_to_mathml", RULES, answer_of(OF_RULES), NO_MEMORY),
     "an unknown environment": ("latex_to_mathml", r"\begin{foo}\foo\end{foo}",
                                b'refusal: An unknown environment "foo" is found', NO_MEMORY),
     "a counted formula": ("latex_to_mathml_counted", "{{a}b^2}",
-                          b"answer: " + faulty.math(OF_GROUP, "block") + b"\n8 tokens, 2 frames", NO_MEMORY),
-    "a formula of tex_to_mathml": ("tex_to_mathml", TEX, b"answer: " + faulty.math(OF_TEX), b"out of memory"),
-    "an unknown command of tex_to_mathml": ("tex_to_mathml", r"x \foo", b"refusal: unknown command \\foo at 2", b"out of memory"),
-    "an open group of tex_to_mathml": ("tex_to_mathml", r"\frac{x_i", b"refusal: { is not closed at 5", b"out of memory"),
+                          b"answer: " + math(OF_GROUP, "block") + b"\n8 tokens, 2 frames", NO_MEMORY),
+    "a formula of tex_to_mathml": ("tex_to_mathml", TEX, answer_of(OF_TEX), NO_ROOM),
+    "an unknown command of tex_to_mathml": (
+        "tex_to_mathml", r"x \foo", b"refusal: unknown command \\foo at 2", NO_ROOM),
+    "an open group of tex_to_mathml": ("tex_to_mathml", r"\frac{x_i", b"refusal: { is not closed at 5", NO_ROOM),
     "a document": ("replace", ENERGY, b"answer: " + OF_ENERGY, NO_MEMORY),
     "a document of two formulas": ("replace", PROSE, b"answer: " + OF_PROSE, NO_MEMORY),
-    "a document with an open group": ("replace", r"$\foo$ ${$", b"refusal: " + OPEN_GROUP, NO_MEMORY),
+    "a document with an open group": ("replace", r"$\foo$ ${$", f"refusal: {UNCLOSED}".encode(), NO_MEMORY),
     "a document that is read": ("read_document", ENERGY, b"changed: " + OF_ENERGY, NO_MEMORY),
     "a document of two formulas that is read": ("read_document", PROSE, b"changed: " + OF_PROSE, NO_MEMORY),
     "a document without formulas that is read": ("read_document", "no sign", b"unchanged: no sign", NO_MEMORY),
-    "a document with a lone sign that is read": ("read_document", "a $x$ $", b"refusal: " + WRONG_SIGNS, NO_MEMORY),
-    "a copy of a node": ("clone", "node", b"answer: equal", b"memory allocation failed"),
-    "a copy of a token": ("clone", "token", b"answer: equal", b"memory allocation failed"),
-    "a copy of a refusal": ("clone", "refusal", b"answer: equal", b"memory allocation failed"),
+    "a document with a lone sign that is read": (
+        "read_document", "a $x$ $", f"refusal: {UNPAIRED}".encode(), NO_MEMORY),
+    "a copy of a node": ("clone", "node", b"answer: equal", NOT_COPIED),
+    "a copy of a token": ("clone", "token", b"answer: equal", NOT_COPIED),
+    "a copy of a refusal": ("clone", "refusal", b"answer: equal", NOT_COPIED),
 }
 
 # How many allocations a copy needs: those of what is copied. In the node these are 27 nodes, each a box and a text, six other texts,
@@ -66,12 +69,12 @@ CALLS = {
 COPIES = {"node": 71, "token": 1, "refusal": 2}
 
 # Two formulas that a converter is given, the second one twice, and its answers with enough memory.
-OF_X = b"answer: " + faulty.X
 CONVERTED = {
-    "a converter that has done little": ("x", TEX, OF_X, b"answer: " + faulty.math(OF_TEX)),
-    "a converter that has done the same": (TEX, TEX, b"answer: " + faulty.math(OF_TEX), b"answer: " + faulty.math(OF_TEX)),
-    "a converter that has refused": (r"x_i \foo", TEX, b"refusal: unknown command \\foo at 4", b"answer: " + faulty.math(OF_TEX)),
-    "a converter that is to refuse": ("x", r"\frac{x_i}{y \foo}", OF_X, b"refusal: unknown command \\foo at 13"),
+    "a converter that has done little": ("x", TEX, b"answer: " + X, answer_of(OF_TEX)),
+    "a converter that has done the same": (TEX, TEX, answer_of(OF_TEX), answer_of(OF_TEX)),
+    "a converter that has refused": (r"x_i \foo", TEX, b"refusal: unknown command \\foo at 4", answer_of(OF_TEX)),
+    "a converter that is to refuse": (
+        "x", r"\frac{x_i}{y \foo}", b"answer: " + X, b"refusal: unknown command \\foo at 13"),
 }
 
 # How often a converter that has done the same asks for memory: only for its answer, whose room grows.
@@ -79,17 +82,17 @@ FOR_THE_ANSWER = 4
 
 # an argument of the program, its input, and its status and streams
 RUNS = {
-    "inline": ("inline", ERROR_FUNCTION, 0, faulty.math(OF_ERROR_FUNCTION) + b"\n", b""),
-    "inline, three leaves": ("inline", "x<y", 0, faulty.math(OF_LESS) + b"\n", b""),
-    "block, three leaves": ("block", "x<y", 0, faulty.math(OF_LESS, "block") + b"\n", b""),
-    "block": ("block", RULES, 0, faulty.math(OF_RULES, "block") + b"\n", b""),
-    "block, an unknown command": ("block", r"\foo", 0, faulty.math(OF_FOO, "block") + b"\n", b""),
-    "inline, an open group": ("inline", "{x", 1, b"", faulty.ERROR + OPEN_GROUP + b"\n"),
+    "inline": ("inline", ERROR_FUNCTION, 0, math(OF_ERROR_FUNCTION) + b"\n", b""),
+    "inline, three leaves": ("inline", "x<y", 0, LESS + b"\n", b""),
+    "block, three leaves": ("block", "x<y", 0, LESS_BLOCK + b"\n", b""),
+    "block": ("block", RULES, 0, math(OF_RULES, "block") + b"\n", b""),
+    "block, an unknown command": ("block", r"\foo", 0, math(OF_FOO, "block") + b"\n", b""),
+    "inline, an open group": ("inline", "{x", 1, b"", error(UNCLOSED)),
     "document": ("document", ENERGY, 0, OF_ENERGY, b""),
     "document, two formulas": ("document", PROSE, 0, OF_PROSE, b""),
     "document, no formula": ("document", "no sign", 0, b"no sign", b""),
-    "document, an open group": ("document", r"$\foo$ ${$", 1, b"", faulty.ERROR + OPEN_GROUP + b"\n"),
-    "document, a lone sign": ("document", "$$$", 1, b"", faulty.ERROR + WRONG_SIGNS + b"\n"),
+    "document, an open group": ("document", r"$\foo$ ${$", 1, b"", error(UNCLOSED)),
+    "document, a lone sign": ("document", "$$$", 1, b"", error(UNPAIRED)),
     "a wrong word": ("inlines", "x", 2, b"", USAGE),
 }
 
@@ -114,7 +117,6 @@ TEX_RUNS = {
 # its lines if memory runs out: before its words are read, as they are read, for the input, for a formula, and for a file of definitions
 TEX_LINES = {b"tex2mathml: out of memory\n", b"error: out of memory\n", b"tex2mathml: Memory could not be found.\n"}
 TEX_LINES |= {f"tex2mathml: {name}: Memory could not be found.\n".encode() for name in (MACROS, "README.md")}
-NO_MEMORY_FOR_ONE = b"error\nout of memory"
 
 
 def one(number):
@@ -125,9 +127,13 @@ def this_and_all_that_follow(number):
     return faulty.Fault("memory", number, faulty.ALL, 12)
 
 
-WAYS = one, this_and_all_that_follow
+def in_each_way(table):
+    """The rows of a table, each with a way to refuse memory."""
+    ways = (one, this_and_all_that_follow)
+    return {f"{way.__name__} of {name}": (*row, way) for way in ways for name, row in table.items()}
 
 
+@support.requires("cc")
 class Refused(support.Case):
     """Each case runs a command with failing allocations, and checks each outcome."""
 
@@ -137,7 +143,7 @@ class Refused(support.Case):
         The judge is told what came of a run, and whether a request was refused in it. `before` is called before each. No run leaves
         a block of memory that it has not freed. Returns in how many runs a request was refused.
         """
-        counts = self.enterContext(support.scratch()) / "counts"
+        counts = self.folder / "counts"
         for number in itertools.count(1):
             before()
             fault = way(number)
@@ -153,139 +159,95 @@ class Refused(support.Case):
 class Library(Refused):
     """Calls of the library: they return out of memory, or the same as with enough memory."""
 
+    def comes_to(self, words, way, answer, wanting):
+        """The call has this answer, or the other one if memory is wanting. Returns in how many runs it was."""
+        def judge(done, is_refused):
+            self.expect(done, 0, None)
+            self.assertIn(done.stdout, [answer] + [wanting] * is_refused)
+        return self.in_turn([support.build("latex2mathml_single_calls"), *words], way, judge, marked=True)
 
-class Program(Refused):
-    """The whole program: what it does with ample memory, or one line that says that memory could not be found.
+    @support.each_row(in_each_way(CALLS))
+    def call(self, name, text, answer, wanting, way):
+        refused = self.comes_to([name, text], way, answer + b"\n", f"refusal: {wanting}\n".encode())
+        if name == "clone":
+            self.assertLessEqual(refused, COPIES[text], "a copy asks for memory more often than it has parts")
+
+    @support.each_row(in_each_way(CONVERTED))
+    def convert_again(self, first, second, of_first, of_second, way):
+        """The answers to a formula, to a second one in which allocations fail, and to the second one again, with enough memory."""
+        answers = [b"\n".join([of_first, it, of_second, b""]) for it in (of_second, f"refusal: {NO_ROOM}".encode())]
+        refused = self.comes_to(["tex_formulas", first, second], way, *answers)
+        if first == second:
+            self.assertLessEqual(refused, FOR_THE_ANSWER, "a converter does not keep its room")
+
+    @support.each_row(in_each_way({"convert_html": ()}))
+    def walk(self, way):
+        """The result of `convert_html`: a line for each member of its list."""
+        folder = Folder(self.folder / "site")
+
+        def judge(done, is_refused):
+            self.expect(done, 0, None)
+            is_wanting = done.stdout == f"refusal: {NOT_COPIED}\n".encode()
+            folder.judge(self, b"" if is_wanting else done.stdout, is_refused, way is one, is_wanting)
+        words = [support.build("latex2mathml_single_calls"), "convert_html", folder.path]
+        self.in_turn(words, way, judge, marked=True, before=folder.fill)
+
+
+class Served(Refused):
+    """A whole program: what it does with ample memory, or one line that says that memory could not be found. Of many
+    formulas each has its reply, or one that says that memory ran out.
 
     Where that line, or the one that is due, finds no memory itself, there is none.
     """
 
-    def serves(self, due, done, is_refused, way):
-        status, out, errors = due
-        if (done.returncode, done.stdout, done.stderr) == due:
-            return
-        if not is_refused:
-            self.expect(done, status, out, errors)
-        self.assertEqual(done.stdout, b"")
-        if done.stderr:
-            self.expect(done, 1, b"", faulty.ERROR + NO_MEMORY + b"\n")
-        elif not (errors and done.returncode == status):
-            self.assertEqual((done.returncode, way), (1, this_and_all_that_follow), "no line where memory was left for it")
-
-
-class TexProgram(Refused):
-    """The same of `tex2mathml`. Of many formulas each has its reply, or one that says that memory ran out."""
-
-    def serves(self, due, done, is_refused, way):
-        if (done.returncode, done.stdout, done.stderr) == (due.returncode, due.stdout, due.stderr):
-            return
-        if not is_refused:
-            self.expect(done, due.returncode, due.stdout, due.stderr)
-        if done.returncode == 0:
-            self.assertEqual(done.stderr, b"")
-            self.answers_each(due.stdout.split(b"\0"), done.stdout.split(b"\0"))
-            return
-        self.assertEqual(done.stdout, b"")
-        if done.stderr:
-            self.assertEqual((done.returncode, done.stderr in TEX_LINES), (1, True), done)
-        elif not (due.stderr and done.returncode == due.returncode):
-            self.assertEqual((done.returncode, way), (1, this_and_all_that_follow), "no line where memory was left for it")
+    def serve(self, command, given, way, due, lines):
+        def judge(done, is_refused):
+            if (done.returncode, done.stdout, done.stderr) == due:
+                return
+            if not is_refused:
+                self.expect(done, *due)
+            if done.returncode == 0:
+                self.assertEqual(done.stderr, b"")
+                self.answers_each(due[1].split(b"\0"), done.stdout.split(b"\0"))
+                return
+            self.assertEqual(done.stdout, b"")
+            if done.stderr:
+                self.assertEqual((done.returncode, done.stderr in lines), (1, True), done)
+            elif not (due[2] and done.returncode == due[0]):
+                self.assertEqual((done.returncode, way), (1, this_and_all_that_follow), "no line where memory was left for it")
+        self.in_turn(command, way, judge, stdin=given)
 
     def answers_each(self, due, replies):
         self.assertEqual(len(replies), len(due))
         self.assertGreater(len(replies), 1, "a formula alone has no reply")
         for reply, whole in zip(replies, due):
-            self.assertIn(reply, (whole, NO_MEMORY_FOR_ONE))
+            self.assertIn(reply, (whole, b"error\nout of memory"))
 
 
-def call(name, text, answer, wanting, way):
-    def case(self):
-        def judge(done, is_refused):
-            self.expect(done, 0, None)
-            may_be = [answer + b"\n"] + [b"refusal: " + wanting + b"\n"] * is_refused
-            self.assertIn(done.stdout, may_be)
-        refused = self.in_turn([support.build("latex2mathml_single_calls"), name, text], way, judge, marked=True)
-        if name == "clone":
-            self.assertLessEqual(refused, COPIES[text], "a copy asks for memory more often than it has parts")
-    return case
+class Program(Served):
+    @support.each_row(in_each_way(RUNS))
+    def run_in_turn(self, word, text, status, out, errors, way):
+        self.serve([support.program(), word], text.encode(), way, (status, out, errors), {error(NO_MEMORY)})
 
-
-def convert_again(first, second, of_first, of_second, way):
-    """The answers to a formula, to a second one in which allocations fail, and to the second one again, with enough memory."""
-    def case(self):
-        def judge(done, is_refused):
-            self.expect(done, 0, None)
-            may_be = [of_second] + [b"refusal: out of memory"] * is_refused
-            self.assertIn(done.stdout, [b"\n".join([of_first, it, of_second, b""]) for it in may_be])
-        words = [support.build("latex2mathml_single_calls"), "tex_formulas", first, second]
-        refused = self.in_turn(words, way, judge, marked=True)
-        if first == second:
-            self.assertLessEqual(refused, FOR_THE_ANSWER, "a converter does not keep its room")
-    return case
-
-
-def serve_tex(words, text, way):
-    def case(self):
-        given = text if isinstance(text, bytes) else text.encode()
-        command = [support.tex_program(), *words]
-        due = support.run(command, stdin=given)
-        self.in_turn(command, way, lambda done, is_refused: self.serves(due, done, is_refused, way), stdin=given)
-    return case
-
-
-def serve(word, text, status, out, errors, way):
-    def case(self):
-        def judge(done, is_refused):
-            self.serves((status, out, errors), done, is_refused, way)
-        self.in_turn([support.program(), word], way, judge, stdin=text.encode())
-    return case
-
-
-def walk_of_library(way):
-    """The result of `convert_html`: a line for each member of its list."""
-    def case(self):
-        folder = Folder(self.enterContext(support.scratch()) / "site")
+    @support.each_row(in_each_way({"html": ()}))
+    def walk(self, way):
+        """A line for each member of the list, unless memory for the line runs out."""
+        folder = Folder(self.folder / "site")
 
         def judge(done, is_refused):
-            self.expect(done, 0, None)
-            is_wanting = done.stdout == b"refusal: memory allocation failed\n"
-            folder.judge(self, b"" if is_wanting else done.stdout, is_refused, way is one, is_wanting)
-        words = [support.build("latex2mathml_single_calls"), "convert_html", folder.path]
-        self.in_turn(words, way, judge, marked=True, before=folder.fill)
-    return case
-
-
-def walk_of_program(way):
-    """A line for each member of the list, unless memory for the line runs out."""
-    def case(self):
-        folder = Folder(self.enterContext(support.scratch()) / "site")
-
-        def judge(done, is_refused):
-            lines = b"".join(line.removeprefix(faulty.ERROR) for line in done.stderr.splitlines(keepends=True))
+            lines = b"".join(line.removeprefix(ERROR) for line in done.stderr.splitlines(keepends=True))
             self.assertEqual(done.stdout, b"")
             if done.returncode or lines or not is_refused:
                 self.assertEqual(done.returncode, 1)
-            is_wanting = lines == NO_MEMORY + b"\n" or (not lines and way is this_and_all_that_follow)
+            is_wanting = done.stderr == error(NO_MEMORY) or (not lines and way is this_and_all_that_follow)
             folder.judge(self, b"" if is_wanting else lines, is_refused, way is one, is_wanting)
         self.in_turn([support.program(), "html", folder.path], way, judge, before=folder.fill)
-    return case
 
 
-def add(where, name, case):
-    setattr(where, "test_" + name.replace(" ", "_").replace(",", ""), support.requires("cc")(case))
-
-
-for way in WAYS:
-    for name, given in CALLS.items():
-        add(Library, f"{way.__name__} of {name}", call(*given, way))
-    for name, given in RUNS.items():
-        add(Program, f"{way.__name__} of {name}", serve(*given, way))
-    for name, given in CONVERTED.items():
-        add(Library, f"{way.__name__} of {name}", convert_again(*given, way))
-    for name, given in TEX_RUNS.items():
-        add(TexProgram, f"{way.__name__} of {name}", serve_tex(*given, way))
-    add(Library, f"{way.__name__} of convert_html", walk_of_library(way))
-    add(Program, f"{way.__name__} of html", walk_of_program(way))
-
-if __name__ == "__main__":
-    unittest.main()
+class TexProgram(Served):
+    @support.each_row(in_each_way(TEX_RUNS))
+    def run_in_turn(self, words, text, way):
+        given = text if isinstance(text, bytes) else text.encode()
+        command = [support.tex_program(), *words]
+        due = support.run(command, stdin=given)
+        self.serve(command, given, way, (due.returncode, due.stdout, due.stderr), TEX_LINES)

@@ -1,11 +1,10 @@
 """The plugin of MkDocs: sites that are built with it."""
 import re
-import unittest
 
 import pytest
 
 from tests.environments import environment, requires_python, run_python
-from tests.support import ROOT, Case, scratch
+from tests.support import ROOT, Case, put
 
 pytestmark = pytest.mark.long
 
@@ -15,24 +14,18 @@ OPEN = "{ is not closed at column 1"
 
 @requires_python("markdown", "mkdocs")
 class Site(Case):
-    def setUp(self):
-        self.site = self.enterContext(scratch())
-
     def write(self, config, **pages):
-        (self.site / "docs").mkdir(exist_ok=True)
-        (self.site / "mkdocs.yml").write_text(config, encoding="utf-8")
-        for name, text in pages.items():
-            (self.site / f"docs/{name}.md").write_text(text, encoding="utf-8")
+        put(self.folder, {"mkdocs.yml": config, **{f"docs/{name}.md": text for name, text in pages.items()}})
 
     def build(self, *words, status=0):
         """Builds the site, and returns what is said but for news."""
-        done = run_python(environment("markdown", "mkdocs"), "-m", "mkdocs", "build", *words, cwd=self.site, timeout=120)
+        done = run_python(environment("markdown", "mkdocs"), "-m", "mkdocs", "build", *words, cwd=self.folder, timeout=120)
         self.expect(done, status, None, None)
         said = re.sub(r"\x1b\[\d+m", "", (done.stdout + done.stderr).decode())
         return "\n".join(line for line in said.splitlines() if line and not line.startswith("INFO "))
 
     def page(self, name="index"):
-        return (self.site / "site" / f"{name}.html").read_text(encoding="utf-8")
+        return (self.folder / "site" / f"{name}.html").read_text(encoding="utf-8")
 
     def letters(self, name="index"):
         """What the formulas of a page show."""
@@ -48,7 +41,7 @@ class Site(Case):
     def test_example(self):
         """The example of the package is built without a warning."""
         source = ROOT / "integrations/python/examples/mkdocs/mkdocs.yml"
-        self.assertEqual(self.build("--strict", "-f", source, "-d", self.site / "site"), "")
+        self.assertEqual(self.build("--strict", "-f", source, "-d", self.folder / "site"), "")
         self.assertEqual(len(self.letters()), 5)
 
     def test_no_files(self):
@@ -63,9 +56,9 @@ class Site(Case):
 
     def test_warnings(self):
         """They name the file and the line, also where metadata stand before the page, and of pages in folders."""
-        (self.site / "docs/deep").mkdir(parents=True)
-        (self.site / "docs/deep/page.md").write_text("a\n\n```math\nb\n\\foo\n```\n", encoding="utf-8")
-        self.write(PLUGIN, index="---\ntitle: One\n---\n\n${x$ and\n$x$ \\({y\\)\n", other="$x$\n")
+        pages = {"index": "---\ntitle: One\n---\n\n${x$ and\n$x$ \\({y\\)\n",
+                 "deep/page": "a\n\n```math\nb\n\\foo\n```\n"}
+        self.write(PLUGIN, other="$x$\n", **pages)
         self.assertEqual(sorted(self.build().splitlines()), [
             "WARNING  -  latex2mathml: deep/page.md:5: b \\foo: unknown command \\foo at line 2, column 1",
             f"WARNING  -  latex2mathml: index.md:5: {{x: {OPEN}",
@@ -89,20 +82,19 @@ class Site(Case):
     def test_a_file_of_macros(self):
         """It is seen from the folder of mkdocs.yml, wherever MkDocs is called."""
         self.write(PLUGIN.replace("[latex2mathml]", "[latex2mathml: {macros: tex/macros.tex}]"), index="$\\R$\n")
-        (self.site / "tex").mkdir()
-        (self.site / "tex/macros.tex").write_text("\\newcommand{\\R}{\\mathbb{R}}\n")
-        self.build("-f", self.site / "mkdocs.yml", "-d", self.site / "site")
+        put(self.folder, {"tex/macros.tex": "\\newcommand{\\R}{\\mathbb{R}}\n"})
+        self.build("-f", self.folder / "mkdocs.yml", "-d", self.folder / "site")
         self.assertEqual(self.letters(), ["ℝ"])
 
     def test_what_is_no_macro(self):
         """The build ends before it begins, with one line that says which it is."""
-        (self.site / "macros.tex").write_text("\\R")
+        (self.folder / "macros.tex").write_text("\\R")
         for macros, said in [("{R: '{x'}", "latex2mathml: macros: \\R: { is not closed: {x"), ("macros.tex", "macros.tex:1:1: not a definition"),
                              ("none.tex", "No such file or directory"), ("{R: ['#1', 1, x]}", "has an argument with a default")]:
             with self.subTest(macros):
                 self.write(PLUGIN.replace("[latex2mathml]", f"[latex2mathml: {{macros: {macros}}}]"), index="a\n")
                 self.assertIn(said, self.build(status=1))
-                self.assertFalse((self.site / "site/index.html").exists())
+                self.assertFalse((self.folder / "site/index.html").exists())
 
     @requires_python("pymdownx")
     def test_extensions_that_sites_use(self):
@@ -112,7 +104,3 @@ class Site(Case):
                    "```python\n$x$\n```\n\n| a |\n|---|\n| $f$ |\n")
         self.assertEqual(self.build(), "")
         self.assertEqual(self.letters(), ["a", "b", "c", "d", "e", "f"])
-
-
-if __name__ == "__main__":
-    unittest.main()

@@ -11,7 +11,7 @@ import pytest
 
 from tests.environments import interpreter, requires_python
 from tests.sites import tex
-from tests.support import ROOT, Case, requires, run, scratch
+from tests.support import ROOT, Case, Has, newest_version, put, requires, run, scratch
 
 pytestmark = pytest.mark.long
 
@@ -34,14 +34,13 @@ class Packages(Case):
     def setUpClass(cls):
         cls.dist = cls.enterClassContext(scratch()) / "dist"
         cls.made = run([ROOT / "tools/make-dist", cls.dist], timeout=900)
-        cls.version = re.search(r"^## ([0-9][0-9.]*)", (ROOT / "CHANGELOG.md").read_text(encoding="utf-8"), re.MULTILINE)[1]
+        cls.version = newest_version()
         cls.package = cls.dist / f"latex2mathml_{cls.version}_amd64.deb"
 
     def root(self):
         """A folder with what the package holds, as an installer unpacks it."""
-        folder = self.enterContext(scratch()) / "root"
-        self.expect(run(["dpkg-deb", "--extract", self.package, folder]))
-        return folder
+        self.expect(run(["dpkg-deb", "--extract", self.package, self.folder / "root"]))
+        return self.folder / "root"
 
     def test_it_is_made(self):
         self.expect(self.made, stdout=None, stderr=None)
@@ -70,8 +69,8 @@ class Packages(Case):
         self.expect(run([root / "usr/bin/tex2mathml"], stdin=b"x_i^2"), stdout=f"{line}\n".encode())
         self.expect(run([root / "usr/bin/tex2mathml", "--version"]), stdout=f"tex2mathml {self.version}\n".encode())
         self.expect(run([root / "usr/bin/latex2mathml", "inline"], stdin=b"x<y"), stdout=None)
-        site = self.enterContext(scratch())
-        (site / "a.html").write_text("<p>$x_i^2$ \\[x\\] $5 and $6</p>")
+        site = self.folder / "site"
+        put(site, {"a.html": "<p>$x_i^2$ \\[x\\] $5 and $6</p>"})
         python = {"PYTHONPATH": str(root / "usr/lib/python3/dist-packages"), "PATH": os.environ["PATH"], "XDG_CACHE_HOME": str(site / "cache")}
         self.expect(run([root / "usr/bin/latex2mathml-site", site], env=python), stdout=None)
         self.assertEqual((site / "a.html").read_text(), f"<p>{line} {block} $5 and $6</p>")
@@ -89,18 +88,15 @@ class Packages(Case):
         self.expect(run(["cc", ROOT / "crates/latex2mathml_c/examples/formula.c", "-o", program, *flags]))
         found = {"LD_LIBRARY_PATH": str(root / "usr/lib/x86_64-linux-gnu")}
         self.assertIn(b"[liblatex2mathml.so.0]", run(["readelf", "--dynamic", program]).stdout)
-        done = run([program, "x<y"], env=found)
-        self.expect(done, stdout=None)
-        self.assertIn(b"<mo>&lt;</mo>", done.stdout)
+        self.expect(run([program, "x<y"], env=found), stdout=Has(b"<mo>&lt;</mo>"))
 
     @requires("dpkg", "fakeroot")
     def test_it_is_installed_and_removed(self):
         """By Debian's own program, into the folder of a system with nothing else in it. Nothing of the package stays behind."""
-        root = self.enterContext(scratch())
+        root = self.folder
         for name in SYSTEM:
             (root / name).mkdir(parents=True)
-        (root / "var/lib/dpkg/status").touch()
-        (root / "var/lib/dpkg/available").touch()
+        put(root / "var/lib/dpkg", {"status": "", "available": ""})
         # its scripts belong to a system with Python, and have a test of their own
         dpkg = ["fakeroot", "dpkg", f"--root={root}", "--force-not-root", "--force-depends", "--force-script-chrootless", "--log=/dev/null"]
         environment = {**os.environ, "DPKG_ROOT": str(root), "PATH": f"{os.environ['PATH']}:/usr/sbin:/sbin"}
@@ -146,18 +142,17 @@ class Packages(Case):
 
     def test_source_distribution(self):
         """A wheel is made from it alone, and is the one that is there."""
-        folder = self.enterContext(scratch())
         [source] = (self.dist / "integrations/python").glob("*.tar.gz")
         [wheel] = (self.dist / "integrations/python").glob("*.whl")
         with tarfile.open(source) as packed:
-            packed.extractall(folder)
-        [unpacked] = folder.iterdir()
+            packed.extractall(self.folder)
+        [unpacked] = self.folder.iterdir()
         for name in ("README.md", "LICENSE", "examples/sphinx/conf.py", "src/latex2mathml_proved/site/command.py"):
             self.assertIn(unpacked / name, [it for it in unpacked.rglob("*") if it.is_file()])
         done = run([interpreter("pip", "setuptools", "wheel"), "-m", "pip", "wheel", "--quiet", "--no-index", "--no-build-isolation", "--no-deps",
-                    "--wheel-dir", folder / "made", unpacked], timeout=300)
+                    "--wheel-dir", self.folder / "made", unpacked], timeout=300)
         self.expect(done, 0, None, None)
-        self.assertEqual([it.name for it in (folder / "made").iterdir()], [wheel.name])
+        self.assertEqual([it.name for it in (self.folder / "made").iterdir()], [wheel.name])
 
     def test_checksums(self):
         lines = (self.dist / "SHA256SUMS").read_text(encoding="utf-8").splitlines()
@@ -169,7 +164,7 @@ class Packages(Case):
     @requires("node")
     def test_the_package_for_node_without_a_compiler(self):
         """It has an addon that was built before."""
-        package = self.enterContext(scratch()) / "node"
+        package = self.folder / "node"
         shutil.copytree(self.dist / "integrations/node", package)
         tools = package.parent / "bin"
         tools.mkdir()
@@ -183,14 +178,12 @@ class Packages(Case):
 
     def test_three_commands(self):
         """What a new user types: install the wheel, convert a folder, and look at a page, with nothing of the toolchain."""
-        folder = self.enterContext(scratch())
-        (folder / "public").mkdir()
-        (folder / "public/index.html").write_text("<p>$x_i^2$</p>")
-        self.expect(run([interpreter("ensurepip"), "-m", "venv", folder / "venv"], timeout=300))
+        put(self.folder, {"public/index.html": "<p>$x_i^2$</p>"})
+        self.expect(run([interpreter("ensurepip"), "-m", "venv", self.folder / "venv"], timeout=300))
         [wheel] = (self.dist / "integrations/python").glob("*.whl")
-        environment = {"PATH": f"{folder}/venv/bin:/usr/bin:/bin", "XDG_CACHE_HOME": str(folder / "cache")}
+        environment = {"PATH": f"{self.folder}/venv/bin:/usr/bin:/bin", "XDG_CACHE_HOME": str(self.folder / "cache")}
         for command in (f"pip install --quiet --disable-pip-version-check --no-index '{wheel}'", "latex2mathml-site public", "cat public/index.html"):
-            done = run(["sh", "-c", command], cwd=folder, env=environment, timeout=300)
+            done = run(["sh", "-c", command], cwd=self.folder, env=environment, timeout=300)
             self.expect(done, 0, None)
         self.assertEqual(done.stdout.decode(), "<p>{}</p>".format(*tex("x_i^2")))
 
@@ -218,9 +211,8 @@ class Metadata(Case):
 
     def test_versions(self):
         """All packages have the version of the library, as far as they name one."""
-        version = re.search(r"^## ([0-9][0-9.]*)", (ROOT / "CHANGELOG.md").read_text(encoding="utf-8"), re.MULTILINE)[1]
         python = tomllib.loads((ROOT / "integrations/python/pyproject.toml").read_text(encoding="utf-8"))["project"]["version"]
         node = json.loads((ROOT / "integrations/node/package.json").read_text(encoding="utf-8"))["version"]
         rust = tomllib.loads((ROOT / "integrations/rust/Cargo.toml").read_text(encoding="utf-8"))["package"]["version"]
         header = re.search(r'LATEX2MATHML_VERSION "(.*)"', (ROOT / "crates/latex2mathml_c/include/latex2mathml.h").read_text())[1]
-        self.assertEqual([python, node, rust.partition("+")[2], header], [version] * 4)
+        self.assertEqual([python, node, rust.partition("+")[2], header], [newest_version()] * 4)

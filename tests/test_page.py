@@ -64,16 +64,16 @@ def judge(words_of, site, pages):
     return verdicts
 
 
-# A sign of each class between two others, with all spaces written out.
-SPACED = {
-    "ordinary": r"a {} \: - \: b",
-    "operator": r"a \, {} \, - b",
-    "binary": r"a \: {} \: - b",
-    "relation": r"a \; {} \; - b",
-    "opening": r"a {} - b",
-    "closing": r"a {} \: - \: b",
-    "punctuation": r"a {{}} {} \, - b",
-    "inner": r"a \, {} \: - \: b",
+# The classes of TeX: a member of each, and a sign of it between two others, with all spaces written out.
+CLASSES = {
+    "ordinary": ("c", r"a {} \: - \: b"),
+    "operator": (r"\sum", r"a \, {} \, - b"),
+    "binary": ("+", r"a \: {} \: - b"),
+    "relation": ("=", r"a \; {} \; - b"),
+    "opening": ("(", r"a {} - b"),
+    "closing": (")", r"a {} \: - \: b"),
+    "punctuation": (",", r"a {{}} {} \, - b"),
+    "inner": (r"\ldots", r"a \, {} \: - \: b"),
 }
 
 
@@ -92,21 +92,9 @@ def classes():
             continue
         if not line.startswith(" "):
             kind = words.pop(0)
-        cases += [(f"{kind} {sign}", f"$a {sign} - b$", f"${SPACED[kind].format(sign)}$") for sign in words]
+        cases += [(f"{kind} {sign}", f"$a {sign} - b$", f"${CLASSES[kind][1].format(sign)}$") for sign in words]
     return cases
 
-
-# A member of each class of TeX.
-MEMBERS = {
-    "ordinary": "c",
-    "operator": r"\sum",
-    "binary": "+",
-    "relation": "=",
-    "opening": "(",
-    "closing": ")",
-    "punctuation": ",",
-    "inner": r"\ldots",
-}
 
 COMMANDS = {"0": "", "1": r"\,", "2": r"\:", "3": r"\;"}
 
@@ -116,7 +104,7 @@ def cells():
     between, cases = spaces_between(), []
     for left, right in between:
         row = ["ordinary", left, right, "ordinary"]
-        plain = " ".join(MEMBERS[kind] for kind in row)
+        plain = " ".join(CLASSES[kind][0] for kind in row)
         name = f"table.txt: {left} before {right}"
         cases.append((name, f"${plain}$", f"${write_out(row, between, in_script=False)}$"))
         cases.append((f"{name}, in a script", f"$x^{{{plain}}}$", f"$x^{{{write_out(row, between, in_script=True)}}}$"))
@@ -132,11 +120,11 @@ def spaces_between():
 def write_out(row, between, in_script):
     """A formula of a member of each class, with TeX's spaces."""
     classes = settle(row)
-    written = MEMBERS[row[0]]
+    written = CLASSES[row[0]][0]
     for kind, left, right in zip(row[1:], classes, classes[1:]):
         cell = between[left, right]
         space = "0" if in_script and cell.startswith("(") else cell.strip("()")
-        written += f" {COMMANDS[space]} {MEMBERS[kind]}"
+        written += f" {COMMANDS[space]} {CLASSES[kind][0]}"
     return written
 
 
@@ -218,9 +206,8 @@ class Browser(support.Case):
     """Opens the pages of tests/page in a browser. Each result that they report is a case."""
 
     def judge(self, words_of):
-        site = self.enterContext(support.scratch())
-        pages = build_site(site)
-        for page, judgements in judge(words_of, site, pages).items():
+        pages = build_site(self.folder)
+        for page, judgements in judge(words_of, self.folder, pages).items():
             self.assertTrue(judgements, msg=f"{page} made no judgement")
             for each in judgements:
                 with self.subTest(f"{page}: {each['name']}"):

@@ -5,12 +5,10 @@ import json
 import os
 import posixpath
 import re
-import shutil
-import unittest
 import zipfile
 
 from tests.integration import tex_answer_of
-from tests.support import ROOT, Case, limit_processor, requires, run, scratch, tex_program
+from tests.support import ROOT, Case, Has, limit, put, requires, run, tex_program
 
 FOLDER = ROOT / "integrations/pandoc"
 FILTER = FOLDER / "latex2mathml.lua"
@@ -55,10 +53,8 @@ def json_of(blocks, **options):
     return json.dumps({"pandoc-api-version": api_version(), "meta": {"latex2mathml": meta_of(options)}, "blocks": blocks})
 
 
+@requires("pandoc")
 class Pandoc(Case):
-    def setUp(self):
-        self.folder = self.enterContext(scratch())
-
     def pandoc(self, source, *words, converter=None):
         """Runs pandoc with the filter over a source. Lines are not wrapped, so that texts are found in the output."""
         command = ["pandoc", "--lua-filter", FILTER, "-M", f"latex2mathml-program={converter or tex_program()}", "--wrap=preserve", *words]
@@ -79,18 +75,13 @@ class Pandoc(Case):
 
     def ends(self, source, fault, *words, **more):
         """The filter ends the run, and says why."""
-        done = self.pandoc(source, *words, **more)
-        self.assertEqual((done.returncode, done.stdout), (FILTER_ENDED, b""))
-        self.assertIn(f"latex2mathml: {fault}", done.stderr.decode())
+        self.expect(self.pandoc(source, *words, **more), FILTER_ENDED, b"", Has(f"latex2mathml: {fault}".encode()))
 
     def script(self, text):
-        path = self.folder / "script"
-        path.write_text(text)
-        path.chmod(0o755)
-        return path
+        put(self.folder, {"script": text})
+        return self.folder / "script"
 
 
-@requires("pandoc")
 class Formulas(Pandoc):
     def test_formulas(self):
         page = self.page("Let $x<y$ be, and\n$$\\frac{a}{b}$$ and $x<y$ and $$x<y$$ for \\$5, `$x$`.\n\n    $x$\n")
@@ -143,8 +134,7 @@ class Formulas(Pandoc):
                 self.assertIn(wanted, self.page("$x<y$", "-t", form))
         for form in ("html4", "html5", "epub", "revealjs", "slidy", "s5"):
             with self.subTest(form):
-                done = self.pandoc("$x<y$", "-M", "title=T", "-t", form, "-o", "out")
-                self.expect(done, stderr=None)
+                self.expect(self.pandoc("$x<y$", "-M", "title=T", "-t", form, "-o", "out"), stderr=None)
                 self.assertTrue((self.folder / "out").stat().st_size > 0)
                 if form != "epub":
                     self.assertIn(tex_answer_of("x<y"), (self.folder / "out").read_text())
@@ -183,13 +173,11 @@ class Formulas(Pandoc):
 
     def test_a_copy_of_the_filter(self):
         """As the README says: the filter stands anywhere, the program is on the path, and no option is given."""
-        copies, commands = self.folder / "my filters", self.folder / "bin"
-        for folder in (copies, commands):
-            folder.mkdir()
-        shutil.copy(FILTER, copies)
-        (commands / "tex2mathml").symlink_to(tex_program())
-        environment = {**os.environ, "PATH": f"{commands}:{os.environ['PATH']}"}
-        done = run(["pandoc", "--lua-filter", copies / FILTER.name, "--wrap=preserve"], stdin=b"$x \\le y$", cwd=self.folder, env=environment)
+        copy = self.folder / "my filters" / FILTER.name
+        put(self.folder, {f"my filters/{FILTER.name}": FILTER.read_text()})
+        (self.folder / "tex2mathml").symlink_to(tex_program())
+        environment = {**os.environ, "PATH": f"{self.folder}:{os.environ['PATH']}"}
+        done = run(["pandoc", "--lua-filter", copy, "--wrap=preserve"], stdin=b"$x \\le y$", cwd=self.folder, env=environment)
         answer = tex_answer_of("x \\le y")
         self.expect(done, stdout=f"<p>{answer}</p>\n".encode())
 
@@ -201,7 +189,6 @@ class Formulas(Pandoc):
         self.assertRegex(page, r'<a href="#eq:squares"[^>]*>\(1\)</a>')
 
 
-@requires("pandoc")
 class Refused(Pandoc):
     def test_refused_formulas(self):
         formulas = [f"{{{i}" if i in (0, 1, 17, 63, 98) else f"x_{{{i}}}" for i in range(99)]
@@ -252,7 +239,6 @@ class Refused(Pandoc):
                 self.ends(f"---\n{source}\n---\n\n$x$", fault)
 
 
-@requires("pandoc")
 class Macros(Pandoc):
     def test_mappings(self):
         for macros, latex, meaning in (
@@ -295,9 +281,9 @@ class Macros(Pandoc):
                 self.ends(json_of([], macros=macros), fault, "-f", "json", "-t", "html")
 
     def test_what_is_no_macro(self):
-        for macros, fault in (("\n    \\a: a\\,b", "write what the macro \\a stands for between backquotes"),
-                              ("\n    \\a: '\\lVert #1 \\rVert'", "write what the macro \\a stands for between backquotes"),
-                              ("\n    \\a: true", "write what the macro \\a stands for between backquotes"),
+        quoted = "write what the macro \\a stands for between backquotes"
+        for macros, fault in (("\n    \\a: a\\,b", quoted), ("\n    \\a: '\\lVert #1 \\rVert'", quoted),
+                              ("\n    \\a: true", quoted),
                               (" x", "the option macros is a mapping or a text of definitions")):
             with self.subTest(macros):
                 self.ends(f"---\nlatex2mathml:\n  macros:{macros}\n---\n\n$x$", fault)
@@ -309,8 +295,7 @@ class Macros(Pandoc):
             self.assertIn(tex_answer_of("\\mathbb{R}", word), page)
         (self.folder / "a_b.tex").write_text("\n x")
         done = self.pandoc("$\\R$", "-M", "latex2mathml-definitions=a_b.tex")
-        self.assertEqual(done.returncode, FILTER_ENDED)
-        self.assertIn("tex2mathml: a_b.tex:2:2: not a definition\n", done.stderr.decode())
+        self.expect(done, FILTER_ENDED, stderr=Has(b"tex2mathml: a_b.tex:2:2: not a definition\n"))
 
     def test_definitions_in_the_document(self):
         """Those that pandoc leaves there hold from where they stand."""
@@ -342,7 +327,6 @@ class Macros(Pandoc):
         self.assertIn(tex_answer_of("\\mathbb{R}"), page)
 
 
-@requires("pandoc")
 class RawTeX(Pandoc):
     def test_environments(self):
         for name in ("equation", "align", "alignat", "gather", "multline", "flalign", "eqnarray"):
@@ -384,7 +368,7 @@ class RawTeX(Pandoc):
             with self.subTest(piece):
                 source = json_of([{"t": "RawBlock", "c": ["tex", piece * 100_000]}])
                 command = ["pandoc", "--lua-filter", FILTER, "-f", "json", "-t", "html"]
-                self.expect(run(command, stdin=source.encode(), preexec_fn=limit_processor(20), timeout=300))
+                self.expect(run(command, stdin=source.encode(), preexec_fn=limit(CPU=20), timeout=300))
 
     def test_nested_groups(self):
         body = "{" * 5000 + "x" + "}" * 5000
@@ -392,7 +376,6 @@ class RawTeX(Pandoc):
         self.assertIn(tex_answer_of(body), page)
 
 
-@requires("pandoc")
 class References(Pandoc):
     NUMBERED = re.compile(r'<span id="([^"]+)" class="latex2mathml-numbered"[^>]*>((?:<span id="[^"]+"></span>)*)<span style="flex: 1; min-width: 0">(<math.*?</math>)'
                           r'</span><span class="latex2mathml-number">([^<]*)</span></span>')
@@ -446,7 +429,3 @@ class References(Pandoc):
         page = self.page("\\ref{a} $$\\foo\\label{a}$$", stderr=None)
         self.assertIn(refused("\\foo\\label{a}", "unknown command \\foo at 0"), page)
         self.assertEqual(self.LINK.findall(page), [("a", "1")])
-
-
-if __name__ == "__main__":
-    unittest.main()

@@ -76,9 +76,8 @@ def print_page(page):
 @support.requires("firefox-esr", "pdftoppm")
 class Firefox(support.Case):
     def test_dark_page(self):
-        site = self.enterContext(support.scratch())
-        build_site(site)
-        light, dark = (print_page(site / f"{name}.html") for name in STYLES)
+        build_site(self.folder)
+        light, dark = (print_page(self.folder / f"{name}.html") for name in STYLES)
         inked = [sum(dot < LIGHTEST for dot in dots) for dots in (light, dark)]
         self.assertGreater(inked[0], FEWEST)
         self.assertTrue(dark == light, "dots of the light page and of the dark one: {:,}, {:,}".format(*inked))

@@ -1,16 +1,12 @@
 """Converts the files of a folder, each by its own path and all by the folder's, and checks their contents."""
-from tests.cases import math
-from tests.support import Case, build, program, run, scratch
-
-ERROR = b"LaTeX2MathML Error: "
-UNPAIRED = b": The number of dollar sings found is invalid.\n"
-NOT_UTF8 = b": The input is not UTF-8 text.\n"
+from tests.support import build, program, run
+from tests.test_program import Site
+from tests.texts import NO_TEXT, UNPAIRED, X
 
 FILES = {
     ".html": b"$x$", "a.html": b"$x$", "b.html": b"$$$", "c.htm": b"$x$", "c.HTML": b"$x$", "d/e.html": b"no sign",
     "d/html": b"$x$", "e.html": b"", "f.html": b"\xff", "g.html.txt": b"$x$",
 }
-X = math("inline", b"<mi>x</mi>")
 CONVERTED = {**FILES, "a.html": X}
 
 # Each of these is the name of a folder, and with `.html` behind it that of a file. The longest have 250 bytes: 255 is the most.
@@ -23,72 +19,61 @@ NAMES = [
 WAYS = [".", "./", "./.", ".//", "..", "../", "../.", "../-a b", "../-a b/.", "./../-a b", "d/..", "d/../.", "d/./../", "-s/..", ".a/.."]
 
 
-class Paths(Case):
+class Paths(Site):
     def setUp(self):
-        self.folder = self.enterContext(scratch())
-        (self.folder / "d").mkdir()
-        for name, held in FILES.items():
-            (self.folder / name).write_bytes(held)
-
-    def html(self, path, errors=b""):
-        """Checks the program's messages for the path. Each line of errors is the end of a path, and the fault."""
-        lines = b"".join(ERROR + str(self.folder).encode() + line for line in errors.splitlines(keepends=True))
-        self.expect(run([program(), "html", path]), 1 if errors else 0, b"", lines)
-
-    def holds(self, files):
-        self.assertEqual({name: (self.folder / name).read_bytes() for name in files}, files)
+        super().setUp()
+        self.command = program()
+        self.put(FILES)
 
     def test_folder_again_and_again(self):
         for slashes in ("", "", "/", "//"):
-            beginning = slashes.encode() or b"/"
-            self.html(f"{self.folder}{slashes}", beginning + b"b.html" + UNPAIRED + beginning + b"f.html" + NOT_UTF8)
-            self.holds(CONVERTED)
+            beginning = f"{self.site}{slashes or '/'}"
+            self.convert(f"{self.site}{slashes}", [(f"{beginning}b.html", UNPAIRED), (f"{beginning}f.html", NO_TEXT)])
+            self.expect_files(CONVERTED)
 
     def test_call_of_the_library(self):
         """The same list as that of the program, by the library's own call for files."""
-        done = run([build("latex2mathml_single_calls"), "convert_html", self.folder])
-        self.expect(done, stdout=b"".join(str(self.folder / name).encode() + fault for name, fault in [("b.html", UNPAIRED), ("f.html", NOT_UTF8)]))
-        self.holds(CONVERTED)
+        done = run([build("latex2mathml_single_calls"), "convert_html", self.site])
+        self.expect(done, stdout=f"{self.site}/b.html: {UNPAIRED}\n{self.site}/f.html: {NO_TEXT}\n".encode())
+        self.expect_files(CONVERTED)
 
     def test_files_that_are_left_alone(self):
         for name in (".html", "c.htm", "c.HTML", "d/e.html", "d/html", "e.html", "g.html.txt", "none.html", "none", "a.html/"):
             with self.subTest(name):
-                self.html(f"{self.folder}/{name}")
-        self.holds(FILES)
+                self.convert(f"{self.site}/{name}")
+        self.expect_files(FILES)
 
     def test_one_file(self):
-        self.html(self.folder / "a.html")
-        self.holds(CONVERTED)
+        self.convert(self.site / "a.html")
+        self.expect_files(CONVERTED)
 
     def test_refused_files(self):
-        self.html(self.folder / "b.html", b"/b.html" + UNPAIRED)
-        self.html(self.folder / "f.html", b"/f.html" + NOT_UTF8)
-        self.holds(FILES)
+        for name, fault in (("b.html", UNPAIRED), ("f.html", NO_TEXT)):
+            self.convert(self.site / name, [(self.site / name, fault)])
+        self.expect_files(FILES)
 
     def check_names(self, names, paths, **more):
         """Converts what is under these paths. All files of these names, below the folder, are converted, and nothing is told."""
-        for name in names:
-            (self.folder / name).parent.mkdir(parents=True, exist_ok=True)
-            (self.folder / name).write_bytes(b"$x$")
+        self.put(dict.fromkeys(names, b"$x$"))
         for path in paths:
-            self.expect(run([program(), "html", path], **more))
-        self.assertEqual([name for name in names if (self.folder / name).read_bytes() != X], [])
+            self.convert(path, **more)
+        self.assertEqual([name for name in names if (self.site / name).read_bytes() != X], [])
 
     def test_names_of_many_kinds(self):
         """Files and folders are converted whatever their names are, from the folder above and by their own paths."""
         names = [path for name in NAMES for path in (f"n/{name}.html", f"n/{name}/a.html", f"n/{name}/{name}.html")]
-        self.check_names(names, [self.folder / "n"])
-        self.check_names(names, [self.folder / name for name in names])
-        self.check_names(names, [f"{self.folder}/n/{name}" for name in NAMES] + [f"{self.folder}/n/{name}.html" for name in NAMES])
+        self.check_names(names, [self.site / "n"])
+        self.check_names(names, [self.site / name for name in names])
+        self.check_names(names, [f"{self.site}/n/{name}" for name in NAMES] + [f"{self.site}/n/{name}.html" for name in NAMES])
 
     def test_ways_to_a_folder(self):
         """A path is taken as it is, with dots, with a dash at its beginning, and from another folder."""
-        here = self.folder / "-a b"
+        here = self.site / "-a b"
         for name in ("d", "-s", ".a"):
             (here / name).mkdir(parents=True)
         names = [f"-a b/{name}" for name in ("a.html", ".a.html", "-.html", "d/a.html", "-s/a.html", ".a/a.html")]
         for file in ("b.html", "f.html"):
-            (self.folder / file).unlink()
+            (self.site / file).unlink()
         for way in WAYS:
             with self.subTest(way):
                 self.check_names(names, [way], cwd=here)
@@ -99,10 +84,10 @@ class Paths(Case):
     def test_long_paths(self):
         """The longest paths that the system takes have 4,095 bytes."""
         folder = "/".join(["x" * 200] * 19)
-        longest = f"{folder}/{'y' * (4095 - len(f'{self.folder}/{folder}/.html'))}.html"
+        longest = f"{folder}/{'y' * (4095 - len(f'{self.site}/{folder}/.html'))}.html"
         names = [longest, f"{folder}/y.html", f"{folder}/.html.html"]
-        self.check_names(names, [self.folder / ("x" * 200)])
-        self.check_names(names, [self.folder / name for name in names])
+        self.check_names(names, [self.site / ("x" * 200)])
+        self.check_names(names, [self.site / name for name in names])
 
     def test_empty_path(self):
-        self.html("")
+        self.convert("")

@@ -1,92 +1,67 @@
 """The program, through the launcher: its arguments, its streams, its status, and the files that it converts."""
 import os
-import pathlib
-import resource
 import shutil
 import subprocess
 
-from tests.support import BUILD_NOTHING, Case, ROOT, program, run, scratch
+from tests import faulty
+from tests.support import BUILD_NOTHING, Case, ROOT, as_nobody, limit, program, put, run
+from tests.texts import (
+    BAD_ENTRY, LESS, LESS_BLOCK, NOT_CREATED, NO_TEXT, STOPPED, UNCLOSED, UNLISTED, UNPAIRED, UNREAD, USAGE, X, error,
+    math,
+)
 
 LAUNCHER = ROOT / "latex2mathml"
-USAGE = b"usage: latex2mathml inline | block | document | html PATH\n"
-NOBODY = 65534
-
-
-def math(inner, display="inline"):
-    return f'<math xmlns="http://www.w3.org/1998/Math/MathML" display="{display}">{inner}</math>'.encode()
-
-
-LESS = "<mi>x</mi><mo>&lt;</mo><mi>y</mi>"
-INLINE = math(LESS)
-BLOCK = math(LESS, "block")
-X = math("<mi>x</mi>")
 
 # how many bytes are read: around the number that the program requests at a time, and far above it
 SIZES = (1, 4095, 4096, 4097, 8 << 20)
 
 
-def error(text):
-    return f"LaTeX2MathML Error: {text}\n".encode()
-
-
-NO_END = error('The token "RBrace" is expected, but the token "EOF" is found."')
-NO_TEXT = error("The input is not UTF-8 text.")
-NO_INPUT = error("The input could not be read.")
-NO_OUTPUT = error("The output stopped after 0 bytes.")
-UNPAIRED = "The number of dollar sings found is invalid."
-
-
 def closed_streams(*streams):
     """Starts a process with these streams closed."""
-    def close():
-        for stream in streams:
-            os.close(stream)
-    return {"preexec_fn": close}
+    return {"preexec_fn": lambda: [os.close(it) for it in streams]}
 
 
 class Launcher(Case):
     def test_a_path_with_a_space(self):
         program()  # is built first
-        house = self.enterContext(scratch()) / "a house"
+        house = self.folder / "a house"
         (house / "tools").mkdir(parents=True)
         # as old as they are, since a program that is older is not taken
         for name in ("latex2mathml", "tools/built", "crates.txt"):
             shutil.copy2(ROOT / name, house / name)
         (house / "crates").symlink_to(ROOT / "crates")
         done = run([house / "latex2mathml", "inline"], stdin=b"x<y", env={**os.environ, BUILD_NOTHING: "1"})
-        self.expect(done, stdout=INLINE + b"\n")
+        self.expect(done, stdout=LESS + b"\n")
 
     def test_a_link_to_it(self):
         """A folder of the path may have a link to it."""
         program()  # is built first
-        link = self.enterContext(scratch()) / "latex2mathml"
+        link = self.folder / "latex2mathml"
         link.symlink_to(LAUNCHER)
         for words, more in (([link], {}), (["sh", "latex2mathml"], {"cwd": link.parent})):
             with self.subTest(words):
                 done = run([*words, "inline"], stdin=b"x<y", env={**os.environ, BUILD_NOTHING: "1"}, **more)
-                self.expect(done, stdout=INLINE + b"\n")
+                self.expect(done, stdout=LESS + b"\n")
 
 
     def test_the_program_takes_its_place(self):
         """The launcher does not wait beside the program, leaves nothing in the folder of temporary files, and passes the words on."""
-        house = self.enterContext(scratch())
-        for folder in ("tools", "temporary"):
-            (house / folder).mkdir()
-        for name, text in (("tools/built", 'echo "${0%/*}/program"'), ("tools/program", 'echo "$$"; printf "<%s>" "$@"')):
-            (house / name).write_text(f"#!/bin/sh\n{text}\n")
-            (house / name).chmod(0o755)
-        launcher = shutil.copy2(LAUNCHER, house)
-        with subprocess.Popen([launcher, "html", "", "a b\n*"], stdout=subprocess.PIPE, env={**os.environ, "TMPDIR": str(house / "temporary")}) as process:
+        put(self.folder, {"tools/built": '#!/bin/sh\necho "${0%/*}/program"\n',
+                          "tools/program": '#!/bin/sh\necho "$$"; printf "<%s>" "$@"\n'})
+        temporary = self.folder / "temporary"
+        temporary.mkdir()
+        words = [shutil.copy2(LAUNCHER, self.folder), "html", "", "a b\n*"]
+        with subprocess.Popen(words, stdout=subprocess.PIPE, env={**os.environ, "TMPDIR": str(temporary)}) as process:
             self.assertEqual(process.communicate(timeout=60)[0].decode(), f"{process.pid}\n<html><><a b\n*>")
-        self.assertEqual(list((house / "temporary").iterdir()), [])
+        self.assertEqual(list(temporary.iterdir()), [])
 
 
 class Formulas(Case):
     def test_answered(self):
         for name, given, word, markup in [
-            ("a line", b"x<y", "inline", INLINE),
-            ("a block", b"x<y", "block", BLOCK),
-            ("a line feed behind the formula", b"x<y\n", "inline", INLINE),
+            ("a line", b"x<y", "inline", LESS),
+            ("a block", b"x<y", "block", LESS_BLOCK),
+            ("a line feed behind the formula", b"x<y\n", "inline", LESS),
             ("scripts", b"x_{a}^{b}\n", "inline", math("<msub><mi>x</mi><msup><mi>a</mi><mi>b</mi></msup></msub>")),
             ("nothing", b"", "inline", math("")),
         ]:
@@ -95,10 +70,10 @@ class Formulas(Case):
 
     def test_refused(self):
         for name, given, word, line in [
-            ("a brace that does not close", b"{x", "inline", NO_END),
-            ("a group that does not close", b"{a b", "block", NO_END),
-            ("an input that is no text", b"x\xff", "inline", NO_TEXT),
-            ("a character that is cut off", b"x\xc3", "block", NO_TEXT),
+            ("a brace that does not close", b"{x", "inline", error(UNCLOSED)),
+            ("a group that does not close", b"{a b", "block", error(UNCLOSED)),
+            ("an input that is no text", b"x\xff", "inline", error(NO_TEXT)),
+            ("a character that is cut off", b"x\xc3", "block", error(NO_TEXT)),
         ]:
             with self.subTest(name):
                 self.expect(run([LAUNCHER, word], stdin=given), 1, b"", line)
@@ -113,27 +88,25 @@ class Formulas(Case):
 
     def test_a_million_braces(self):
         """They are read with a stack of 8 MiB, and one that is not closed is refused."""
-        def limit():
-            resource.setrlimit(resource.RLIMIT_STACK, (8 << 20, 8 << 20))
         opened, closed = b"{" * 1_000_000, b"}" * 1_000_000
         for name, given, wanted in [("closed", opened + b"x" + closed, (0, X + b"\n", b"")),
-                                    ("one does not close", opened + b"x" + closed[1:], (1, b"", NO_END))]:
+                                    ("one does not close", opened + b"x" + closed[1:], (1, b"", error(UNCLOSED)))]:
             with self.subTest(name):
-                self.expect(run([LAUNCHER, "inline"], stdin=given, preexec_fn=limit), *wanted)
+                self.expect(run([LAUNCHER, "inline"], stdin=given, preexec_fn=limit(STACK=8 << 20)), *wanted)
 
 
 class Documents(Case):
     def test_answered(self):
         for name, given, answer in [
-            ("a formula in prose", b"a $x<y$, b", b"a " + INLINE + b", b"),
-            ("a formula in a block", b"$$x<y$$", BLOCK),
-            ("a line feed at the end", b"$x<y$\n", INLINE + b"\n"),
+            ("a formula in prose", b"a $x<y$, b", b"a " + LESS + b", b"),
+            ("a formula in a block", b"$$x<y$$", LESS_BLOCK),
+            ("a line feed at the end", b"$x<y$\n", LESS + b"\n"),
             ("prose behind a formula", b"$E = m c^2$ is", math("<mi>E</mi><mo>=</mo><mi>m</mi><msup><mi>c</mi><mn>2</mn></msup>") + b" is"),
             ("no formula", b"no sign", b"no sign"),
             ("a line", b"x<y\n", b"x<y\n"),
             ("nothing", b"", b""),
-            ("a dollar sign behind a backslash", b"\\$5, $x<y$", b"&#x24;5, " + INLINE),
-            ("prose outside ASCII", "é $x<y$ é\r\n\0".encode(), "é ".encode() + INLINE + " é\r\n\0".encode()),
+            ("a dollar sign behind a backslash", b"\\$5, $x<y$", b"&#x24;5, " + LESS),
+            ("prose outside ASCII", "é $x<y$ é\r\n\0".encode(), "é ".encode() + LESS + " é\r\n\0".encode()),
         ]:
             with self.subTest(name):
                 self.expect(run([LAUNCHER, "document"], stdin=given), stdout=answer)
@@ -147,8 +120,8 @@ class Documents(Case):
     def test_refused(self):
         for name, given, line in [
             ("dollar signs that do not pair", b"$$$", error(UNPAIRED)),
-            ("a refused formula behind another", b"a $x$ ${x$", NO_END),
-            ("no text", b"a $x$ \xff", NO_TEXT),
+            ("a refused formula behind another", b"a $x$ ${x$", error(UNCLOSED)),
+            ("no text", b"a $x$ \xff", error(NO_TEXT)),
         ]:
             with self.subTest(name):
                 self.expect(run([LAUNCHER, "document"], stdin=given), 1, b"", line)
@@ -156,35 +129,13 @@ class Documents(Case):
 
 class Words(Case):
     def test_wrong(self):
-        for name, words in [
-            ("none", []),
-            ("an empty one", [""]),
-            ("a wrong one", ["markup"]),
-            ("two", ["inline", "block"]),
-            ("a right one twice", ["document", "document"]),
-            ("a document and a path", ["document", "index.html"]),
-            ("a right one and an empty one", ["inline", ""]),
-            ("a right one and another empty one", ["block", ""]),
-            ("one that begins as a right one", ["inlines"]),
-            ("another that begins so", ["blocks"]),
-            ("the beginning of a right one", ["bloc"]),
-            ("a right one without its end", ["inlin"]),
-            ("documents", ["documents"]),
-            ("capitals", ["INLINE"]),
-            ("a capital", ["Inline"]),
-            ("a document with a capital", ["Document"]),
-            ("white space behind a right one", ["inline "]),
-            ("white space before a right one", [" inline"]),
-            ("one that is no text", [b"\xff"]),
-            ("a right one and one that is no text", ["inline", b"a\xc3"]),
-            ("a path and another", ["html", ".", "extra"]),
-            ("a path and an empty one", ["html", "none", ""]),
-            ("no path", ["html"]),
-            ("capitals and a path", ["HTML", "none"]),
-            ("the beginning of html and a path", ["htm", "none"]),
-            ("a path before html", ["none", "html"]),
-        ]:
-            with self.subTest(name):
+        for words in (
+                [], [""], ["markup"], ["inline", "block"], ["document", "document"], ["document", "index.html"],
+                ["inline", ""], ["block", ""], ["inlines"], ["blocks"], ["bloc"], ["inlin"], ["documents"],
+                ["INLINE"], ["Inline"], ["Document"], ["inline "], [" inline"], [b"\xff"], ["inline", b"a\xc3"],
+                ["html", ".", "extra"], ["html", "none", ""], ["html"], ["HTML", "none"], ["htm", "none"],
+                ["none", "html"]):
+            with self.subTest(words):
                 self.expect(run([LAUNCHER, *words], stdin=b"x<y"), 2, b"", USAGE)
 
     def test_wrong_ones_leave_the_input_alone(self):
@@ -195,29 +146,25 @@ class Words(Case):
 
 
 class Streams(Case):
-    def setUp(self):
-        self.folder = self.enterContext(scratch())
-        (self.folder / "in").write_bytes(b"x<y")
-
     def test_closed_input(self):
         for word in ("inline", "document"):
             with self.subTest(word):
-                self.expect(run([LAUNCHER, word], stdin=subprocess.DEVNULL, **closed_streams(0)), 1, b"", NO_INPUT)
+                self.expect(run([LAUNCHER, word], stdin=subprocess.DEVNULL, **closed_streams(0)), 1, b"", error(UNREAD))
 
     def test_a_directory_as_the_input(self):
         folder = os.open(self.folder, os.O_RDONLY)
         self.addCleanup(os.close, folder)
-        self.expect(run([LAUNCHER, "inline"], stdin=folder), 1, b"", NO_INPUT)
+        self.expect(run([LAUNCHER, "inline"], stdin=folder), 1, b"", error(UNREAD))
 
     def test_closed_output(self):
         for word in ("inline", "document"):
             with self.subTest(word):
                 done = run([LAUNCHER, word], stdin=b"x<y", stdout=subprocess.DEVNULL, **closed_streams(1))
-                self.expect(done, 1, None, NO_OUTPUT)
+                self.expect(done, 1, None, error(STOPPED.format(0)))
 
     def test_a_full_device(self):
         with open("/dev/full", "wb") as full:
-            self.expect(run([LAUNCHER, "inline"], stdin=b"x<y", stdout=full), 1, None, NO_OUTPUT)
+            self.expect(run([LAUNCHER, "inline"], stdin=b"x<y", stdout=full), 1, None, error(STOPPED.format(0)))
 
     def test_closed_errors(self):
         quiet = {"stderr": subprocess.DEVNULL}
@@ -228,6 +175,7 @@ class Streams(Case):
 
     def test_what_is_read_of_the_input(self):
         """With wrong arguments the program leaves the input to the next reader, and with right ones it reads all of it."""
+        put(self.folder, {"in": b"x<y"})
         for words, status, left in [(["markup"], 2, b"x<y"), (["inline"], 0, b"")]:
             with self.subTest(words), open(self.folder / "in", "rb", buffering=0) as given:
                 self.assertEqual(run([LAUNCHER, *words], stdin=given).returncode, status)
@@ -240,27 +188,19 @@ class Site(Case):
     command = LAUNCHER
 
     def setUp(self):
-        self.folder = self.enterContext(scratch())
         self.site = self.folder / "site"
         self.site.mkdir()
 
     def put(self, texts):
-        for name, text in texts.items():
-            path = os.path.join(os.fsencode(self.site), os.fsencode(name))
-            os.makedirs(os.path.dirname(path), exist_ok=True)
-            with open(path, "wb") as file:
-                file.write(text)
+        put(self.site, texts)
 
     def expect_files(self, texts):
-        for name, text in texts.items():
-            with open(os.path.join(os.fsencode(self.site), os.fsencode(name)), "rb") as file:
-                self.assertEqual(file.read(), text, name)
+        self.assertEqual({name: (self.site / os.fsdecode(name)).read_bytes() for name in texts}, texts)
 
     def convert(self, path, faults=(), **more):
         """Converts the documents under a path. The faults are pairs of a path and its line."""
         lines = b"".join(error(f"{at}: {text}") for at, text in faults)
-        done = run([self.command, "html", path], stdin=subprocess.DEVNULL, **more)
-        self.expect(done, 1 if faults else 0, b"", lines)
+        self.expect(run([self.command, "html", path], stdin=subprocess.DEVNULL, **more), 1 if faults else 0, b"", lines)
 
 
 class Files(Site):
@@ -271,7 +211,7 @@ class Files(Site):
     AFTER = {**BEFORE, "a.html": X, "d/g.html": b"{" + X}
 
     def faults_of_before(self, path):
-        return [(f"{path}/b.html", UNPAIRED), (f"{path}/d.html/a.html", UNPAIRED), (f"{path}/f.html", "The input is not UTF-8 text.")]
+        return [(f"{path}/b.html", UNPAIRED), (f"{path}/d.html/a.html", UNPAIRED), (f"{path}/f.html", NO_TEXT)]
 
     def test_a_folder(self):
         self.put(self.BEFORE)
@@ -359,7 +299,7 @@ class Files(Site):
         except OSError as why:
             self.skipTest(f"the file system takes no such names: {why}")
         self.put({"b/a.html": b"$$$", "a.html": b"$$$", "c.html": b"$x$"})
-        no_name = (self.site / "b", "An entry of the directory could not be read.")
+        no_name = (self.site / "b", BAD_ENTRY)
         self.convert(self.site, [(self.site / "a.html", UNPAIRED), no_name, no_name, (self.site / "b/a.html", UNPAIRED)])
         self.expect_files({b"b/\xff/a.html": b"$x$", b"b/\xff.html": b"$x$", "c.html": X})
 
@@ -385,23 +325,18 @@ class Rights(Site):
 
     def setUp(self):
         super().setUp()
-        self.command = pathlib.Path(shutil.copy(program(), self.folder / "latex2mathml"))
-        self.command.chmod(0o755)
+        self.command = faulty.program()
         self.put({"a.html": b"$x$", "b.html": b"$x$", "c.html": b"no sign", "d/a.html": b"$x$", "walled/a.html": b"$x$", "z.html": b"$x$"})
-        self.as_other = {}
-        if os.geteuid() == 0:
-            self.as_other = {"user": NOBODY, "group": NOBODY, "extra_groups": []}
-            self.folder.chmod(0o711)
-            for path in (self.site, *self.site.rglob("*")):
-                os.chown(path, NOBODY, NOBODY)
+        self.as_other = as_nobody(self.site)
+        self.folder.chmod(0o711)
 
     def test_files_and_folders(self):
         for name, mode in [("a.html", 0), ("b.html", 0o444), ("c.html", 0o444), ("d", 0), ("walled", 0o444)]:
             (self.site / name).chmod(mode)
-        no_file = (self.site / "b.html", "The file could not be created anew.")
+        no_file = (self.site / "b.html", NOT_CREATED)
         with self.subTest("closed"):
-            faults = [(self.site / "a.html", "The input could not be read."), no_file,
-                      (self.site / "d", "The directory could not be listed.")]
+            faults = [(self.site / "a.html", UNREAD), no_file,
+                      (self.site / "d", UNLISTED)]
             self.convert(self.site, faults, **self.as_other)
             self.expect_files({"b.html": b"$x$", "c.html": b"no sign", "z.html": X})
         with self.subTest("opened again"):

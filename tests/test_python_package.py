@@ -4,57 +4,58 @@ import tomllib
 import unittest
 import zipfile
 
-from tests import cases
+from tests import texts
 from tests.environments import ask, environment, requires_python, run_python, wheel
-from tests.support import ROOT, Case, c_library, requires, run, scratch
+from tests.support import ROOT, Case, c_library, requires, run
+from tests.texts import UNCLOSED, UNPAIRED
 
 PACKAGE = ROOT / "integrations/python"
-MATH = '<math xmlns="http://www.w3.org/1998/Math/MathML" display="{}">{}</math>'
 ANNOTATED = (
     '<math xmlns="http://www.w3.org/1998/Math/MathML" display="{0}" alttext="{2}">'
     '<semantics>{1}<annotation encoding="application/x-tex">{2}</annotation></semantics></math>'
 )
-LESS = "<mi>x</mi><mo>&lt;</mo><mi>y</mi>"
-LESS_INLINE, LESS_BLOCK = MATH.format("inline", LESS), MATH.format("block", LESS)
-OPEN = 'The token "RBrace" is expected, but the token "EOF" is found."'
+LESS_INLINE, LESS_BLOCK = texts.LESS.decode(), texts.LESS_BLOCK.decode()
+
+
+def math(contents, display="inline"):
+    return texts.math(contents, display).decode()
+
 
 # The type of what is wrong with a formula.
 FAULT = "latex2mathml_proved.rendering.Fault"
 
-# Calls each function with each list of arguments, and prints the result, or the error's name and text.
+# Calls a function with arguments, the last of which are those with names, and answers the result, or the error's name and
+# text.
 CALLS = """
-import json, sys
 import latex2mathml_proved
 
-def answer(function, *words, **named):
+def answer(function, *words):
+    *words, named = words
     try:
         return getattr(latex2mathml_proved, function)(*words, **named)
     except Exception as error:
         return [type(error).__qualname__, isinstance(error, ValueError), str(error)]
-
-print(json.dumps([answer(*words, **named) for *words, named in json.load(sys.stdin)]))
 """
 
 # Converts in many threads at once.
 THREADS = """
-import concurrent.futures, json, sys
+import concurrent.futures
 import latex2mathml_proved
 
-texts = [f"{{x_{n}" + "}" * (n % 2) for n in range(400)]
-
-def answer(text):
+def answer_one(text):
     try:
         return latex2mathml_proved.formula(text)
     except latex2mathml_proved.Refused as refused:
         return str(refused)
 
-with concurrent.futures.ThreadPoolExecutor(8) as pool:
-    print(json.dumps(list(pool.map(answer, texts)) == [answer(text) for text in texts]))
+def answer(*texts):
+    with concurrent.futures.ThreadPoolExecutor(8) as pool:
+        return list(pool.map(answer_one, texts)) == [answer_one(text) for text in texts]
 """
 
 # Answers what is known of each refusal of `tex`, of each list of arguments, also behind a copy of it.
 TEX_REFUSALS = """
-import json, pickle, sys
+import pickle
 import latex2mathml_proved
 
 def answer(*words):
@@ -63,13 +64,10 @@ def answer(*words):
     except latex2mathml_proved.TexRefused as refused:
         copy = pickle.loads(pickle.dumps(refused))
         return [str(copy), copy.reason, copy.place, copy.is_definition, copy.line, copy.column, isinstance(copy, latex2mathml_proved.Refused)]
-
-print(json.dumps([answer(*words) for words in json.load(sys.stdin)]))
 """
 
 # Renders a formula with each of the options, and answers the reason where the option is refused.
 MACROS = """
-import json, sys
 from latex2mathml_proved.macros import MacroError, definitions_of
 from latex2mathml_proved.rendering import Renderer
 
@@ -79,68 +77,64 @@ def answer(macros, formula):
     except MacroError as error:
         return str(error)
     return [rendering.markup, rendering.fault and str(rendering.fault)]
-
-print(json.dumps([answer(*words) for words in json.load(sys.stdin)]))
 """
 
 # Converts a text whose markup has no room in the memory that is left, and then one whose markup has.
 LITTLE_MEMORY = """
-import json, resource, sys
+import resource
 import latex2mathml_proved._library as it
 
 it.ROOM_PER_BYTE = 0  # so that Python itself asks for little
-text = "x" * 4_000_000
-pages = int(open("/proc/self/statm").read().split()[0])
-limit = pages * resource.getpagesize() + 16_000_000
-resource.setrlimit(resource.RLIMIT_AS, (limit, limit))
-try:
-    it.formula(text)
-except MemoryError as error:
-    print(json.dumps([str(error), it.formula("x<y")]))
+
+def answer(large, small):
+    pages = int(open("/proc/self/statm").read().split()[0])
+    limit = pages * resource.getpagesize() + 16_000_000
+    resource.setrlimit(resource.RLIMIT_AS, (limit, limit))
+    try:
+        it.formula(large)
+    except MemoryError as error:
+        return [str(error), it.formula(small)]
 """
 
 # Imports the package where the system is another: its machine, or its C library.
 ELSEWHERE = """
-import json, sys
 import ctypes, platform
 
 def refuse(path):
     raise OSError("no GLIBC_2.99")
 
-if json.load(sys.stdin) == "another machine":
-    platform.machine = lambda: "aarch64"
-else:
-    ctypes.CDLL = refuse
-try:
-    import latex2mathml_proved
-    print(json.dumps("imported"))
-except ImportError as error:
-    print(json.dumps(str(error)))
+def answer(other):
+    if other == "machine":
+        platform.machine = lambda: "aarch64"
+    else:
+        ctypes.CDLL = refuse
+    try:
+        import latex2mathml_proved
+        return "imported"
+    except ImportError as error:
+        return str(error)
 """
 
 # Copies the page files, where those of the package may only be read, and says which of the copies may be written.
 READ_ONLY = """
-import json, pathlib, shutil, sys
+import pathlib, shutil
 import latex2mathml_proved.rendering as it
 
-folder = pathlib.Path(json.load(sys.stdin))
-it.PAGE = shutil.copytree(it.PAGE, folder / "page")
-for path in (*it.PAGE.iterdir(), it.PAGE):
-    path.chmod(0o555)
-site = folder / "a" / "site"
-it.copy_page(site)
-print(json.dumps([bool(path.stat().st_mode & 0o200) for path in (site, *site.iterdir())]))
+def answer(folder):
+    it.PAGE = shutil.copytree(it.PAGE, pathlib.Path(folder, "page"))
+    for path in (*it.PAGE.iterdir(), it.PAGE):
+        path.chmod(0o555)
+    site = pathlib.Path(folder, "a/site")
+    it.copy_page(site)
+    return [bool(path.stat().st_mode & 0o200) for path in (site, *site.iterdir())]
 """
 
 RENDER = """
-import json, sys
 from latex2mathml_proved.rendering import Renderer
 
 def answer(*words):
     markup, fault = Renderer().render(*words)
     return [markup, fault and str(fault)]
-
-print(json.dumps([answer(*words) for words in json.load(sys.stdin)]))
 """
 
 
@@ -163,7 +157,7 @@ class Wheel(Case):
     @requires("mypy")
     def test_types(self):
         """A checker of types takes them from the installed package."""
-        program = self.enterContext(scratch()) / "typed.py"
+        program = self.folder / "typed.py"
         program.write_text(
             "import latex2mathml_proved\n"
             "from latex2mathml_proved.rendering import Renderer\n"
@@ -184,9 +178,8 @@ class Wheel(Case):
         about = tomllib.loads((PACKAGE / "pyproject.toml").read_text(encoding="utf-8"))
         oldest = about["project"]["requires-python"].removeprefix(">=")
         self.assertIn(f"Python {oldest} or later", (PACKAGE / "README.md").read_text(encoding="utf-8"))
-        cache = self.enterContext(scratch())
         done = run(["mypy", "--python-version", oldest, "--no-site-packages", "--ignore-missing-imports", "--check-untyped-defs",
-                    "--no-error-summary", "--cache-dir", cache, PACKAGE / "src/latex2mathml_proved", PACKAGE / "setup.py"], timeout=300)
+                    "--no-error-summary", "--cache-dir", self.folder, PACKAGE / "src/latex2mathml_proved", PACKAGE / "setup.py"], timeout=300)
         self.expect(done, 0, b"", b"")
 
     def test_licence(self):
@@ -199,36 +192,32 @@ class Wheel(Case):
         """Python would warn of a file that is left for the collector to close, and of one that is read as the locale has it."""
         script = ("import sys\nimport latex2mathml_proved.rendering as it\n"
                   "print(it.Renderer().render('x').markup)\nit.Renderer().render('{')\nit.copy_page(sys.argv[1])")
-        folder = self.enterContext(scratch()) / "site"
         options = ["-X", "warn_default_encoding", "-W", "always::ResourceWarning"]
-        answer = cases.math("inline", b"<mi>x</mi>") + b"\n"
-        self.expect(run_python(environment(), *options, "-c", script, folder), 0, answer, b"")
+        self.expect(run_python(environment(), *options, "-c", script, self.folder / "site"), 0, texts.X + b"\n", b"")
 
     def test_page_files(self):
         """`python3 -m latex2mathml_proved FOLDER` copies them into a folder, even if it has them already."""
-        folder = self.enterContext(scratch()) / "site"
+        folder = self.folder / "site"
         for _ in range(2):
             self.expect(run_python(environment(), "-m", "latex2mathml_proved", folder), stdout=b"")
         self.assertEqual(sorted(path.name for path in folder.iterdir()), ["latex2mathml.css", "latex2mathml.js"])
 
     def test_words_that_are_no_folder(self):
         """Its usage is shown, and no folder is made."""
-        folder = self.enterContext(scratch())
         for words, status in (["--help"], 0), (["-h"], 0), ([], 2), (["--other"], 2), (["a", "b"], 2):
             with self.subTest(words):
-                done = run_python(environment(), "-m", "latex2mathml_proved", *words, cwd=folder)
+                done = run_python(environment(), "-m", "latex2mathml_proved", *words, cwd=self.folder)
                 usage = b"usage: python3 -m latex2mathml_proved [-h] FOLDER\n"
                 self.assertEqual((done.returncode, (done.stdout + done.stderr).startswith(usage)), (status, True))
-                self.assertEqual(list(folder.iterdir()), [])
+                self.assertEqual(list(self.folder.iterdir()), [])
 
     def test_page_files_that_may_only_be_read(self):
         """Their copies may be written, so that the next build can copy them again."""
-        folder = self.enterContext(scratch())
-        self.assertEqual(ask(environment(), READ_ONLY, str(folder)), [True, True, True])
+        self.assertEqual(ask(environment(), READ_ONLY, str(self.folder)), [[True, True, True]])
 
     def test_other_systems(self):
         """Where the library does not run, the error of the import says what it needs."""
-        machine, library = (ask(environment(), ELSEWHERE, f"another {it}") for it in ("machine", "C library"))
+        [machine], [library] = (ask(environment(), ELSEWHERE, it) for it in ("machine", "C library"))
         self.assertEqual(machine, "latex2mathml_proved runs on Linux x86_64, and this is Linux aarch64")
         self.assertRegex(library, "^latex2mathml_proved needs the GNU C library, .*: no GLIBC_2.99$")
 
@@ -236,7 +225,7 @@ class Wheel(Case):
 @requires_python()
 class Calls(Case):
     def answers(self, *calls):
-        return ask(environment(), CALLS, calls)
+        return ask(environment(), CALLS, *calls)
 
     def test_what_the_texts_show(self):
         """The examples of the README and of the package give the results that they show."""
@@ -251,10 +240,9 @@ class Calls(Case):
             [LESS_INLINE, LESS_BLOCK, LESS_BLOCK, LESS_INLINE, f"é {LESS_INLINE}, {LESS_BLOCK} &#x24;"])
 
     def test_refusals(self):
-        dollars = "The number of dollar sings found is invalid."
         self.assertEqual(
             self.answers(["formula", "{x", {}], ["document", "a $x", {}], ["document", "a ${x$", {}]),
-            [["Refused", True, OPEN], ["Refused", True, dollars], ["Refused", True, OPEN]])
+            [["Refused", True, UNCLOSED], ["Refused", True, UNPAIRED], ["Refused", True, UNCLOSED]])
 
     def test_marked_errors(self):
         """Where none may be, all of them are named, and a formula without any is as it was."""
@@ -268,36 +256,38 @@ class Calls(Case):
         self.assertIn("[PARSE ERROR: ", marked)
 
     def test_texts_of_any_kind(self):
-        letters = MATH.format("inline", "<mi>x</mi>" * 100_000)
-        undefined = MATH.format("inline", '<mtext>[PARSE ERROR: Undefined("Illegal(\'\0\')")]</mtext><mi>x</mi>')
+        letters = math("<mi>x</mi>" * 100_000)
+        undefined = math('<mtext>[PARSE ERROR: Undefined("Illegal(\'\0\')")]</mtext><mi>x</mi>')
         empty, long, zero, astral, lone = self.answers(
             ["formula", "", {}], ["formula", "x" * 100_000, {}], ["formula", "\0x", {}], ["formula", "𝟙", {}], ["formula", "\ud800", {}])
-        self.assertEqual([empty, long, astral], [MATH.format("inline", ""), letters, MATH.format("inline", '<mi mathvariant="normal">𝟙</mi>')])
+        self.assertEqual([empty, long, astral], [math(""), letters, math('<mi mathvariant="normal">𝟙</mi>')])
         self.assertEqual(zero, undefined)
         self.assertEqual(lone[:2], ["UnicodeEncodeError", True])
 
     def test_an_answer_larger_than_the_first_room(self):
         calls = [["formula", "x<y", {}], ["formula", "{x", {}], ["document", "$x<y$", {}]]
         little_room = "import latex2mathml_proved._library as it\nit.ROOM, it.ROOM_PER_BYTE = 1, 0\n"
-        self.assertEqual(ask(environment(), little_room + CALLS, calls), [LESS_INLINE, ["Refused", True, OPEN], LESS_INLINE])
+        self.assertEqual(ask(environment(), little_room + CALLS, *calls), [LESS_INLINE, ["Refused", True, UNCLOSED], LESS_INLINE])
 
     def test_little_memory(self):
-        self.assertEqual(ask(environment(), LITTLE_MEMORY, None), ["latex2mathml: out of memory", LESS_INLINE])
+        [answers] = ask(environment(), LITTLE_MEMORY, ["x" * 4_000_000, "x<y"])
+        self.assertEqual(answers, ["latex2mathml: out of memory", LESS_INLINE])
 
     def test_threads(self):
-        self.assertIs(ask(environment(), THREADS, None), True)
+        formulas = [f"{{x_{number}" + "}" * (number % 2) for number in range(400)]
+        self.assertEqual(ask(environment(), THREADS, formulas), [True])
 
 
 @requires_python()
 class Tex(unittest.TestCase):
     def refusals(self, *calls):
-        return ask(environment(), TEX_REFUSALS, calls)
+        return ask(environment(), TEX_REFUSALS, *calls)
 
     def test_markup(self):
         power = "<msubsup><mi>x</mi><mi>i</mi><mn>2</mn></msubsup>"
         self.assertEqual(
             self.refusals(["x_i^2"], ["x_i^2", True], ["\\p", False, "\\newcommand{\\p}{x_i^2}"]),
-            [MATH.format("inline", power), MATH.format("block", power), MATH.format("inline", power)])
+            [math(power), math(power, "block"), math(power)])
 
     def test_annotation(self):
         """It is the formula as it was given, also where a macro takes the place of a part of it."""
@@ -324,11 +314,12 @@ class Tex(unittest.TestCase):
 
 @requires_python()
 class Macros(Case):
-    X = MATH.format("inline", "<mi>x</mi>")
-    NORM = MATH.format("inline", "<mi>a</mi><mo>+</mo><mi>b</mi>")
+    X = texts.X.decode()
+    NORM = math("<mi>a</mi><mo>+</mo><mi>b</mi>")
 
     def check(self, *cases):
-        for (macros, formula, wanted), answer in zip(cases, ask(environment(), MACROS, [it[:2] for it in cases]), strict=True):
+        answers = ask(environment(), MACROS, *(list(it[:2]) for it in cases))
+        for (macros, formula, wanted), answer in zip(cases, answers, strict=True):
             with self.subTest(macros):
                 self.assertEqual(answer, wanted if isinstance(wanted, str) and not wanted.startswith("<") else [wanted, None])
 
@@ -367,7 +358,7 @@ class Macros(Case):
         )
 
     def test_a_file(self):
-        file = self.enterContext(scratch()) / "macros.tex"
+        file = self.folder / "macros.tex"
         file.write_text("% é\n\\newcommand{\\xx}{x}\n\\DeclareMathOperator{\\rank}{rank}\n", encoding="utf-8")
         self.check((str(file), "\\xx", self.X))
         file.write_text("% é\n\\def\\a{é} \\usepackage{bm}", encoding="utf-8")
@@ -377,12 +368,11 @@ class Macros(Case):
 
     def test_no_file(self):
         with self.assertRaisesRegex(AssertionError, "FileNotFoundError: .*none.tex"):
-            ask(environment(), MACROS, [["none.tex", "x"]])
+            ask(environment(), MACROS, ["none.tex", "x"])
 
 
 # Renders formulas, and answers how often the library was called for each.
 COUNTED = """
-import json, sys
 import latex2mathml_proved.rendering as it
 
 calls = 0
@@ -394,25 +384,23 @@ def count_call(*words, **more):
 
 convert, it.tex = it.tex, count_call
 
-def count(formula):
+def answer(formula):
     global calls
     calls = 0
     it.Renderer().render(formula)
     return calls
-
-print(json.dumps([count(formula) for formula in json.load(sys.stdin)]))
 """
 
 
 @requires_python()
 class Renderings(unittest.TestCase):
     def test_each_formula_is_converted_once(self):
-        self.assertEqual(ask(environment(), COUNTED, ["x", "{x", "\\foo"]), [1, 1, 1])
+        self.assertEqual(ask(environment(), COUNTED, "x", "{x", "\\foo"), [1, 1, 1])
 
     def test_faults(self):
         """A refused formula is shown as it was written, with no mark in it. The reason says what is refused first, and where."""
-        refused, twice, dollar, rows, long = ask(environment(), RENDER, [
-            ["{\\le<\"\\&"], ["a \\foo b \\bar"], ["{\\$"], [" a &= b \\\\\n &= \\foo"], ["{" + "x " * 40]])
+        refused, twice, dollar, rows, long = ask(
+            environment(), RENDER, "{\\le<\"\\&", "a \\foo b \\bar", "{\\$", " a &= b \\\\\n &= \\foo", "{" + "x " * 40)
         self.assertEqual(refused, [
             '<code class="latex2mathml-refused" title="{ is not closed at column 1">{\\le&lt;&quot;\\&amp;</code>',
             '{\\le<"\\&: { is not closed at column 1'])
@@ -426,6 +414,6 @@ class Renderings(unittest.TestCase):
 
     def test_another_source(self):
         """Code and faults have what the author wrote, in place of what is converted."""
-        [[markup, fault]] = ask(environment(), RENDER, [["a\\\\\\foo", True, "a\n\n\\foo"]])
+        [[markup, fault]] = ask(environment(), RENDER, ["a\\\\\\foo", True, "a\n\n\\foo"])
         self.assertEqual(markup, '<code class="latex2mathml-refused" title="unknown command \\foo at line 3, column 1">a\n\n\\foo</code>')
         self.assertEqual(fault, "a \\foo: unknown command \\foo at line 3, column 1")

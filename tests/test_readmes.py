@@ -7,7 +7,7 @@ import shutil
 
 from tests.environments import interpreter, requires_python
 from tests.integration import answer_of, tex_answer_of
-from tests.support import ROOT, Case, requires, run, scratch
+from tests.support import ROOT, Case, put, requires, run, scratch
 
 PACKAGES = pathlib.Path("/usr/share/nodejs")  # Debian's
 
@@ -66,17 +66,13 @@ class Readme(Case):
         cls.made = folder / "dist"
         run([ROOT / "tools/make-dist", cls.made], timeout=300, check=True)
         toolchain = folder / "toolchain"
-        toolchain.mkdir()
-        for name in ("rt", "rattle"):
-            (toolchain / name).write_text(TOOLCHAIN)
-            (toolchain / name).chmod(0o755)
+        put(toolchain, {"rt": TOOLCHAIN, "rattle": TOOLCHAIN})
         kept = {name: value for name, value in os.environ.items() if not name.startswith(("LATEX2MATHML", "PYTHON", "NODE_", "npm_"))}
         # what npm and cargo keep stands there too, and neither has a network
         cls.environment = {**kept, "PATH": f"{toolchain}:{os.environ['PATH']}", "npm_config_offline": "true",
                            "npm_config_cache": str(folder / "npm"), "CARGO_NET_OFFLINE": "true", "CARGO_HOME": str(folder / "cargo")}
 
     def setUp(self):
-        self.folder = self.enterContext(scratch())
         self.dist, self.project = self.folder / "dist", self.folder / "project"
         shutil.copytree(self.made, self.dist)
         self.project.mkdir()
@@ -102,9 +98,7 @@ class OfTheFolder(Readme):
         squares = [tex_answer_of("x_i^2", display) for display in ("inline", "block")]
         line, block, real = answer_of("x<y"), answer_of("x<y", "block"), tex_answer_of(MEMBER)
         wanted = [*squares, line, block, "", "", line, real, line, None, line]
-        (self.dist / "a.txt").write_text("Let $x<y$ be.")
-        (self.dist / "site").mkdir()
-        (self.dist / "site/b.html").write_text("Let $$x<y$$ be.")
+        put(self.dist, {"a.txt": "Let $x<y$ be.", "site/b.html": "Let $$x<y$$ be."})
         self.expect(run([interpreter("ensurepip"), "-m", "venv", self.folder / "environment"], timeout=300))
         for command, answer in zip(said, wanted, strict=True):
             with self.subTest(command):
@@ -156,8 +150,7 @@ class OfTheFilterForPandoc(Readme):
         self.do(first, self.dist)
         self.assertEqual((self.dist / "example.html").read_text().count("</math>"), 8)
         shutil.copy(self.dist / "integrations/pandoc/latex2mathml.lua", self.project)
-        (self.project / "a.md").write_text("---\ntitle: A\n---\n\n$\\R$ and $x_i^2$")
-        (self.project / "macros.tex").write_text("\\newcommand{\\R}{x_i^2}")
+        put(self.project, {"a.md": "---\ntitle: A\n---\n\n$\\R$ and $x_i^2$", "macros.tex": "\\newcommand{\\R}{x_i^2}"})
         square = tex_answer_of("x_i^2")
         for command, count in ((second, 1), (third, 2)):
             with self.subTest(command):
@@ -260,8 +253,7 @@ class OfTheCrateForRust(Readme):
         [lines] = code(readme, "rust")
         printed = (f"Let {answer_of('x<y')} be.\n{tex_answer_of(MEMBER)}\n"
                    'marked as an error: Undefined("Command(\\"le\\")")\n')
-        (self.project / "src").mkdir()
-        (self.project / "src/main.rs").write_text(MAIN.format(lines=lines))
+        put(self.project, {"src/main.rs": MAIN.format(lines=lines)})
         for manifest in (f"[dependencies]\n{dependency}\n", f'[dependencies]\nlatex2mathml = "0.2"\n\n{patch}\n{replacement}\n'):
             with self.subTest(manifest):
                 (self.project / "Cargo.toml").write_text(MANIFEST + manifest)

@@ -4,7 +4,7 @@ import re
 
 from tests.environments import environment, requires_python
 from tests.sites import tex
-from tests.support import ROOT, Case, requires, run, run_folder, scratch
+from tests.support import ROOT, Case, put, requires, run, run_folder
 
 RECIPES = (ROOT / "integrations/recipes.md").read_text()
 
@@ -27,18 +27,11 @@ class Builders(Case):
     """Sites of one page, which has a formula of each kind, a price, and dollar signs in code."""
 
     def setUp(self):
-        self.folder = self.enterContext(scratch())
         self.site = self.folder / "site"
         self.site.mkdir()
         path = f"{environment().parent}:{os.environ['PATH']}"
         self.environment = {**os.environ, "PATH": path, "XDG_CACHE_HOME": str(run_folder() / "caches")}
         self.line, self.block = tex(LINE, [BLOCK, True])
-
-    def put(self, texts):
-        for name, text in texts.items():
-            path = self.site / name
-            path.parent.mkdir(parents=True, exist_ok=True)
-            path.write_text(text)
 
     def do(self, command, **more):
         """Runs the commands of a section, which end with those of `latex2mathml-site`, and returns its last line."""
@@ -60,7 +53,7 @@ class Builders(Case):
         [command] = blocks("Hugo", "sh")
         text = f"Let {{{{< m >}}}}{LINE}{{{{< /m >}}}} cost $5 and $6.\n\n```math\n{BLOCK}\n```\n\n`$x$`\n\n```sh\n$ ls $HOME\n```\n"
         template = "<!DOCTYPE html>\n<html><head>\n<title>{{ .Title }}</title>\n</head>\n<body>\n{{ .Content }}\n</body></html>\n"
-        self.put({"layouts/shortcodes/m.html": shortcode, "layouts/_default/single.html": template, "layouts/_default/list.html": "<p>",
+        put(self.site, {"layouts/shortcodes/m.html": shortcode, "layouts/_default/single.html": template, "layouts/_default/list.html": "<p>",
                   "config.toml": 'baseURL = "https://example.org/"\n', "content/posts/one.md": f"---\ntitle: One\n---\n{text}"})
         said = self.do(command)
         self.check((self.site / "public/posts/one/index.html").read_text(), said)
@@ -72,7 +65,7 @@ class Builders(Case):
     def test_jekyll(self):
         [command] = blocks("Jekyll", "sh")
         text = f"Let $${LINE}$$ cost $5 and $6.\n\n$$\n{BLOCK}\n$$\n\n`$x$`\n\n```sh\n$ ls $HOME\n```\n"
-        self.put({"_layouts/default.html": "<html><body>{{ content }}</body></html>", "_config.yml": "title: A site\n",
+        put(self.site, {"_layouts/default.html": "<html><body>{{ content }}</body></html>", "_config.yml": "title: A site\n",
                   "index.md": f"---\nlayout: default\n---\n{text}"})
         said = self.do(command)
         page = (self.site / "_site/index.html").read_text()
@@ -82,7 +75,7 @@ class Builders(Case):
     def test_rustdoc(self):
         [comment] = blocks("rustdoc", "rust")
         [command] = blocks("rustdoc", "sh")
-        self.put({"Cargo.toml": '[package]\nname = "mean"\nversion = "0.1.0"\nedition = "2018"\n',
+        put(self.site, {"Cargo.toml": '[package]\nname = "mean"\nversion = "0.1.0"\nedition = "2018"\n',
                   "src/lib.rs": f"{comment}//!\n//! `$x$` for $5\n/// A macro\n#[macro_export]\nmacro_rules! m {{ ($a:expr, $b:expr) => {{}} }}\n"})
         # cargo is to ask no network
         self.do(command.replace("cargo doc", "cargo doc --quiet --offline"), CARGO_TARGET_DIR=str(self.site / "target"),
@@ -105,10 +98,8 @@ class Checks(Case):
     def test_before_a_commit(self):
         """The hook's command fails where a formula is refused, and changes nothing."""
         [entry] = re.findall(r"^ *entry: (.*)$", section("Before each commit"), re.MULTILINE)
-        folder = self.enterContext(scratch())
-        (folder / "public").mkdir()
         path = {**os.environ, "PATH": f"{environment().parent}:{os.environ['PATH']}"}
         for text, status in (("$x$", 0), ("$\\foo$", 1)):
-            (folder / "public/a.html").write_text(text)
-            self.expect(run(["sh", "-c", entry], cwd=folder, env=path), status, None, None)
-            self.assertEqual((folder / "public/a.html").read_text(), text)
+            put(self.folder, {"public/a.html": text})
+            self.expect(run(["sh", "-c", entry], cwd=self.folder, env=path), status, None, None)
+            self.assertEqual((self.folder / "public/a.html").read_text(), text)

@@ -1,10 +1,9 @@
 """The crate for Rust, built by cargo."""
 import os
-import resource
 import shutil
-import unittest
 
-from tests.support import ROOT, Case, c_library, requires, run, scratch
+from tests.support import ROOT, Case, Has, c_library, limit, put, requires, run, scratch
+from tests.texts import UNCLOSED, UNPAIRED, math
 
 CRATE = ROOT / "integrations/rust"
 MEGABYTE = 1 << 20
@@ -41,39 +40,6 @@ fn main() {
 """
 SENTENCE = "Let $x$ be. "
 
-# Another library, which answers everything by the same word.
-ANOTHER = r"""
-#include "latex2mathml.h"
-
-static uint32_t answer(char *out, size_t out_len, size_t *needed) {
-    *needed = 1;
-    if (out_len < 1)
-        return LATEX2MATHML_TOO_SMALL;
-    *out = '!';
-    return LATEX2MATHML_DONE;
-}
-
-uint32_t latex2mathml_formula(const char *latex, size_t latex_len, bool block, char *out, size_t out_len, size_t *needed) {
-    return (void)latex, (void)latex_len, (void)block, answer(out, out_len, needed);
-}
-
-uint32_t latex2mathml_document(const char *document, size_t document_len, char *out, size_t out_len, size_t *needed) {
-    return (void)document, (void)document_len, answer(out, out_len, needed);
-}
-
-uint32_t latex2mathml_tex(const char *definitions, size_t definitions_len, const char *tex, size_t tex_len, bool block,
-                          uint32_t flags, char *out, size_t out_len, size_t *needed, size_t *place) {
-    (void)definitions, (void)definitions_len, (void)tex, (void)tex_len, (void)block, (void)flags;
-    *place = 0;
-    return answer(out, out_len, needed);
-}
-"""
-
-
-def memory_limit(megabytes):
-    """Limits the memory that a process may allocate."""
-    return lambda: resource.setrlimit(resource.RLIMIT_AS, (megabytes * MEGABYTE, megabytes * MEGABYTE))
-
 
 @requires("cargo", "cc")
 class Crate(Case):
@@ -105,19 +71,14 @@ class Crate(Case):
         self.assertEqual(done.stdout.count(b"test result: ok."), 7)  # of the modules, five files, and the comments
 
     def test_a_caller_of_the_crate(self):
-        start = '<math xmlns="http://www.w3.org/1998/Math/MathML" display='
-        printed = (
-            f'{start}"block"><mi>E</mi><mo>=</mo><mi>m</mi><msup><mi>c</mi><mn>2</mn></msup></math>\n'
-            f'<p>Let {start}"inline"><mi>r</mi></math> be.</p>\n'
-            'The token "RBrace" is expected, but the token "EOF" is found."\n'
-            "The number of dollar sings found is invalid.\n")
+        energy = math("<mi>E</mi><mo>=</mo><mi>m</mi><msup><mi>c</mi><mn>2</mn></msup>", "block")
+        printed = b"%s\n<p>Let %s be.</p>\n" % (energy, math("<mi>r</mi>")) + f"{UNCLOSED}\n{UNPAIRED}\n".encode()
         for name, dependencies in (("line", DEPENDENCY), ("patch", PATCH)):
             with self.subTest(name):
                 caller = self.folder / name
-                (caller / "src").mkdir(parents=True)
-                (caller / "src/main.rs").write_text(CALLER)
-                (caller / "Cargo.toml").write_text(MANIFEST + dependencies.replace("CRATE", str(self.crate)))
-                self.expect(self.cargo("run", folder=caller), stdout=printed.encode())
+                manifest = MANIFEST + dependencies.replace("CRATE", str(self.crate))
+                put(caller, {"src/main.rs": CALLER, "Cargo.toml": manifest})
+                self.expect(self.cargo("run", folder=caller), stdout=printed)
 
     def test_where_the_library_is_found(self):
         elsewhere = self.copy("elsewhere")
@@ -132,8 +93,8 @@ class Crate(Case):
         """The next build takes the new one, and refuses if there is none."""
         crate = self.copy("replaced")
         library = shutil.copytree(c_library(), crate / "lib") / "liblatex2mathml.a"
-        (crate / "another.c").write_text(ANOTHER)
-        self.expect(run(["cc", "-c", "-I", crate / "lib", crate / "another.c", "-o", crate / "another.o"]))
+        options = ["-c", '-DANSWER="!"', "-I", crate / "lib", "-o", crate / "another.o"]
+        self.expect(run(["cc", *options, ROOT / "tests/stub.c"]))
         self.expect(run(["ar", "rcs", crate / "another.a", crate / "another.o"]))
 
         def build():
@@ -154,23 +115,14 @@ class Crate(Case):
 
     def test_the_example(self):
         page = self.example()
-        done = run([page], stdin=b"Let $x<y$ be.")
-        self.expect(done, stdout=None)
-        self.assertIn(b"<mi>x</mi><mo>&lt;</mo><mi>y</mi></math> be.", done.stdout)
-        done = run([page], stdin=b"${x$")
-        self.expect(done, status=1, stdout=b"", stderr=None)
-        self.assertIn(b"RBrace", done.stderr)
+        self.expect(run([page], stdin=b"Let $x<y$ be."), stdout=Has(b"<mi>x</mi><mo>&lt;</mo><mi>y</mi></math> be."))
+        self.expect(run([page], stdin=b"${x$"), 1, b"", Has(b"RBrace"))
 
     def test_little_memory(self):
         page = self.example()
         prose = "No formula. ".encode() * (8 * MEGABYTE // 12)
         # the first guess of the buffer would be half a gigabyte
-        done = run([page], stdin=prose, preexec_fn=memory_limit(200))
-        self.expect(done, stdout=None)
-        self.assertIn(prose, done.stdout)
-        done = run([page], stdin=(SENTENCE * (4 * MEGABYTE // len(SENTENCE))).encode(), preexec_fn=memory_limit(30))
+        self.expect(run([page], stdin=prose, preexec_fn=limit(AS=200 * MEGABYTE)), stdout=Has(prose))
+        sentences = (SENTENCE * (4 * MEGABYTE // len(SENTENCE))).encode()
+        done = run([page], stdin=sentences, preexec_fn=limit(AS=30 * MEGABYTE))
         self.expect(done, status=1, stdout=b"", stderr=b"Error: OutOfMemory\n")
-
-
-if __name__ == "__main__":
-    unittest.main()

@@ -6,33 +6,33 @@ import subprocess
 
 from tests.environments import ask, environment, requires_python, run_python
 from tests.sites import keep_caches_here, site, tex
-from tests.support import Case, scratch
+from tests.support import Case, put, scratch
 
 # Converts pages, and answers the results with their faults.
 CONVERT = """
-import json, sys
 from latex2mathml_proved.site.pages import Options, convert
 
-def answer(text, options):
+def answer(text, options={}):
     page = convert(text.encode(), Options(**options))
     return [page.content.decode(), page.formulas, [list(it) for it in page.faults]]
-
-print(json.dumps([answer(*words) for words in json.load(sys.stdin)]))
 """
 
 # Answers the definitions that the settings in scripts come to, and what is refused in them.
 SETTINGS = """
-import json, sys
 from latex2mathml_proved.site.settings import macros_of
-print(json.dumps([[it.definitions, [list(one) for one in it.refused]] for it in map(macros_of, json.load(sys.stdin))]))
+
+def answer(script):
+    macros = macros_of(script)
+    return [macros.definitions, [list(it) for it in macros.refused]]
 """
 
 
 def converted(*pages, **options):
     """Each page after its conversion."""
-    return [made for made, _, _ in ask(environment(), CONVERT, [[page, options] for page in pages])]
+    return [made for made, _, _ in ask(environment(), CONVERT, *([page, options] for page in pages))]
 
 
+@requires_python()
 class Pages(Case):
     def same(self, before, formulas, after, **options):
         """Checks that a page becomes the text `after`, in which `{}` stands for the markup of each formula in turn."""
@@ -40,12 +40,11 @@ class Pages(Case):
         self.assertEqual(made, after.format(*tex(*formulas)))
 
     def unchanged(self, *pages, **options):
-        for page, made in zip(pages, converted(*pages, **options)):
+        for page, made in zip(pages, converted(*pages, **options), strict=True):
             with self.subTest(page):
                 self.assertEqual(made, page)
 
 
-@requires_python()
 class Formulas(Pages):
     def test_delimiters(self):
         self.same(r"<p>a \(x\) b \[ y \] c $z$ d $$w$$ e</p>", ["x", [" y ", True], "z", ["w", True]], "<p>a {} b {} c {} d {} e</p>")
@@ -123,7 +122,6 @@ class Formulas(Pages):
                 self.same(f"{before}$y$", ["y"], f"{before}{{}}")
 
 
-@requires_python()
 class Elements(Pages):
     """Elements that are formulas as a whole, as site builders leave them."""
 
@@ -171,7 +169,7 @@ class Refusals(Case):
         """The line and the column are those of what is refused in the page, also behind references and in elements."""
         page = ("<p>é $x$ \\(a &lt; \\foo &amp;\\)\n$$\n x \\foo$$</p>\n"
                 '<pre><code class="language-math">\n &lt; \\foo\n</code></pre><script type="math/tex">&lt; \\foo</script>')
-        [[made, formulas, faults]] = ask(environment(), CONVERT, [[page, {}]])
+        [[made, formulas, faults]] = ask(environment(), CONVERT, page)
         self.assertEqual(formulas, 1)
         places = [(line + 1, found.start() + 1) for line, text in enumerate(page.split("\n")) for found in re.finditer(r"\\foo", text)]
         self.assertEqual([(line, column) for line, column, _ in faults], places)
@@ -180,25 +178,22 @@ class Refusals(Case):
 
     def test_it_is_told_again(self):
         """A page that was converted before has the formula as code, and a second run names it too."""
-        [[once, _, first]] = ask(environment(), CONVERT, [["<p>\n$\\foo \\$$", {}]])
-        [[twice, _, second]] = ask(environment(), CONVERT, [[once, {}]])
+        [[once, _, first]] = ask(environment(), CONVERT, "<p>\n$\\foo \\$$")
+        [[twice, _, second]] = ask(environment(), CONVERT, once)
         self.assertEqual(twice, once)
         column = once.split("\n")[1].index(">") + 2
         self.assertEqual(second, [[2, column, "\\foo \\$: refused before: unknown command \\foo at column 1"]])
 
     def test_others_are_converted(self):
-        [[made, formulas, faults]] = ask(environment(), CONVERT, [["$a$ $\\foo$ $b$", {}]])
+        [[made, formulas, faults]] = ask(environment(), CONVERT, "$a$ $\\foo$ $b$")
         a, b = tex("a", "b")
         self.assertTrue(made.startswith(f"{a} <code") and made.endswith(f"</code> {b}"), made)
         self.assertEqual((formulas, len(faults)), (2, 1))
 
     def test_a_page_that_is_no_utf_8(self):
-        folder = self.enterContext(scratch())
-        (folder / "a.html").write_bytes(b"\xff\xfe $x$")
-        (folder / "b.html").write_bytes(b"\xff\xfe")
-        done = site(folder, cwd=folder)
-        self.expect(done, 0, None, b"a.html: not UTF-8: left as it is\n")
-        self.assertEqual((folder / "a.html").read_bytes(), b"\xff\xfe $x$")
+        put(self.folder, {"a.html": b"\xff\xfe $x$", "b.html": b"\xff\xfe"})
+        self.expect(site(self.folder, cwd=self.folder), 0, None, b"a.html: not UTF-8: left as it is\n")
+        self.assertEqual((self.folder / "a.html").read_bytes(), b"\xff\xfe $x$")
 
 
 @requires_python()
@@ -206,7 +201,7 @@ class Macros(Case):
     REAL = r"\mathbb{R}"
 
     def settings(self, *scripts):
-        return ask(environment(), SETTINGS, scripts)
+        return ask(environment(), SETTINGS, *scripts)
 
     def test_mathjax_and_katex(self):
         definition = "\\newcommand{\\RR}{\\mathbb{R}}\n"
@@ -237,28 +232,21 @@ class Macros(Case):
 
     def test_those_of_a_page(self):
         page = '<script>MathJax = {{tex: {{macros: {{foo: "x"}}}}}}</script>\n${}$'
-        folder = self.enterContext(scratch())
-        (folder / "a.html").write_text(page.format("\\foo"))
-        (folder / "b.html").write_text("$\\foo$")
-        done = site(".", cwd=folder)
-        self.expect(done, 0, None, b"b.html:1:2: \\foo: unknown command \\foo\n")
-        self.assertEqual((folder / "a.html").read_text(), page.replace("${}$", "{}").format(*tex("x")))
+        put(self.folder, {"a.html": page.format("\\foo"), "b.html": "$\\foo$"})
+        self.expect(site(".", cwd=self.folder), 0, None, b"b.html:1:2: \\foo: unknown command \\foo\n")
+        self.assertEqual((self.folder / "a.html").read_text(), page.replace("${}$", "{}").format(*tex("x")))
 
     def test_files(self):
         """Those of a page come before those of a file, and a later file before an earlier one."""
-        folder = self.enterContext(scratch())
-        (folder / "m.tex").write_text("\\newcommand{\\R}{x}\\newcommand{\\Q}{q}")
-        (folder / "m.json").write_text('{"R": "y", "S": "s"}')
-        (folder / "m.js").write_text('window.MathJax = {tex: {macros: {T: "t"}}}; // as MkDocs has it')
-        (folder / "a.html").write_text("$\\R \\Q \\S \\T$<script>macros: {S: 'p'}</script>")
-        done = site("a.html", "b.html", *(word for file in ("m.tex", "m.json", "m.js") for word in ("--macros", file)), cwd=folder)
-        self.expect(done)
+        files = {"m.tex": "\\newcommand{\\R}{x}\\newcommand{\\Q}{q}", "m.json": '{"R": "y", "S": "s"}',
+                 "m.js": 'window.MathJax = {tex: {macros: {T: "t"}}}; // as MkDocs has it'}
+        put(self.folder, {**files, "a.html": "$\\R \\Q \\S \\T$<script>macros: {S: 'p'}</script>"})
+        self.expect(site("a.html", "b.html", *(word for file in files for word in ("--macros", file)), cwd=self.folder))
         definitions = r"\newcommand{\R}{y}\newcommand{\Q}{q}\newcommand{\S}{p}\newcommand{\T}{t}"
-        self.assertEqual((folder / "b.html").read_text().partition("<script>")[0], *tex([r"\R \Q \S \T", False, definitions]))
+        made = (self.folder / "b.html").read_text().partition("<script>")[0]
+        self.assertEqual(made, *tex([r"\R \Q \S \T", False, definitions]))
 
     def test_a_file_that_is_refused(self):
-        folder = self.enterContext(scratch())
-        (folder / "a.html").write_text("$x$")
         for name, text, reason in (
                 ("m.tex", "\n x", "m.tex:2:2: not a definition"), ("m.json", "[]", "m.json: macros: not a mapping"),
                 ("m.json", "{", "m.json: Expecting property name enclosed in double quotes: line 1 column 2 (char 1)"),
@@ -266,10 +254,9 @@ class Macros(Case):
                 ("m.json", '{"a": 1}', "m.json: macros: \\a is neither a text nor a list of a text and a number of arguments: 1"),
                 ("none", None, "[Errno 2] No such file or directory: 'none'")):
             with self.subTest(name):
-                if text is not None:
-                    (folder / name).write_text(text)
-                self.expect(site("a.html", "--macros", name, cwd=folder), 1, b"", f"latex2mathml-site: {reason}\n".encode())
-                self.assertEqual((folder / "a.html").read_text(), "$x$")
+                put(self.folder, {"a.html": "$x$"} if text is None else {"a.html": "$x$", name: text})
+                self.expect(site("a.html", "--macros", name, cwd=self.folder), 1, b"", f"latex2mathml-site: {reason}\n".encode())
+                self.assertEqual((self.folder / "a.html").read_text(), "$x$")
 
 
 @requires_python()
@@ -277,16 +264,16 @@ class Leftovers(Case):
     def test_whose_process_has_ended(self):
         """The next run removes a file that was being written, unless its process still writes: not one of the same number that began
         later, nor one that is listed after its end."""
-        with scratch() as folder, subprocess.Popen(["sleep", "600"]) as alive:
+        with subprocess.Popen(["sleep", "600"]) as alive:
             ended = subprocess.Popen(["true"])
             os.waitid(os.P_PID, ended.pid, os.WEXITED | os.WNOWAIT)
             try:
-                (folder / "a.html").write_text("$x$")
-                for process, began in ((alive.pid, began_at(alive.pid)), (alive.pid, "1"), (ended.pid, began_at(ended.pid))):
-                    (folder / f".latex2mathml-{process}-{began}-0.new").write_text("half")
-                self.expect(site(".", cwd=folder), stdout=None)
-                self.assertEqual(sorted(it.name for it in folder.iterdir()), [f".latex2mathml-{alive.pid}-{began_at(alive.pid)}-0.new", "a.html"])
-                self.assertEqual((folder / "a.html").read_text(), tex("x")[0])
+                processes = ((alive.pid, began_at(alive.pid)), (alive.pid, "1"), (ended.pid, began_at(ended.pid)))
+                files = [f".latex2mathml-{process}-{began}-0.new" for process, began in processes]
+                put(self.folder, {"a.html": "$x$", **dict.fromkeys(files, "half")})
+                self.expect(site(".", cwd=self.folder), stdout=None)
+                self.assertEqual(sorted(it.name for it in self.folder.iterdir()), [files[0], "a.html"])
+                self.assertEqual((self.folder / "a.html").read_text(), tex("x")[0])
             finally:
                 alive.kill()
                 ended.wait()

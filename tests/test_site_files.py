@@ -10,14 +10,10 @@ import signal
 import stat
 import subprocess
 import time
-import unittest
 
 from tests.environments import environment, requires_python
 from tests.sites import command, site, tex
-from tests.support import Case, requires, run, scratch
-
-# The user that no file belongs to.
-NOBODY = 65534
+from tests.support import NOBODY, Case, as_nobody, hear_signals, limit, put, read_terminal, requires, run, scratch
 
 PAGE = "<p>$x$ and \\(y\\)</p>\n"
 
@@ -40,9 +36,9 @@ def state(folder):
     return found
 
 
-def hear_interrupts():
-    """A `preexec_fn`: a shell's command in the background ignores Ctrl-C, and so would all that it begins."""
-    signal.signal(signal.SIGINT, signal.SIG_DFL)
+def held(folder):
+    """What the files of a folder hold."""
+    return {name: it[0] for name, it in state(folder).items()}
 
 
 def processes_of(group):
@@ -56,16 +52,13 @@ def processes_of(group):
     return found
 
 
+@requires_python()
 class Site(Case):
     def setUp(self):
-        self.folder = self.enterContext(scratch())
         self.made = "<p>{} and {}</p>\n".format(*tex("x", "y"))
 
     def put(self, *names, text=PAGE):
-        for name in names:
-            path = self.folder / name
-            path.parent.mkdir(parents=True, exist_ok=True)
-            path.write_text(text)
+        put(self.folder, dict.fromkeys(names, text))
 
     def run_site(self, *words, status=0, says=None, stderr=b"", **more):
         done = site(*words, cwd=self.folder, **more)
@@ -74,25 +67,24 @@ class Site(Case):
             self.assertRegex(done.stdout.decode(), f"^{says}$")
         return done
 
-    def holds(self, name, text):
-        self.assertEqual((self.folder / name).read_text(), text)
+    def holds(self, text, *names):
+        for name in names:
+            self.assertEqual((self.folder / name).read_text(), text, name)
 
     def is_clean(self):
         """Nothing that was being written stays."""
         self.assertEqual([it for it in self.folder.rglob("*") if it.name.startswith(".latex2mathml")], [])
 
 
-@requires_python()
 class Files(Site):
     def test_in_place(self):
         self.put("a.html", "b/c.HTM", "b/d.xhtml", "e.txt", "f.xml")
         self.put("g.html", text="no formula")
         before = state(self.folder)
         self.run_site(".", says=summary(4, 3, 6))
-        for name in ("a.html", "b/c.HTM", "b/d.xhtml"):
-            self.holds(name, self.made)
-        self.assertEqual({name: before[name] for name in (b"e.txt", b"f.xml", b"g.html")},
-                         {name: state(self.folder)[name] for name in (b"e.txt", b"f.xml", b"g.html")})
+        self.holds(self.made, "a.html", "b/c.HTM", "b/d.xhtml")
+        for name in (b"e.txt", b"f.xml", b"g.html"):
+            self.assertEqual(state(self.folder)[name], before[name])
         self.is_clean()
 
     def test_a_second_run(self):
@@ -111,13 +103,13 @@ class Files(Site):
         self.run_site(".")
         self.put("a.html")
         self.run_site(".", says=summary(2, 1, 2))
-        self.holds("a.html", self.made)
+        self.holds(self.made, "a.html")
 
     def test_other_options_are_another_run(self):
         self.put("a.html")
         self.run_site(".", "--dollars", "off", says=summary(1, 1, 1))
         self.run_site(".", says=summary(1, 1, 1))
-        self.holds("a.html", self.made)
+        self.holds(self.made, "a.html")
 
     def test_into_a_folder(self):
         self.put("in/a.html", "in/b/c.html", "in/b/d.css")
@@ -141,19 +133,19 @@ class Files(Site):
         self.put("out/a.html", text="other")
         self.put("out/b.css", text="other")
         self.run_site("in", "out", says=summary(1, 1, 2))
-        self.holds("out/a.html", self.made)
-        self.holds("out/b.css", PAGE)
+        self.holds(self.made, "out/a.html")
+        self.holds(PAGE, "out/b.css")
 
     def test_one_page(self):
         self.put("a.html")
         self.run_site("a.html", "b.html", says=summary(1, 1, 2))
-        self.holds("a.html", PAGE)
-        self.holds("b.html", self.made)
+        self.holds(PAGE, "a.html")
+        self.holds(self.made, "b.html")
         (self.folder / "out").mkdir()
         self.run_site("a.html", "out")
-        self.holds("out/a.html", self.made)
+        self.holds(self.made, "out/a.html")
         self.run_site("a.html")
-        self.holds("a.html", self.made)
+        self.holds(self.made, "a.html")
 
     def test_wrong_words(self):
         self.put("in/a.html", "b.html")
@@ -162,12 +154,12 @@ class Files(Site):
             with self.subTest(words):
                 done = self.run_site(*words, status=2, stderr=None)
                 self.assertEqual((done.stdout, done.stderr.startswith(b"usage: latex2mathml-site ")), (b"", True))
-        self.holds("in/a.html", PAGE)
+        self.holds(PAGE, "in/a.html")
 
     def test_the_console_script(self):
         self.put("a.html")
         self.expect(run([environment().parent / "latex2mathml-site", "a.html"], cwd=self.folder), 0, None)
-        self.holds("a.html", self.made)
+        self.holds(self.made, "a.html")
 
     def test_check(self):
         self.put("a.html", "b.html")
@@ -193,9 +185,8 @@ class Files(Site):
         self.put("in/z.html")
         self.run_site("in", "new/out", "--strict", says=summary(3, 3, 6))
         self.run_site("in", "--strict", says=summary(3, 3, 6))
-        for name in ("in/a.html", "in/z.html", "new/out/b/c.html"):
-            self.holds(name, self.made)
-        self.holds("new/out/d.css", PAGE)
+        self.holds(self.made, "in/a.html", "in/z.html", "new/out/b/c.html")
+        self.holds(PAGE, "new/out/d.css")
         self.is_clean()
 
     def test_many_pages(self):
@@ -205,8 +196,7 @@ class Files(Site):
         one = self.run_site("in", "one", "--jobs", "1", says=summary(200, 200, 200, 4), stderr=None)
         four = self.run_site("in", "four", "--jobs", "4", says=summary(200, 200, 200, 4), stderr=None)
         self.assertEqual(one.stderr, four.stderr)
-        holds = [{name: it[0] for name, it in state(self.folder / made).items()} for made in ("one", "four")]
-        self.assertEqual(*holds)
+        self.assertEqual(held(self.folder / "one"), held(self.folder / "four"))
 
     def test_rights(self):
         """The page has those of the page before, and its owner."""
@@ -218,7 +208,7 @@ class Files(Site):
         self.run_site(".")
         about = (self.folder / "a.html").stat()
         self.assertEqual((stat.S_IMODE(about.st_mode), about.st_uid), (0o646, owner))
-        self.holds("a.html", self.made)
+        self.holds(self.made, "a.html")
 
     def test_progress(self):
         """A terminal shows how far a long run is, and nothing of that at its end. This run is long from its beginning."""
@@ -228,16 +218,12 @@ class Files(Site):
         with subprocess.Popen([environment(), "-c", impatient, ".", "--jobs", "1"], cwd=self.folder, stdout=subprocess.DEVNULL,
                               stderr=writer) as running:
             os.close(writer)
-            shown = b""
-            with contextlib.suppress(OSError), open(reader, "rb", buffering=0) as screen:
-                while True:
-                    shown += screen.read(1000)
+            shown = read_terminal(reader)
         self.assertEqual(running.returncode, 0)
         steps = "".join(f"\rlatex2mathml-site: {number} of 3 pages\x1b[K" for number in range(3))
-        self.assertEqual(shown, f"{steps}\r\x1b[K".encode())
+        self.assertEqual(shown, f"{steps}\r\x1b[K")
 
 
-@requires_python()
 class Names(Site):
     def test_links_to_the_folder_itself(self):
         """Each folder is visited once, so that cycles of links have an end."""
@@ -245,11 +231,11 @@ class Names(Site):
         for name, target in (("latest", "."), ("stable", "."), ("b/up", ".."), ("b/again", "../b"), ("whole", str(self.folder / "in"))):
             (self.folder / "in" / name).symlink_to(target)
         self.run_site("in", "out", says=summary(2, 2, 4))
-        self.assertEqual({name: it[0] for name, it in state(self.folder / "out").items()}, {
+        self.assertEqual(held(self.folder / "out"), {
             b"a.html": self.made.encode(), b"b": None, b"b/c.html": self.made.encode(), b"latest": ".", b"stable": ".", b"b/up": "..",
             b"b/again": "../b", b"whole": "."})
         self.run_site("in", says=summary(2, 2, 4))
-        self.holds("in/b/c.html", self.made)
+        self.holds(self.made, "in/b/c.html")
         self.assertTrue((self.folder / "in/latest").is_symlink())
 
     def test_links_to_files(self):
@@ -260,13 +246,12 @@ class Names(Site):
         (self.folder / "in/c").symlink_to("../other/c")
         (self.folder / "in/none.html").symlink_to("nowhere")
         self.run_site("in", "out", says=summary(3, 3, 6))
-        self.assertEqual({name: it[0] for name, it in state(self.folder / "out").items()}, {
+        self.assertEqual(held(self.folder / "out"), {
             b"a.html": self.made.encode(), b"a2.html": "a.html", b"b.html": self.made.encode(), b"c": None,
             b"c/d.html": self.made.encode(), b"none.html": "nowhere"})
-        self.holds("other/b.html", PAGE)
+        self.holds(PAGE, "other/b.html")
         self.run_site("in", says=summary(3, 3, 6))
-        for name in ("other/b.html", "other/c/d.html"):
-            self.holds(name, self.made)
+        self.holds(self.made, "other/b.html", "other/c/d.html")
         self.assertTrue((self.folder / "in/b.html").is_symlink())
 
     def test_two_names_of_a_file(self):
@@ -274,8 +259,7 @@ class Names(Site):
         self.put("a.html")
         os.link(self.folder / "a.html", self.folder / "b.html")
         self.run_site(".", says=summary(2, 2, 4))
-        for name in ("a.html", "b.html"):
-            self.holds(name, self.made)
+        self.holds(self.made, "a.html", "b.html")
 
     def test_names_that_are_no_text(self):
         names = [b"\xff.html", b"a\nb.html", b"-x.html", "é ü.html".encode(), b"\x1b[31m.html", b"x" * 250 + b".html"]
@@ -299,7 +283,6 @@ class Names(Site):
         self.run_site(".", says=summary(1, 1, 2))
 
 
-@requires_python()
 class Hostile(Site):
     def test_binary_files(self):
         contents = {"a.html": bytes(range(256)) * 40, "b.html": b"\0" * 5000 + b"$x$", "c.html": random.Random(1).randbytes(100_000),
@@ -333,32 +316,25 @@ class Hostile(Site):
                 after = resource.getrusage(resource.RUSAGE_CHILDREN)
                 self.assertLess(after.ru_utime - before.ru_utime, 15)
 
-    @unittest.skipUnless(os.geteuid() or shutil.which("setpriv"), "this user may write all files, and setpriv not found")
     def test_what_may_only_be_read(self):
         """It is named, stays as it is, and all else is converted."""
         self.put("a.html", "b/c.html", "d.html", "e/f.html")
         (self.folder / "a.html").chmod(0o444)
         (self.folder / "b").chmod(0o555)
         (self.folder / "e").chmod(0o000)
-        drop = []
-        if not os.geteuid():
-            drop = ["setpriv", f"--reuid={NOBODY}", f"--regid={NOBODY}", "--clear-groups"]
-            self.addCleanup(os.chmod, self.folder / "b", 0o755)
-            for path in [self.folder, *self.folder.rglob("*")]:
-                os.chown(path, NOBODY, NOBODY)
+        other = as_nobody(self.folder)
         # a Python that everyone may run
         package = environment().parent.parent / "lib"
         [packages] = package.glob("python*/site-packages")
         copy = self.enterContext(scratch())
         copy.chmod(0o755)
         shutil.copytree(packages / "latex2mathml_proved", copy / "latex2mathml_proved")
-        done = run([*drop, "/usr/bin/python3", "-B", "-m", "latex2mathml_proved", "site", "."], cwd=self.folder,
-                   env={"PYTHONPATH": str(copy), "XDG_CACHE_HOME": "/nowhere"})
+        done = run(["/usr/bin/python3", "-B", "-m", "latex2mathml_proved", "site", "."], cwd=self.folder,
+                   env={"PYTHONPATH": str(copy), "XDG_CACHE_HOME": "/nowhere"}, **other)
         (self.folder / "e").chmod(0o755)
         self.expect(done, 1, None, b"e: Permission denied\na.html: Permission denied\nb/c.html: Permission denied\n")
-        for name in ("a.html", "b/c.html", "e/f.html"):
-            self.holds(name, PAGE)
-        self.holds("d.html", self.made)
+        self.holds(PAGE, "a.html", "b/c.html", "e/f.html")
+        self.holds(self.made, "d.html")
         self.is_clean()
 
     def test_a_full_disk(self):
@@ -369,7 +345,7 @@ class Hostile(Site):
         is_mounted = not run(["mount", "-t", "tmpfs", "-o", "size=400k", "tmpfs", device]).returncode
         if is_mounted:
             self.addCleanup(run, ["umount", device])
-        limit = None if is_mounted else lambda: resource.setrlimit(resource.RLIMIT_FSIZE, (20_000, 20_000))
+        limited = None if is_mounted else limit(FSIZE=20_000)
         reason = b"No space left on device" if is_mounted else b"File too large"
         text, made = PAGE * 200, self.made * 200
         names = [f"device/{number}.html" for number in range(20)]
@@ -377,7 +353,7 @@ class Hostile(Site):
         self.put("device/small.html")
         for words in (["--jobs", "1"], ["--jobs", "4"], ["--strict"]):
             with self.subTest(words):
-                done = self.run_site("device", *words, status=1, stderr=None, preexec_fn=limit)
+                done = self.run_site("device", *words, status=1, stderr=None, preexec_fn=limited)
                 self.assertIn(b".html: " + reason + b"\n", done.stderr)
                 found = {(self.folder / name).read_text() for name in names}
                 self.assertLessEqual(found, {text, made})
@@ -386,8 +362,7 @@ class Hostile(Site):
         if is_mounted:
             self.expect(run(["mount", "-o", "remount,size=8m", "tmpfs", device]))
         self.run_site("device")
-        for name in names:
-            self.holds(name, made)
+        self.holds(made, *names)
 
     def whole(self, names, text, made):
         """Each page is the old one or the new one. Returns how many are new."""
@@ -456,7 +431,7 @@ class Hostile(Site):
         self.addCleanup(shutil.rmtree, out, ignore_errors=True)
         self.put(*names, text=text)
         with subprocess.Popen(command(".", "--fresh", *words), cwd=self.folder, stdout=subprocess.PIPE, stderr=subprocess.PIPE,
-                              start_new_session=True, preexec_fn=hear_interrupts) as running:
+                              start_new_session=True, preexec_fn=hear_signals) as running:
             self.wait_until(lambda: self.changed(names, text) + self.waiting() + (out.exists() and len(os.listdir(out))) > 5, running)
             with contextlib.suppress(ProcessLookupError):
                 os.killpg(running.pid, number)
@@ -478,12 +453,12 @@ class Hostile(Site):
     def test_watching(self):
         self.put("a.html")
         with subprocess.Popen([environment("watchdog"), *command(".", "--watch")[1:]], cwd=self.folder, stdout=subprocess.PIPE,
-                              stderr=subprocess.PIPE, preexec_fn=hear_interrupts) as running:
+                              stderr=subprocess.PIPE, preexec_fn=hear_signals) as running:
             try:
                 self.assertRegex(running.stdout.readline().decode(), summary(1, 1, 2))
                 self.put("b/c.html")
                 self.assertRegex(running.stdout.readline().decode(), summary(2, 1, 2))
-                self.holds("b/c.html", self.made)
+                self.holds(self.made, "b/c.html")
                 self.put("a.html", text="$\\foo$")
                 self.assertRegex(running.stdout.readline().decode(), summary(2, 1, 0, 1))
                 self.assertEqual(running.stderr.readline(), b"a.html:1:2: \\foo: unknown command \\foo\n")
@@ -497,4 +472,4 @@ class Hostile(Site):
         self.put("a.html")
         self.run_site(".", "--watch", status=2,
                       stderr=b"latex2mathml-site: --watch needs the package watchdog, which Debian has as python3-watchdog\n")
-        self.holds("a.html", PAGE)
+        self.holds(PAGE, "a.html")

@@ -64,16 +64,16 @@ class Random(unittest.TestCase):
     def test_formulas_alone_are_changed(self, pages):
         given = [".".join(written for written, _ in page) + "." for page in pages]
         wanted = [".".join(markup(*formula) if formula else written for written, formula in page) + "." for page in pages]
-        made = ask(environment(), CONVERT, [[page, {}] for page in given])
-        for page, want, (came, _, faults) in zip(given, wanted, made):
+        made = ask(environment(), CONVERT, *given)
+        for page, want, (came, _, faults) in zip(given, wanted, made, strict=True):
             self.assertEqual((came, faults), (want, []), page)
 
     @requires("python:html5lib")
     @RUN
     @hypothesis.given(st.lists(SOUP, min_size=1, max_size=60))
     def test_only_text_is_changed(self, pages):
-        made = ask(environment(), CONVERT, [[page, {}] for page in pages])
-        for page, (came, _, _) in zip(pages, made):
+        made = ask(environment(), CONVERT, *pages)
+        for page, (came, _, _) in zip(pages, made, strict=True):
             between = [re.escape(it) for it in MARKUP.split(came)]
             found = re.fullmatch(FORMULA.join(between), page, re.DOTALL)
             self.assertIsNotNone(found, page)

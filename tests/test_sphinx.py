@@ -1,11 +1,11 @@
 """The extension of Sphinx: projects that are built, compared with the output of Sphinx's own renderer."""
 import re
-import unittest
 
 import pytest
 
 from tests.environments import ask, environment, requires_python, run_python
-from tests.support import ROOT, Case, scratch
+from tests.support import ROOT, Case, Has, put
+from tests.texts import LESS, LESS_BLOCK
 
 pytestmark = pytest.mark.long
 
@@ -18,7 +18,7 @@ OPEN = "{ is not closed at column 1"
 
 # The processor's seconds for making rows of the text of a directive.
 ROWS = """
-import json, sys, time
+import time
 from latex2mathml_proved.sphinx import rows_of
 
 def seconds(text):
@@ -26,25 +26,24 @@ def seconds(text):
     assert len(rows_of(text)) == len(text)
     return time.process_time() - begun
 
-print(json.dumps([min(seconds(text) for _ in range(3)) for text in json.load(sys.stdin)]))
+def answer(text):
+    return min(seconds(text) for _ in range(3))
 """
 
 
+@requires_python("sphinx")
 class Project(Case):
     """A case with a folder for its project."""
 
     def setUp(self):
-        self.source = self.enterContext(scratch())
-        self.out = self.source / "out"
+        self.out = self.folder / "out"
 
     def write(self, conf, **pages):
-        (self.source / "conf.py").write_text(conf, encoding="utf-8")
-        for name, text in pages.items():
-            (self.source / f"{name}.rst").write_text(text, encoding="utf-8")
+        put(self.folder, {"conf.py": conf, **{f"{name}.rst": text for name, text in pages.items()}})
 
     def build(self, *words, builder="html", anew=("-E", "-a")):
         """Builds the project, all of it unless `anew` is empty."""
-        return run_python(environment("sphinx"), "-m", "sphinx", *anew, "-q", "-b", builder, *words, self.source, self.out, timeout=300)
+        return run_python(environment("sphinx"), "-m", "sphinx", *anew, "-q", "-b", builder, *words, self.folder, self.out, timeout=300)
 
     def page(self, name="index"):
         return (self.out / f"{name}.html").read_text(encoding="utf-8")
@@ -62,14 +61,12 @@ def formulas(page):
     return re.findall(r'<(?:span|div) class="(?:amsmath )?math [^>]*>\s*(?:<p>)?(?:<span class="eqno">.*?</span>)?(<(?:math|code) .*?</(?:math|code)>)(?:</p>)?</(?:span|div)>', page, re.DOTALL)
 
 
-@requires_python("sphinx")
 class Markup(Project):
     def test_inline_and_displayed(self):
         page, warnings = self.page_of(CONF, "A :math:`x<y` here.\n\n.. math:: x<y")
         self.assertEqual(warnings, "")
-        math = '<math xmlns="http://www.w3.org/1998/Math/MathML" display="{}"><mi>x</mi><mo>&lt;</mo><mi>y</mi></math>'
-        self.assertIn(f'<p>A <span class="math notranslate nohighlight">{math.format("inline")}</span> here.</p>', page)
-        self.assertIn(f'<div class="math notranslate nohighlight">\n<p>{math.format("block")}</p></div>\n', page)
+        self.assertIn(f'<p>A <span class="math notranslate nohighlight">{LESS.decode()}</span> here.</p>', page)
+        self.assertIn(f'<div class="math notranslate nohighlight">\n<p>{LESS_BLOCK.decode()}</p></div>\n', page)
 
     def test_rows(self):
         """Rows and equations are lines of one table. Those within braces, fences and environments are not."""
@@ -101,7 +98,7 @@ class Markup(Project):
         """Four times the text takes four times as long."""
         for piece in ("a\n\n", "%", "\\", "\n", "% \n\n", " ", "a\\\n\n", "\\\\\n\n"):
             with self.subTest(piece):
-                few, many = ask(environment("sphinx"), ROWS, ["a" + piece * count for count in (20_000, 80_000)])
+                few, many = ask(environment("sphinx"), ROWS, *("a" + piece * count for count in (20_000, 80_000)))
                 self.assertLess(many, 8 * few + 0.05)
 
     def test_no_wrapping(self):
@@ -119,7 +116,7 @@ class Markup(Project):
         """The pages of each builder ask for nothing that others without formulas do not, wherever the formulas stand."""
         for builder in ("html", "dirhtml", "singlehtml"):
             with self.subTest(builder):
-                self.out = self.source / f"out-{builder}"
+                self.out = self.folder / f"out-{builder}"
                 asked = []
                 for formula in ("x", ":math:`x`"):
                     self.write(CONF, index="Title\n=====\n\n.. toctree::\n\n   sub\n", sub=f"Sub\n===\n\n{formula}\n")
@@ -130,7 +127,6 @@ class Markup(Project):
                 self.assertEqual(sum(page.read_text(encoding="utf-8").count("<math ") for page in pages), 1)
 
 
-@requires_python("sphinx")
 class Macros(Project):
     TEXT = r".. math:: \norm{x} \in \RR"
 
@@ -152,7 +148,7 @@ class Macros(Project):
     def test_a_file(self):
         """It is seen from the folder of conf.py, and pages are written anew where it has changed."""
         conf = 'latex2mathml_macros = "macros.tex"\n'
-        file = self.source / "macros.tex"
+        file = self.folder / "macros.tex"
         file.write_text("\\newcommand{\\RR}{\\mathbb{C}}\n\\newcommand{\\norm}[1]{\\lVert #1 \\rVert}\n")
         page, _ = self.page_of(CONF + conf, self.TEXT)
         self.assertIn("ℂ", page)
@@ -162,7 +158,7 @@ class Macros(Project):
 
     def test_what_is_no_macro(self):
         """The build ends before it begins, and says which it is."""
-        (self.source / "macros.tex").write_text("\n \\usepackage{bm}\n")
+        (self.folder / "macros.tex").write_text("\n \\usepackage{bm}\n")
         for conf, said in [
             ('latex2mathml_macros = {"R2": "x"}', "latex2mathml_macros: macros: 'R2' is no name of a command"),
             ('latex2mathml_macros = {"R": "{x"}', r"latex2mathml_macros: macros: \R: { is not closed: {x"),
@@ -172,9 +168,7 @@ class Macros(Project):
         ]:
             with self.subTest(conf):
                 self.write(CONF + conf + "\n", index="Title\n=====\n")
-                done = self.build()
-                self.assertEqual(done.returncode, 2)
-                self.assertIn(said, done.stderr.decode())
+                self.expect(self.build(), 2, stderr=Has(said.encode()))
 
     def test_annotation(self):
         """It is the formula as it is read: with the ends of its rows."""
@@ -190,7 +184,6 @@ class Macros(Project):
             "WARNING: latex2mathml_strict has no effect any more: use Sphinx's option -W"])
 
 
-@requires_python("sphinx")
 class Numbers(Project):
     """Everything except the formulas, and the paragraphs around those in blocks, is as with Sphinx's `mathjax` renderer, on pages of
     every kind."""
@@ -251,7 +244,6 @@ Behind :eq:`three`.
                     self.assertEqual(ours, theirs)
 
 
-@requires_python("sphinx")
 class Pages(Project):
     def test_other_renderers_are_left_alone(self):
         page, _ = self.page_of('extensions = ["latex2mathml_proved.sphinx"]\nhtml_math_renderer = "mathjax"\n', ":math:`x`")
@@ -298,8 +290,8 @@ class Myst(Project):
 
     def page_of_markdown(self, text):
         self.write(self.CONF)
-        (self.source / "index.md").write_text(f"# Title\n\n{text}\n", encoding="utf-8")
-        done = run_python(environment("sphinx", "myst_parser"), "-m", "sphinx", "-E", "-a", "-q", self.source, self.out, timeout=300)
+        (self.folder / "index.md").write_text(f"# Title\n\n{text}\n", encoding="utf-8")
+        done = run_python(environment("sphinx", "myst_parser"), "-m", "sphinx", "-E", "-a", "-q", self.folder, self.out, timeout=300)
         self.expect(done, 0, b"", None)
         return self.page(), done.stderr.decode()
 
@@ -315,7 +307,6 @@ class Myst(Project):
                          [("4", "column 5"), ("8", "line 3, column 1"), ("13", "line 3, column 6")])
 
 
-@requires_python("sphinx")
 class Faults(Project):
     def warnings(self, said):
         """The line and the text of each warning of the page."""
@@ -349,7 +340,7 @@ class Faults(Project):
 
     def test_docstrings(self):
         """A formula in one has the line of its directive."""
-        (self.source / "module_of_ours.py").write_text('def f():\n    """One.\n\n    .. math::\n\n       a\n       \\\\foo\n    """\n')
+        (self.folder / "module_of_ours.py").write_text('def f():\n    """One.\n\n    .. math::\n\n       a\n       \\\\foo\n    """\n')
         conf = CONF.replace('["', '["sphinx.ext.autodoc", "') + "import pathlib, sys\nsys.path.insert(0, str(pathlib.Path(__file__).parent))\n"
         _, said = self.page_of(conf, ".. autofunction:: module_of_ours.f")
         self.assertRegex(said, r"module_of_ours\.py:docstring of module_of_ours\.f:3: WARNING: a \\foo: unknown command \\foo at line 2, column 1")
@@ -357,7 +348,7 @@ class Faults(Project):
     def test_places(self):
         """Where it stands in a title, a table, a note or an included file; docutils counts a title's line
         from its end. A title has one warning, though the navigation has it too."""
-        (self.source / "part.txt").write_text("Included\n:math:`{e`\n")
+        (self.folder / "part.txt").write_text("Included\n:math:`{e`\n")
         _, said = self.page_of(CONF, "A :math:`{a`\n-----------\n\n========== =\n:math:`{b` c\n========== =\n\n[1]_\n\n"
                              ".. [1] A\n   :math:`{d`\n\n.. include:: part.txt")
         places = re.findall(r"(\w+\.\w+):(\d+): WARNING: {(\w):", said)
@@ -373,7 +364,3 @@ class Faults(Project):
     def test_warnings_that_are_suppressed(self):
         _, said = self.page_of(CONF + 'suppress_warnings = ["latex2mathml"]\n', ":math:`{x`")
         self.assertEqual(said, "")
-
-
-if __name__ == "__main__":
-    unittest.main()

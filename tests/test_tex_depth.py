@@ -1,22 +1,19 @@
 """Formulas of `tex_to_mathml` that are a million levels deep, on a stack of 8 MiB, tables of a million cells, and a megabyte of each
 sign."""
-import resource
 import string
-import unittest
 from dataclasses import dataclass
 
 import pytest
 
 from tests import support
+from tests.texts import X, math
 
 pytestmark = [pytest.mark.long, pytest.mark.timeout(1800)]
 
 # 8 bytes of stack for each
 LEVELS = 1_000_000
-STACK = 8 << 20
+LIMIT = support.limit(STACK=8 << 20)
 MEGABYTE = 1_000_000
-
-MATH = '<math xmlns="http://www.w3.org/1998/Math/MathML" display="inline">{}</math>'
 
 
 @dataclass(frozen=True)
@@ -85,51 +82,51 @@ CONSTRUCTS = {
 }
 
 
-def limit_stack():
-    resource.setrlimit(resource.RLIMIT_STACK, (STACK, STACK))
-
-
 def ask(formula):
-    return support.run([support.tex_program()], stdin=formula.encode(), preexec_fn=limit_stack, timeout=300)
+    return support.run([support.tex_program()], stdin=formula.encode(), preexec_fn=LIMIT, timeout=300)
 
 
-class Deep(support.Case):
+class Large(support.Case):
+    def answers(self, formula, contents):
+        done = ask(formula)
+        self.assertEqual((done.returncode, done.stderr), (0, b""))
+        self.assertTrue(done.stdout == math(contents) + b"\n", f"answered {support.show(done.stdout)}")
+
+
+class Deep(Large):
     """Each construct in itself."""
 
-    def answers(self, kind):
-        done = ask(kind.before * LEVELS + "x" + kind.behind * LEVELS)
-        self.assertEqual((done.returncode, done.stderr), (0, b""))
-        markup = MATH.format(kind.markup_before * LEVELS + kind.inner + kind.markup_behind * LEVELS) + "\n"
-        self.assertTrue(done.stdout == markup.encode(), f"answered {support.show(done.stdout)}")
+    @support.each_row({f"answers {name}": (kind,) for name, kind in CONSTRUCTS.items()})
+    def is_answered(self, kind):
+        self.answers(kind.before * LEVELS + "x" + kind.behind * LEVELS,
+                     kind.markup_before * LEVELS + kind.inner + kind.markup_behind * LEVELS)
 
+    @support.each_row({f"is_cut_off {name}": (kind,) for name, kind in CONSTRUCTS.items()})
     def is_cut_off(self, kind):
         place = len(kind.before) * (LEVELS - 1) + kind.offset
         self.expect(ask(kind.before * LEVELS), 1, b"", f"tex2mathml: {kind.unended} at {place}\n".encode())
 
 
-class Wide(support.Case):
+CELL = "<mtd><mi>x</mi></mtd>"
+
+
+class Wide(Large):
     """Tables of a million cells."""
 
-    def answers(self, formula, contents):
-        done = ask(formula)
-        self.assertEqual((done.returncode, done.stderr), (0, b""))
-        self.assertTrue(done.stdout == (MATH.format(contents) + "\n").encode(), f"answered {support.show(done.stdout)}")
+    def are_answered(self, cells, rows):
+        self.answers(f"\\begin{{matrix}}{cells}\\end{{matrix}}", f"<mtable>{rows}</mtable>")
 
     def test_one_row(self):
-        cells = "<mtd><mi>x</mi></mtd>" * LEVELS
-        self.answers("\\begin{matrix}x" + "&x" * (LEVELS - 1) + "\\end{matrix}", f"<mtable><mtr>{cells}</mtr></mtable>")
+        self.are_answered("x" + "&x" * (LEVELS - 1), f"<mtr>{CELL * LEVELS}</mtr>")
 
     def test_one_column(self):
-        rows = "<mtr><mtd><mi>x</mi></mtd></mtr>" * LEVELS
-        self.answers("\\begin{matrix}x" + "\\\\x" * (LEVELS - 1) + "\\end{matrix}", f"<mtable>{rows}</mtable>")
+        self.are_answered("x" + "\\\\x" * (LEVELS - 1), f"<mtr>{CELL}</mtr>" * LEVELS)
 
     def test_empty_cells(self):
-        cells = "<mtd><mrow></mrow></mtd>" * LEVELS
-        self.answers("\\begin{matrix}" + "&" * (LEVELS - 1) + "\\end{matrix}", f"<mtable><mtr>{cells}</mtr></mtable>")
+        self.are_answered("&" * (LEVELS - 1), f"<mtr>{'<mtd><mrow></mrow></mtd>' * LEVELS}</mtr>")
 
     def test_as_many_rows_as_cells(self):
-        rows = ("<mtr>" + "<mtd><mi>x</mi></mtd>" * 1000 + "</mtr>") * 1000
-        self.answers("\\begin{matrix}" + "\\\\".join(["&".join("x" * 1000)] * 1000) + "\\end{matrix}", f"<mtable>{rows}</mtable>")
+        self.are_answered("\\\\".join(["&".join("x" * 1000)] * 1000), f"<mtr>{CELL * 1000}</mtr>" * 1000)
 
 
 class DeepMacros(support.Case):
@@ -138,10 +135,10 @@ class DeepMacros(support.Case):
     OPENED, CLOSED = "{" * LEVELS, "}" * LEVELS
 
     def test_body_that_is_not_used(self):
-        self.expect(ask(f"\\def\\a{{{self.OPENED}{self.CLOSED}}}x"), stdout=(MATH.format("<mi>x</mi>") + "\n").encode())
+        self.expect(ask(f"\\def\\a{{{self.OPENED}{self.CLOSED}}}x"), stdout=X + b"\n")
 
     def test_argument_that_is_not_put(self):
-        self.expect(ask(f"\\def\\a#1{{x}}\\a{{{self.OPENED}{self.CLOSED}}}"), stdout=(MATH.format("<mi>x</mi>") + "\n").encode())
+        self.expect(ask(f"\\def\\a#1{{x}}\\a{{{self.OPENED}{self.CLOSED}}}"), stdout=X + b"\n")
 
     def test_body_that_is_put(self):
         """It has more units than can be put."""
@@ -155,14 +152,11 @@ class DeepMacros(support.Case):
                 self.expect(ask(before + self.OPENED), 1, b"", f"tex2mathml: {OPEN_BRACE} at {len(before)}\n".encode())
 
     def test_in_a_file(self):
-        with support.scratch() as folder:
-            for text, told in ((f"\\def\\a{{{self.OPENED}{self.CLOSED}}}", None), (f"\\def\\a{self.OPENED}", f"1:7: {OPEN_BRACE}")):
-                (folder / "a.tex").write_text(text)
-                done = support.run([support.tex_program(), "--definitions", "a.tex"], stdin=b"x", cwd=folder, preexec_fn=limit_stack)
-                if told:
-                    self.expect(done, 1, b"", f"tex2mathml: a.tex:{told}\n".encode())
-                else:
-                    self.expect(done, stdout=(MATH.format("<mi>x</mi>") + "\n").encode())
+        for text, due in ((f"\\def\\a{{{self.OPENED}{self.CLOSED}}}", (0, X + b"\n", b"")),
+                          (f"\\def\\a{self.OPENED}", (1, b"", f"tex2mathml: a.tex:1:7: {OPEN_BRACE}\n".encode()))):
+            (self.folder / "a.tex").write_text(text)
+            words = [support.tex_program(), "--definitions", "a.tex"]
+            self.expect(support.run(words, stdin=b"x", cwd=self.folder, preexec_fn=LIMIT), *due)
 
 
 class Long(support.Case):
@@ -187,14 +181,3 @@ class Long(support.Case):
             with self.subTest(command):
                 self.is_told(command)
 
-
-def add_cases():
-    for name, kind in CONSTRUCTS.items():
-        for check in ("answers", "is_cut_off"):
-            setattr(Deep, f"test_{check}_{name.replace(' ', '_')}", lambda self, kind=kind, check=check: getattr(self, check)(kind))
-
-
-add_cases()
-
-if __name__ == "__main__":
-    unittest.main()

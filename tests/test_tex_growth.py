@@ -2,7 +2,6 @@
 
 Each count is that of a run whose answer is whole: a program that answers nothing would count as cheap.
 """
-import unittest
 
 import pytest
 
@@ -69,6 +68,8 @@ TEXTS = {
     "white space": repeat("x", " ", "y"),
     "a long name": repeat("\\operatorname{", "a", "}"),
 }
+# a case is named by its number, since a name has signs of all kinds
+NUMBERED = {str(number): row for number, row in enumerate(TEXTS.items())}
 
 
 def asked_for(text):
@@ -111,10 +112,12 @@ class Growth(support.Case):
 class Instructions(Growth):
     """Four times the text takes at most about four times the instructions."""
 
-    def judge(self, text_of):
-        self.is_answered(support.run([support.tex_program()], stdin=text_of(8_000).encode()))
-        few, many = (instructions([support.tex_program()], stdin=text_of(count).encode(), timeout=600) for count in (2_000, 8_000))
-        self.assertLessEqual(many, MOST_TIMES * few, f"{few:,} for 2,000 pieces, {many:,} for 8,000")
+    @support.each_row(NUMBERED)
+    def judge(self, name, text_of):
+        with self.subTest(name):
+            self.is_answered(support.run([support.tex_program()], stdin=text_of(8_000).encode()))
+            few, many = (instructions([support.tex_program()], stdin=text_of(count).encode(), timeout=600) for count in (2_000, 8_000))
+            self.assertLessEqual(many, MOST_TIMES * few, f"{few:,} for 2,000 pieces, {many:,} for 8,000")
 
     def test_rows_of_a_whole_text(self):
         """What stands outside of tables is read as atoms up to its first `&` or `\\\\`, and then as rows: all of it at most twice."""
@@ -142,30 +145,36 @@ class Instructions(Growth):
 class Memory(Growth):
     """Four times the text takes at most about four times the memory."""
 
-    def judge(self, text_of):
-        pieces = pieces_in(text_of, 25_000)
-        few, many = (self.count(text_of(count))["peak"] for count in (pieces, 4 * pieces))
-        self.assertLessEqual(many, MOST_TIMES * few + OWN_BYTES)
+    @support.each_row(NUMBERED)
+    def judge(self, name, text_of):
+        with self.subTest(name):
+            pieces = pieces_in(text_of, 25_000)
+            few, many = (self.count(text_of(count))["peak"] for count in (pieces, 4 * pieces))
+            self.assertLessEqual(many, MOST_TIMES * few + OWN_BYTES)
 
 
 @support.requires("cc")
 class Requests(Growth):
     """Memory is asked for only where a text or a list is full, and for each table, length, color and definition."""
 
-    def judge(self, text_of):
-        text = text_of(pieces_in(text_of, 100_000))
-        self.assertLessEqual(self.count(text)["requests"], MOST_REQUESTS + asked_for(text))
+    @support.each_row(NUMBERED)
+    def judge(self, name, text_of):
+        with self.subTest(name):
+            text = text_of(pieces_in(text_of, 100_000))
+            self.assertLessEqual(self.count(text)["requests"], MOST_REQUESTS + asked_for(text))
 
 
 @support.requires("cc")
 class Another(Growth):
     """A second formula is converted in the room of the first, and a third one in that of both."""
 
-    def judge(self, text_of):
-        text = text_of(pieces_in(text_of, 20_000))
-        one, two, three = (self.count_many([text] * formulas)["requests"] for formulas in (1, 2, 3))
-        self.assertLessEqual(two - one, MOST_FOR_ANOTHER + asked_anew(text))
-        self.assertLessEqual(three - two, MOST_FOR_ANOTHER + asked_anew(text))
+    @support.each_row(NUMBERED)
+    def judge(self, name, text_of):
+        with self.subTest(name):
+            text = text_of(pieces_in(text_of, 20_000))
+            one, two, three = (self.count_many([text] * formulas)["requests"] for formulas in (1, 2, 3))
+            self.assertLessEqual(two - one, MOST_FOR_ANOTHER + asked_anew(text))
+            self.assertLessEqual(three - two, MOST_FOR_ANOTHER + asked_anew(text))
 
     def test_many_formulas(self):
         """A thousand formulas need room for the input and the answers."""
@@ -184,17 +193,3 @@ class Another(Growth):
             self.assertEqual(done.stdout.count(b"error\n{ is not closed at "), formulas)
         self.assertLessEqual(many[1]["requests"] - few[1]["requests"], 3 * MOST_FOR_ANOTHER)
 
-
-def add_cases():
-    for way in (Instructions, Memory, Requests, Another):
-        for number, (name, text_of) in enumerate(TEXTS.items()):
-            def case(self, way=way, name=name, text_of=text_of):
-                with self.subTest(name):
-                    way.judge(self, text_of)
-            setattr(way, f"test_{number}", case)
-
-
-add_cases()
-
-if __name__ == "__main__":
-    unittest.main()

@@ -7,6 +7,7 @@ from pathlib import Path
 
 from tests import cases
 from tests.support import ROOT, Case, requires, run, tex_program
+from tests.texts import math
 
 sys.path.insert(0, str(ROOT / "diff"))
 
@@ -14,64 +15,53 @@ import structure  # noqa: E402
 
 KATEX = Path("/usr/share/nodejs/katex")
 
+
+def formulas_of(by_reason):
+    return {formula for formulas in by_reason.values() for formula in formulas}
+
+
 # the formulas that KaTeX reads otherwise
-OTHERWISE = {
-    # an accent over the letter e
-    "é": "KaTeX takes the letter apart",
-    "\\text{é}": "KaTeX takes the letter apart",
-    "a⟂b": "KaTeX puts the sign of a bottom in place of this one",
-    # the signs in place of angle brackets
-    "\\left<x\\right>": "KaTeX leaves the signs as they are in its MathML",
-    "\\begin{matrix}a\\\\*[2pt]b\\cr[c]\\end{matrix}": "KaTeX draws the star and the length",
-    "\\begin{array}{l|r}\\hline a&b\\\\ \\hline\\end{array}": "KaTeX draws the lines",
-    "\\cfrac[l]{1}{2}": "KaTeX takes the bracket as a numerator",
-    "\\cfrac [ r ] 12": "KaTeX takes the bracket as a numerator",
-    "\\genfrac { \\lfloor } \\rfloor { 0 em } {1} a b": "KaTeX's MathML has the names of these delimiters in their place",
-    "\\boxed{x}": "KaTeX has an element for a line around it, which MathML Core has not",
-    "\\fbox{if }": "KaTeX has an element for a line around it, which MathML Core has not",
-    "\\cancel{x}": "KaTeX has an element for lines through it, which MathML Core has not",
-    "\\bcancel{x}^2": "KaTeX has an element for lines through it, which MathML Core has not",
-    "\\xcancel{x}": "KaTeX has an element for lines through it, which MathML Core has not",
-    "a=b\\tag{1}": "KaTeX sets a tag at the margin of a block, and refuses it in a line of text",
-    "x\\tag{$\\star$ or so}": "KaTeX sets a tag at the margin of a block, and refuses it in a line of text",
-    "\\mathchoice{a}{b}{c}{d}+x": "KaTeX chooses by the style, also that of a block",
-    "\\dots\\not=b": "KaTeX takes the stroke apart before it looks for it; amsmath centers the dots",
-    "\\def\\a{x}\\providecommand{\\a}{y}\\a": "KaTeX defines anew what is there already; LaTeX leaves it",
-}
+OTHERWISE = formulas_of({
+    "KaTeX takes the letter apart": ["é", "\\text{é}"],
+    "KaTeX puts the sign of a bottom in place of this one": ["a⟂b"],
+    "KaTeX leaves the signs as they are in its MathML": ["\\left<x\\right>"],
+    "KaTeX draws the star and the length": ["\\begin{matrix}a\\\\*[2pt]b\\cr[c]\\end{matrix}"],
+    "KaTeX draws the lines": ["\\begin{array}{l|r}\\hline a&b\\\\ \\hline\\end{array}"],
+    "KaTeX takes the bracket as a numerator": ["\\cfrac[l]{1}{2}", "\\cfrac [ r ] 12"],
+    "KaTeX's MathML has the names of these delimiters in their place": [
+        "\\genfrac { \\lfloor } \\rfloor { 0 em } {1} a b"],
+    "KaTeX has an element for a line around it, which MathML Core has not": ["\\boxed{x}", "\\fbox{if }"],
+    "KaTeX has an element for lines through it, which MathML Core has not": [
+        "\\cancel{x}", "\\bcancel{x}^2", "\\xcancel{x}"],
+    "KaTeX sets a tag at the margin of a block, and refuses it in a line of text": [
+        "a=b\\tag{1}", "x\\tag{$\\star$ or so}"],
+    "KaTeX chooses by the style, also that of a block": ["\\mathchoice{a}{b}{c}{d}+x"],
+    "KaTeX takes the stroke apart before it looks for it; amsmath centers the dots": ["\\dots\\not=b"],
+    "KaTeX defines anew what is there already; LaTeX leaves it": ["\\def\\a{x}\\providecommand{\\a}{y}\\a"],
+})
 
 # and those that it refuses
-REFUSED = {
-    "\\sqrt\\sqrt x": "a root without braces is no argument of a root",
-    "\\begin{math}x^2\\end{math}": "KaTeX has no such environment",
-    "\\begin{displaymath}x\\end{displaymath}": "KaTeX has no such environment",
-    "\\mbox{x}": "KaTeX has no such command",
-    "{\\mit x}": "KaTeX has no such command",
-    "\\slashed{D}": "KaTeX has no such command",
-    "\\slashed\\partial": "KaTeX has no such command",
-    "\\slashed{ab}": "KaTeX has no such command",
-    "\\text{\\alpha}": "KaTeX has no signs in words",
-    "\\newcommand{\\R}{\\mathbb{R}}\\R": "KaTeX has this macro already",
-    "\\newcommand*{\\sq}[1]{#1^2}\\sq{x}": "KaTeX takes no star there",
-    "\\begin{array}[t]{@{}p{2cm}c@{\\,}}a&b&d\\end{array}": "KaTeX has no place of an array and no columns of a width",
-    "\\begin{array}{l@{\\;=\\;}r}a&b\\end{array}": "KaTeX lets nothing stand between columns",
-    "\\begin{array}{r @ {\\hspace{1cm}{=}\\foo} l}a&b\\end{array}": "KaTeX lets nothing stand between columns",
-    f"\\begin{{array}}{{l@{{{100 * '{'}{100 * '}'}}}r}}a&b\\end{{array}}": "KaTeX lets nothing stand between columns",
-    "\\begin{array}{p{0.5\\textwidth}m{2cm}b{{1}em}}a&b&c\\end{array}": "KaTeX has no columns of a width",
-    "{\\bfseries x}y": "KaTeX has no such command",
-    "\\mbox{a \\small b}": "KaTeX has no such command",
-    "\\text{\\itshape $x$ if}": "KaTeX has no such command",
-    "a\\mspace{9mu}b": "KaTeX has no such command",
-    "\\raisemath{1em}{+}": "KaTeX has no such command",
-    "\\mathcolorbox{yellow}{x}": "KaTeX has no such command",
-    "\\textcolor { RoyalBlue } xy": "KaTeX lets no space stand beside the name of a color",
-    "a\\label{eq:x_1}^2": "KaTeX has no such command",
-    "\\text{a\\label{b}c}": "KaTeX has no such command",
-    "x\\relax_1": "KaTeX lets nothing stand between an atom and its scripts",
-    "x\\allowbreak\\nobreak\\/y": "KaTeX has no such command",
-    "\\centering x": "KaTeX has no such command",
-    "\\ensuremath{x}^2": "KaTeX has no such command",
-    "\\def\\x{y}\\x&\\def\\x{z}\\x\\\\\\x": "KaTeX refuses the sign, and a definition in a cell ends with it",
-}
+REFUSED = formulas_of({
+    "a root without braces is no argument of a root": ["\\sqrt\\sqrt x"],
+    "KaTeX has no such environment": ["\\begin{math}x^2\\end{math}", "\\begin{displaymath}x\\end{displaymath}"],
+    "KaTeX has no such command": [
+        "\\mbox{x}", "{\\mit x}", "\\slashed{D}", "\\slashed\\partial", "\\slashed{ab}", "{\\bfseries x}y",
+        "\\mbox{a \\small b}", "\\text{\\itshape $x$ if}", "a\\mspace{9mu}b", "\\raisemath{1em}{+}",
+        "\\mathcolorbox{yellow}{x}", "a\\label{eq:x_1}^2", "\\text{a\\label{b}c}", "x\\allowbreak\\nobreak\\/y",
+        "\\centering x", "\\ensuremath{x}^2"],
+    "KaTeX has no signs in words": ["\\text{\\alpha}"],
+    "KaTeX has this macro already": ["\\newcommand{\\R}{\\mathbb{R}}\\R"],
+    "KaTeX takes no star there": ["\\newcommand*{\\sq}[1]{#1^2}\\sq{x}"],
+    "KaTeX has no place of an array and no columns of a width": [
+        "\\begin{array}[t]{@{}p{2cm}c@{\\,}}a&b&d\\end{array}"],
+    "KaTeX lets nothing stand between columns": [
+        "\\begin{array}{l@{\\;=\\;}r}a&b\\end{array}", "\\begin{array}{r @ {\\hspace{1cm}{=}\\foo} l}a&b\\end{array}",
+        f"\\begin{{array}}{{l@{{{100 * '{'}{100 * '}'}}}r}}a&b\\end{{array}}"],
+    "KaTeX has no columns of a width": ["\\begin{array}{p{0.5\\textwidth}m{2cm}b{{1}em}}a&b&c\\end{array}"],
+    "KaTeX lets no space stand beside the name of a color": ["\\textcolor { RoyalBlue } xy"],
+    "KaTeX lets nothing stand between an atom and its scripts": ["x\\relax_1"],
+    "KaTeX refuses the sign, and a definition in a cell ends with it": ["\\def\\x{y}\\x&\\def\\x{z}\\x\\\\\\x"],
+})
 
 # what is read as if it stood in `aligned`, as LaTeX's users and Sphinx put it there: KaTeX refuses `&`, and only breaks the line at `\\`
 IN_ALIGNED = {
@@ -90,19 +80,14 @@ BLOCK_ALONE = {"\\begin{alignat*}{2}a&b\\end{alignat*}"}
 
 
 # usual names that KaTeX reads otherwise, or refuses
-NAMES_OTHERWISE = {
-    "\\coloneq": "KaTeX has the colon and the minus sign of older versions of mathtools",
-    "\\coloneqq": "KaTeX has one character for the colon and the sign",
-}
-NAMES_REFUSED = {
-    "\\mathds{R}": "KaTeX has no such command",
-    "\\mathbbm{R}": "KaTeX has no such command",
-    "\\mbox{if}": "KaTeX has no such command",
-    "\\csch x": "KaTeX has no such command",
-    "\\sech x": "KaTeX has no such command",
-    "\\ensuremath{x}": "KaTeX has no such command",
-    "\\strut x": "KaTeX has no such command",
-}
+NAMES_OTHERWISE = formulas_of({
+    "KaTeX has the colon and the minus sign of older versions of mathtools": ["\\coloneq"],
+    "KaTeX has one character for the colon and the sign": ["\\coloneqq"],
+})
+NAMES_REFUSED = formulas_of({
+    "KaTeX has no such command": [
+        "\\mathds{R}", "\\mathbbm{R}", "\\mbox{if}", "\\csch x", "\\sech x", "\\ensuremath{x}", "\\strut x"],
+})
 
 
 def as_asked(formula):
@@ -117,7 +102,7 @@ class AsKatexReads(Case):
         pairs = [(case.input.decode(), case.answer) for name in names for case in cases.read(name)]
         theirs = self.structures_of_katex([as_asked(formula) for formula, _ in pairs], display)
         for (formula, contents), its in zip(pairs, theirs):
-            yield formula, structure.structure(cases.math(display, contents).decode()), its
+            yield formula, structure.structure(math(contents, display).decode()), its
 
     def structures_of_katex(self, formulas, display):
         asked = json.dumps([[formula, display == "block"] for formula in formulas]).encode()
@@ -152,7 +137,3 @@ class AsKatexReads(Case):
                     self.assertNotEqual(structure.structure(ours), theirs)
                 else:
                     self.assertEqual(structure.structure(ours), theirs)
-
-
-if __name__ == "__main__":
-    unittest.main()

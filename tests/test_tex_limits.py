@@ -3,13 +3,13 @@
 A run whose answer is not the one that is due does not count: a program that gives up would count as cheap.
 """
 import math
-import unittest
 
 import pytest
 
 from tests import faulty, support
 from tests.instructions import instructions
 from tests.tex_limits import AT_LIMITS, X, definitions
+from tests.texts import math as element
 
 pytestmark = [pytest.mark.long, pytest.mark.timeout(1800)]
 
@@ -24,12 +24,14 @@ MOST_BYTES = 32 << 20
 class Limits(support.Case):
     """Each comes to its answer or its refusal, in few instructions and little memory."""
 
+    @support.requires("cc")
+    @support.each_row(AT_LIMITS)
     def judge(self, formula, contents, reason):
         done, counts = faulty.counts_of([support.tex_program()], stdin=formula.encode())
         if reason:
             self.expect(done, 1, b"", f"tex2mathml: {reason}\n".encode())
         else:
-            self.expect(done, 0, faulty.math(contents) + b"\n")
+            self.expect(done, 0, element(contents) + b"\n")
         self.assertLessEqual(counts["peak"], MOST_BYTES)
 
     @support.requires("valgrind")
@@ -45,7 +47,7 @@ class Definitions(support.Case):
 
     def runs(self, defined, formula):
         """The words and the inputs that read these definitions."""
-        file = self.enterContext(support.scratch()) / "macros.tex"
+        file = self.folder / "macros.tex"
         file.write_text(defined)
         return {"in a file": (["--definitions", file], formula.encode()), "in a formula": ([], (defined + formula).encode())}
 
@@ -55,7 +57,7 @@ class Definitions(support.Case):
             counts.append({})
             for where, (words, given) in self.runs(*texts(count)).items():
                 command = [support.tex_program(), *words]
-                self.expect(support.run(command, stdin=given), stdout=faulty.math(X * 2) + b"\n")
+                self.expect(support.run(command, stdin=given), stdout=element(X * 2) + b"\n")
                 counts[-1][where] = of(command, given)
         few, many = counts
         for where in few:
@@ -87,15 +89,3 @@ class Definitions(support.Case):
             counts.append((many - one) / 1000)
         self.assertLessEqual(counts[1], MOST_TIMES / 4 * counts[0])
 
-
-def add_cases():
-    for name, given in AT_LIMITS.items():
-        def case(self, given=given):
-            self.judge(*given)
-        setattr(Limits, f"test_{name.replace(' ', '_').replace(',', '')}", support.requires("cc")(case))
-
-
-add_cases()
-
-if __name__ == "__main__":
-    unittest.main()

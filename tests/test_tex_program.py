@@ -1,21 +1,16 @@
 """The program `tex2mathml`: its words, its streams, its statuses and its replies to many formulas."""
-import importlib.machinery
-import importlib.util
 import itertools
 import os
 import re
+import runpy
 import threading
-import unittest
 import xml.etree.ElementTree as ElementTree
 
 from tests import cases, faulty
-from tests.support import ROOT, Case, requires, run, scratch, tex_program
+from tests.support import ROOT, Case, each_row, newest_version, requires, run, tex_program
+from tests.texts import UNREAD, X, math
 
-MATH = b'<math xmlns="http://www.w3.org/1998/Math/MathML" display="%s">%s</math>'
-
-
-def math(contents, display=b"inline"):
-    return MATH % (display, contents)
+X_LINE = X + b"\n"
 
 
 def ask(*words, stdin=b"", **more):
@@ -23,37 +18,37 @@ def ask(*words, stdin=b"", **more):
 
 
 class OneFormula(Case):
-    def test_markup(self):
-        self.expect(ask(stdin=b"x_i^2"), stdout=math(b"<msubsup><mi>x</mi><mi>i</mi><mn>2</mn></msubsup>") + b"\n")
+    @each_row({
+        "markup": ("x_i^2", "<msubsup><mi>x</mi><mi>i</mi><mn>2</mn></msubsup>"),
+        "nothing": ("", ""),
+        "lines": ("x\r\n+ y\n", "<mi>x</mi><mo>+</mo><mi>y</mi>"),
+    })
+    def answers(self, given, contents):
+        self.expect(ask(stdin=given.encode()), stdout=math(contents) + b"\n")
+
+    @each_row({
+        "refusal": ("é + \\foo".encode(), "unknown command \\foo at 5"),
+        "what is no text": (b"x\xff", "The input is not UTF-8 text."),
+    })
+    def refuses(self, given, reason):
+        self.expect(ask(stdin=given), 1, b"", f"tex2mathml: {reason}\n".encode())
 
     def test_display(self):
-        for word in (b"inline", b"block"):
-            self.expect(ask("--display", word.decode(), stdin=b"x"), stdout=math(b"<mi>x</mi>", word) + b"\n")
-            self.expect(ask(f"--display={word.decode()}", stdin=b"x"), stdout=math(b"<mi>x</mi>", word) + b"\n")
-
-    def test_nothing(self):
-        self.expect(ask(), stdout=math(b"") + b"\n")
+        for word in ("inline", "block"):
+            self.expect(ask("--display", word, stdin=b"x"), stdout=math("<mi>x</mi>", word) + b"\n")
+            self.expect(ask(f"--display={word}", stdin=b"x"), stdout=math("<mi>x</mi>", word) + b"\n")
 
     def test_each_as_its_first_line_says(self):
         each = ("--display", "each")
-        for first, display in ((b"inline\n", b"inline"), (b"block\n", b"block"), (b"", b"inline")):
+        for first, display in ((b"inline\n", "inline"), (b"block\n", "block"), (b"", "inline")):
             with self.subTest(first):
-                self.expect(ask(*each, stdin=first + b"x"), stdout=math(b"<mi>x</mi>", display) + b"\n")
+                self.expect(ask(*each, stdin=first + b"x"), stdout=math("<mi>x</mi>", display) + b"\n")
         letters = b"".join(b"<mi>%c</mi>" % c for c in b"block")
         for text, contents in ((b"block", letters), (b"\nblock\n", letters), (b"inline\nblock\n", letters), (b"block x\n", letters + b"<mi>x</mi>")):
             with self.subTest(text):
                 self.expect(ask(*each, stdin=text), stdout=math(contents) + b"\n")
         self.expect(ask(*each, stdin=b"block\n\\foo"), 1, stderr=b"tex2mathml: unknown command \\foo at 0\n")
-        self.expect(ask("--display", "block", stdin=b"block\n"), stdout=math(letters, b"block") + b"\n")
-
-    def test_lines(self):
-        self.expect(ask(stdin=b"x\r\n+ y\n"), stdout=math(b"<mi>x</mi><mo>+</mo><mi>y</mi>") + b"\n")
-
-    def test_refusal(self):
-        self.expect(ask(stdin="é + \\foo".encode()), 1, b"", b"tex2mathml: unknown command \\foo at 5\n")
-
-    def test_what_is_no_text(self):
-        self.expect(ask(stdin=b"x\xff"), 1, b"", b"tex2mathml: The input is not UTF-8 text.\n")
+        self.expect(ask("--display", "block", stdin=b"block\n"), stdout=math(letters, "block") + b"\n")
 
     def test_input_that_cannot_be_read(self):
         folder = os.open("/", os.O_RDONLY)
@@ -65,7 +60,7 @@ class OneFormula(Case):
             self.expect(ask(stdin=b"x", stdout=full), 1, None, b"tex2mathml: The output stopped after 0 bytes.\n")
 
     def test_launcher(self):
-        self.expect(run([ROOT / "tex2mathml"], stdin=b"x"), stdout=math(b"<mi>x</mi>") + b"\n")
+        self.expect(run([ROOT / "tex2mathml"], stdin=b"x"), stdout=X_LINE)
 
 
 class ManyFormulas(Case):
@@ -86,14 +81,14 @@ class ManyFormulas(Case):
         self.replies(b"\0\0", [nothing] * 2)
 
     def test_a_refused_one_stops_no_other(self):
-        x = b"mathml\n" + math(b"<mi>x</mi>", b"block")
+        x = b"mathml\n" + math("<mi>x</mi>", "block")
         self.replies(b"x\0x^\0{\0x", [x, b"error\nan argument is missing at 1", b"error\n{ is not closed at 0", x], "--display", "block")
 
     def test_each_as_its_first_line_says(self):
         texts = b"block\nx\0inline\nx\0x\0block\n{\0block\n\0"
-        x, block = (b"mathml\n" + math(b"<mi>x</mi>", display) for display in (b"inline", b"block"))
-        self.replies(texts, [block, x, x, b"error\n{ is not closed at 0", b"mathml\n" + math(b"", b"block")], "--display", "each")
-        self.replies(b"block\nx\0x", [b"mathml\n" + annotated(b"<mi>x</mi>", b"x", b"block"), b"mathml\n" + annotated(b"<mi>x</mi>", b"x")],
+        x, block = (b"mathml\n" + math("<mi>x</mi>", display) for display in ("inline", "block"))
+        self.replies(texts, [block, x, x, b"error\n{ is not closed at 0", b"mathml\n" + math("", "block")], "--display", "each")
+        self.replies(b"block\nx\0x", [b"mathml\n" + annotated(b"<mi>x</mi>", b"x", "block"), b"mathml\n" + annotated(b"<mi>x</mi>", b"x")],
                      "--display", "each", "--annotation")
 
     def test_as_if_each_were_alone(self):
@@ -146,7 +141,6 @@ class Definitions(Case):
     """`--definitions FILE`."""
 
     def setUp(self):
-        self.folder = self.enterContext(scratch())
         self.file = self.folder / "a b.tex"
 
     def ask(self, definitions, formula, *words, **more):
@@ -173,10 +167,10 @@ class Definitions(Case):
         self.file.write_bytes(b"\\def\\a{x}")
         for words in (["--definitions", self.file], [f"--definitions={self.file}"], ["--display", "inline", "--definitions", self.file]):
             with self.subTest(words):
-                self.expect(ask(*words, stdin=b"\\a"), stdout=math(b"<mi>x</mi>") + b"\n")
+                self.expect(ask(*words, stdin=b"\\a"), stdout=X_LINE)
 
     def test_display(self):
-        self.expect(self.ask("\\def\\a{x}", "\\a", "--display", "block"), stdout=math(b"<mi>x</mi>", b"block") + b"\n")
+        self.expect(self.ask("\\def\\a{x}", "\\a", "--display", "block"), stdout=math("<mi>x</mi>", "block") + b"\n")
 
     def test_many_formulas(self):
         """They hold in each formula, and what a formula defines ends with it."""
@@ -213,7 +207,7 @@ class Definitions(Case):
             with self.subTest(text[:end]):
                 done = self.ask(text[:end], "x")
                 if end in between:
-                    self.expect(done, stdout=math(b"<mi>x</mi>") + b"\n")
+                    self.expect(done, stdout=X_LINE)
                     continue
                 self.expect(done, 1, b"", None)
                 line, column = map(int, re.fullmatch(rb"tex2mathml: .*/a b\.tex:(\d+):(\d+): [^:]+\n", done.stderr).groups())
@@ -244,7 +238,7 @@ class Definitions(Case):
         words = [tex_program(), "--definitions", "-"]
         self.expect(run(words, stdin=b"\\a", cwd=self.folder), 1, b"", b"tex2mathml: -: The input could not be read.\n")
         (self.folder / "-").write_bytes(b"\\def\\a{x}")
-        self.expect(run(words, stdin=b"\\a", cwd=self.folder), stdout=math(b"<mi>x</mi>") + b"\n")
+        self.expect(run(words, stdin=b"\\a", cwd=self.folder), stdout=X_LINE)
 
     def test_pipes(self):
         """A pipe with a name, and one of a shell."""
@@ -252,7 +246,7 @@ class Definitions(Case):
         os.mkfifo(pipe)
         writer = threading.Thread(target=pipe.write_bytes, args=[b"\\def\\a{x}"])
         writer.start()
-        self.expect(ask("--definitions", pipe, stdin=b"\\a"), stdout=math(b"<mi>x</mi>") + b"\n")
+        self.expect(ask("--definitions", pipe, stdin=b"\\a"), stdout=X_LINE)
         writer.join()
         reading, writing = os.pipe()
         os.write(writing, b"\\def\\a{y}")
@@ -263,15 +257,10 @@ class Definitions(Case):
     def test_launcher(self):
         self.file.write_bytes(b"\\def\\a{x}")
         done = run([ROOT / "tex2mathml", "--definitions", self.file.name], stdin=b"\\a", cwd=self.folder)
-        self.expect(done, stdout=math(b"<mi>x</mi>") + b"\n")
+        self.expect(done, stdout=X_LINE)
 
 
-# the bytes that the program requests at a time
-ROOM = 4096
-
-
-@requires("cc")
-def annotated(shown, tex, display=b"inline"):
+def annotated(shown, tex, display="inline"):
     annotation = b'<annotation encoding="application/x-tex">%s</annotation>' % tex
     markup = math(b"<semantics>%s%s</semantics>" % (shown, annotation), display)
     return markup.replace(b"><semantics>", b' alttext="%s"><semantics>' % tex.replace(b'"', b"&quot;"), 1)
@@ -280,25 +269,20 @@ def annotated(shown, tex, display=b"inline"):
 class Annotations(Case):
     """`--annotation`."""
 
-    def answers(self, formula, shown, tex, *words, display=b"inline"):
-        self.expect(ask("--annotation", *words, stdin=formula), stdout=annotated(shown, tex, display) + b"\n")
-
-    def test_several_elements(self):
-        self.answers(b"x<y", b"<mrow><mi>x</mi><mo>&lt;</mo><mi>y</mi></mrow>", b"x&lt;y")
-
-    def test_one_element(self):
-        self.answers(b"x", b"<mi>x</mi>", b"x", "--display", "block", display=b"block")
-
-    def test_nothing(self):
-        self.answers(b"", b"<mrow></mrow>", b"")
-
-    def test_as_it_was_given(self):
-        """White space, comments and macros too, but no character that XML forbids."""
-        self.answers(b"\\def\\a{x} \\a % &$\1\n", b"<mi>x</mi>", "\\def\\a{x} \\a % &amp;&#x24;\ufffd\n".encode())
-
-    def test_quotation_marks(self):
-        """They are escaped in the alternative text alone."""
-        self.answers(b"x%\"'", b"<mi>x</mi>", b"x%\"'")
+    @each_row({
+        "several elements": (b"x<y", b"<mrow><mi>x</mi><mo>&lt;</mo><mi>y</mi></mrow>", b"x&lt;y"),
+        "one element": (b"x", b"<mi>x</mi>", b"x", "block"),
+        "nothing": (b"", b"<mrow></mrow>", b""),
+        # white space, comments and macros too, but no character that XML forbids
+        "as it was given": (
+            b"\\def\\a{x} \\a % &$\1\n", b"<mi>x</mi>", "\\def\\a{x} \\a % &amp;&#x24;\ufffd\n".encode()),
+        # they are escaped in the alternative text alone
+        "quotation marks": (b"x%\"'", b"<mi>x</mi>", b"x%\"'"),
+    })
+    def answers(self, formula, shown, tex, display=None):
+        words = ["--display", display] if display else []
+        answer = annotated(shown, tex, display or "inline")
+        self.expect(ask("--annotation", *words, stdin=formula), stdout=answer + b"\n")
 
     def test_many_formulas(self):
         x, y = (b"mathml\n" + annotated(b"<mi>%s</mi>" % it, it) + b"\0" for it in (b"x", b"y"))
@@ -323,11 +307,16 @@ class Annotations(Case):
 
     def one_element(self, contents):
         """The only element of these contents, or an `mrow` of all."""
-        found = ElementTree.fromstring(cases.math("inline", contents))
-        return found[0] if len(found) == 1 else ElementTree.fromstring(cases.math("inline", b"<mrow>%s</mrow>" % contents))[0]
+        found = ElementTree.fromstring(math(contents))
+        return found[0] if len(found) == 1 else ElementTree.fromstring(math(b"<mrow>%s</mrow>" % contents))[0]
 
 
-class Calls(Case):
+# the bytes that the program requests at a time
+ROOM = 4096
+
+
+@requires("cc")
+class Calls(faulty.OneByteAtATime):
     """How often the program reads and writes, and what it does where one of these calls fails."""
 
     INPUTS = [([], b"a<\\frac12"), (["--display", "block"], "é".encode()), (["--null"], b"x\0{\0y")]
@@ -344,70 +333,46 @@ class Calls(Case):
                     self.assertEqual(counts["write"], int(bool(done.stdout)))
 
     def test_each_read_fails(self):
-        for (words, given), error in itertools.product(self.INPUTS, (5, 4)):
-            due = ask(*words, stdin=given)
-            for number in range(1, len(given) + 3):
-                with self.subTest(words=words, error=error, call=number):
-                    done, failed = self.run_with(words, given, faulty.Fault("read", number, number, error))
-                    self.assertEqual(bool(failed), number < len(given) + 2)
-                    if failed:
-                        self.expect(done, 1, b"", b"tex2mathml: The input could not be read.\n")
-                    else:
-                        self.expect(done, stdout=due.stdout)
+        for (words, given), number in itertools.product(self.INPUTS, (5, 4)):
+            due = ask(*words, stdin=given).stdout
+            self.fails_at_each("read", number, len(given) + 1, [tex_program(), *words], given, due,
+                               lambda call: (1, b"", f"tex2mathml: {UNREAD}\n".encode()))
 
     def test_each_write_fails(self):
-        for (words, given), error in itertools.product(self.INPUTS, (28, 4, 0)):
-            due = ask(*words, stdin=given)
-            self.assertGreater(len(due.stdout), 40)
-            for number in range(1, len(due.stdout) + 2):
-                with self.subTest(words=words, error=error, call=number):
-                    done, failed = self.run_with(words, given, faulty.Fault("write", number, number, error))
-                    self.assertEqual(bool(failed), number <= len(due.stdout))
-                    if failed:
-                        told = f"tex2mathml: The output stopped after {number - 1} bytes.\n".encode()
-                        self.expect(done, 1, due.stdout[:number - 1], told)
-                    else:
-                        self.expect(done, stdout=due.stdout)
+        for (words, given), number in itertools.product(self.INPUTS, (28, 4, 0)):
+            due = ask(*words, stdin=given).stdout
+            self.assertGreater(len(due), 40)
+            self.fails_at_each("write", number, len(due), [tex_program(), *words], given, due, lambda call, due=due: (
+                1, due[:call - 1], f"tex2mathml: The output stopped after {call - 1} bytes.\n".encode()))
 
     def test_each_read_of_definitions_fails(self):
         """The file is read to its end before the input is."""
         definitions, given = b"\\def\\a{x}", b"\\a"
-        file = self.enterContext(scratch()) / "a.tex"
+        file = self.folder / "a.tex"
         file.write_bytes(definitions)
-        words = ["--definitions", file]
-        for error in (5, 4):
-            for number in range(1, len(definitions) + len(given) + 4):
-                with self.subTest(error=error, call=number):
-                    done, failed = self.run_with(words, given, faulty.Fault("read", number, number, error))
-                    of_file = number <= len(definitions) + 1
-                    self.assertEqual(bool(failed), number <= len(definitions) + len(given) + 2)
-                    if failed:
-                        named = f"{file}: " * of_file
-                        self.expect(done, 1, b"", f"tex2mathml: {named}The input could not be read.\n".encode())
-                    else:
-                        self.expect(done, stdout=math(b"<mi>x</mi>") + b"\n")
+        words = [tex_program(), "--definitions", file]
+        in_file, in_input = (f"tex2mathml: {named}{UNREAD}\n".encode() for named in (f"{file}: ", ""))
+        for number in (5, 4):
+            self.fails_at_each("read", number, len(definitions) + len(given) + 2, words, given, X_LINE, lambda call: (
+                1, b"", in_file if call <= len(definitions) + 1 else in_input))
 
     def test_definitions_that_cannot_be_opened(self):
-        file = self.enterContext(scratch()) / "a.tex"
+        file = self.folder / "a.tex"
         file.write_bytes(b"")
-        for error in (13, 24):
-            with self.subTest(error):
-                done, failed = faulty.run_with([tex_program(), "--definitions", file], fault=faulty.Fault("open", 1, 1, error))
+        for number in (13, 24):
+            with self.subTest(number):
+                done, failed = faulty.run_with([tex_program(), "--definitions", file], fault=faulty.Fault("open", 1, 1, number))
                 self.assertTrue(failed)
                 self.expect(done, 1, b"", f"tex2mathml: {file}: The input could not be read.\n".encode())
 
     def test_definitions_are_closed(self):
-        file = self.enterContext(scratch()) / "a.tex"
+        file = self.folder / "a.tex"
         for definitions in (b"", b"\\def\\a{x}", b"x", b"\xff"):
             with self.subTest(definitions):
                 file.write_bytes(definitions)
                 done, counts = faulty.counts_of([tex_program(), "--definitions", file], stdin=b"x")
                 self.assertIn(done.returncode, (0, 1))
                 self.assertEqual((counts["open"], counts["held"]), (counts["close"], 0))
-
-    def run_with(self, words, given, fault):
-        """The program with calls that move one byte each, of which one fails."""
-        return faulty.run_with([tex_program(), *words], stdin=given, fault=fault, step=1)
 
 
 class Words(Case):
@@ -418,8 +383,7 @@ class Words(Case):
             self.assertIn(word, done.stdout)
 
     def test_version(self):
-        version = re.search(r"^## (\d+\.\d+\.\d+)$", (ROOT / "CHANGELOG.md").read_text(), re.M)[1]
-        self.expect(ask("--version"), stdout=f"tex2mathml {version}\n".encode())
+        self.expect(ask("--version"), stdout=f"tex2mathml {newest_version()}\n".encode())
 
     def test_wrong_ones(self):
         for words in (["--wrong"], ["--display"], ["--display", "wrong"], ["x"], ["--null", "--null"], ["--annotation", "--annotation"],
@@ -438,12 +402,5 @@ class Words(Case):
 
 class Page(Case):
     def test_the_page_of_formulas_is_of_today(self):
-        loader = importlib.machinery.SourceFileLoader("draw_tex_formulas", str(ROOT / "tools/draw-tex-formulas"))
-        draw = importlib.util.module_from_spec(importlib.util.spec_from_loader(loader.name, loader))
-        loader.exec_module(draw)
-        made = draw.page(tex_program())
+        made = runpy.run_path(ROOT / "tools/draw-tex-formulas")["page"](tex_program())
         self.assertTrue(made == (ROOT / "docs/tex-formulas.html").read_text(), "tools/draw-tex-formulas makes it anew")
-
-
-if __name__ == "__main__":
-    unittest.main()

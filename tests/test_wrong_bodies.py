@@ -73,7 +73,3 @@ class WrongBodies(unittest.TestCase):
         for name, body in laws:
             with self.subTest(law=name):
                 self.assertRegex(body, rf"\A(\s*(let _ = \w+|(\w+::)*({names})\([\w, ]*\));)*\s*\Z")
-
-
-if __name__ == "__main__":
-    unittest.main()

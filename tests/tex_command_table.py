@@ -6,7 +6,7 @@ import re
 from tests.command_table import PAGE
 from tests.support import ROOT
 
-SOURCES = ROOT / "crates/latex2mathml_tex/src"
+SOURCES = ROOT / "crates/latex2mathml_tex_units/src"
 
 # The page
 
@@ -195,7 +195,7 @@ def characters_in_the_code():
 
 def arms(function, file="delimiters.rt"):
     """What a function of this file answers: its patterns, and the character of each."""
-    body = re.search(rf"^(?:pub\(crate\) )?fn {function}\(.*?^}}$", source(file), re.M | re.S)[0]
+    body = re.search(rf"^(?:pub(?:\(crate\))? )?fn {function}\(.*?^}}$", source(file), re.M | re.S)[0]
     answers = {}
     for patterns, answer in re.findall(rf"^        ((?:(?:{TEXT}|{CHARACTER})(?: \| )?)+) => Some\((c|{CHARACTER})\),$", body, re.M):
         for pattern in re.findall(rf"{TEXT}|{CHARACTER}", patterns):

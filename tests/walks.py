@@ -1,19 +1,11 @@
 """A folder of documents, some of which are refused, and the results that a walk may have if memory runs out."""
 import pathlib
 
-X = b'<math xmlns="http://www.w3.org/1998/Math/MathML" display="inline"><mi>x</mi></math>'
-
-UNPAIRED = b"The number of dollar sings found is invalid."
-NO_TEXT = b"The input is not UTF-8 text."
+from tests.support import put
+from tests.texts import BAD_ENTRY, NOT_CREATED, NO_MEMORY, NO_TEXT, UNLISTED, UNPAIRED, UNREAD, X
 
 # the possible faults of a failed allocation during a walk
-WANTING = {
-    b"Memory could not be found.",
-    b"The directory could not be listed.",
-    b"The input could not be read.",
-    b"An entry of the directory could not be read.",
-    b"The file could not be created anew.",
-}
+WANTING = (NO_MEMORY, UNLISTED, UNREAD, BAD_ENTRY, NOT_CREATED)
 
 # each file, its contents, and its contents after a walk with enough memory
 FILES = {
@@ -40,10 +32,7 @@ class Folder:
         self.due = [("b.html", UNPAIRED), ("f.html", NO_TEXT)]
 
     def fill(self):
-        for name, (held, _) in FILES.items():
-            file = self.path / name
-            file.parent.mkdir(parents=True, exist_ok=True)
-            file.write_bytes(held)
+        put(self.path, {name: held for name, (held, _) in FILES.items()})
 
     def stands(self, name):
         """Whether the file has the contents that it has after a walk with enough memory."""
@@ -59,7 +48,7 @@ class Folder:
         for line in lines.splitlines():
             path, _, fault = line.partition(b": ")
             assert path.startswith(prefix), line
-            yield path[len(prefix):].lstrip(b"/").decode(), fault
+            yield path[len(prefix):].lstrip(b"/").decode(), fault.decode()
 
     def judge(self, case, lines, is_refused, is_one, is_wanting):
         """Checks the lines and the files after a walk in which a request was refused, or one and all that follow it.

@@ -4,6 +4,7 @@ A word of a file in `specs/` is worth what it is defined as: other words, also t
 they are defined as. Only what tables are made of is read: numbers, texts, lists, pairs, records, constructors, and words with one
 equation. Anything else is a `WrongForm`, which names the file.
 """
+import contextlib
 import functools
 import re
 from dataclasses import dataclass
@@ -149,18 +150,15 @@ def definition(here, word):
         return parameters.split(), parsed(text)
 
 
-class placed:
+@contextlib.contextmanager
+def placed(here, word):
     """Says in a `WrongForm` which definition is of a wrong form."""
-
-    def __init__(self, here, word):
-        self.place = f"{here.path.name}: {word}: "
-
-    def __enter__(self):
-        return self
-
-    def __exit__(self, kind, wrong, trace):
-        if isinstance(wrong, WrongForm) and ".antt: " not in wrong.args[0]:
-            raise WrongForm(self.place + wrong.args[0]) from None
+    try:
+        yield
+    except WrongForm as wrong:
+        if ".antt: " in wrong.args[0]:
+            raise
+        raise WrongForm(f"{here.path.name}: {word}: {wrong}") from None
 
 
 BUILT_IN = {

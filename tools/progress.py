@@ -1,5 +1,4 @@
 """Progress of long commands: a line that is updated in place on a terminal, and a file with what a command prints."""
-import os
 import pathlib
 import shutil
 import subprocess
@@ -49,11 +48,9 @@ class Screen:
         self.renew("")
 
 
-def follow(words, log, *, on_start=lambda process: None, on_line=lambda line: None, on_second=lambda: None,
-           on_end=lambda spent: None, **how):
+def follow(words, log, *, on_start=lambda process: None, on_line=lambda line: None, on_second=lambda: None, **how):
     """Runs a command to its end and returns its status. All that it prints goes to the file `log`. `on_start` is called with
-    the process, `on_line` with each line that it prints, `on_second` once a second meanwhile, and `on_end` with the processor
-    seconds that it took."""
+    the process, `on_line` with each line that it prints, and `on_second` once a second meanwhile."""
     log = pathlib.Path(log)
     log.parent.mkdir(parents=True, exist_ok=True)
     ended = threading.Event()
@@ -72,16 +69,13 @@ def follow(words, log, *, on_start=lambda process: None, on_line=lambda line: No
                 kept.write(line)
                 kept.flush()
                 on_line(line.rstrip("\n"))
-            _, status, used = os.wait4(running.pid, 0)
-            running.returncode = os.waitstatus_to_exitcode(status)
-            on_end(used.ru_utime + used.ru_stime)
+            return running.wait()
         except BaseException:
             running.terminate()
             raise
         finally:
             ended.set()
             ticking.join()
-    return running.returncode
 
 
 def end_of(log):

@@ -13,12 +13,18 @@ DEFINITION = re.compile(r"\[`(?P<word>[^`]+)`\]\((?P<path>[^)#\s]+\.antt)#L(?P<l
 QUOTE = re.compile(r"<!-- quoted from (?P<path>\S+) -->\n```rust\n(?P<text>.*?)```", re.S)
 
 # the library's crates with public calls
-LIBRARY = ("latex2mathml_tokens", "latex2mathml_trees", "latex2mathml_nodes", "latex2mathml_formulas", "latex2mathml",
-           "latex2mathml_elements", "latex2mathml_tex_grammar", "latex2mathml_tex")
+LIBRARY = ("latex2mathml_tokens", "latex2mathml_trees", "latex2mathml_nodes", "latex2mathml_grammar", "latex2mathml_parser",
+           "latex2mathml", "latex2mathml_elements", "latex2mathml_tex_grammar", "latex2mathml_tex")
+
+# a crate whose public calls are for the library's own crates, but for those of these files
+CALLED_OF = {"latex2mathml_tex_units": ("error.rt", "macros/table.rt", "position.rt")}
+
+# those of their functions that are for the library's own crates too
+OWN_FUNCTIONS = {"of_fault", "out_of_memory"}
 
 # the files whose public calls are for the library's own crates alone
 OWN_CALLS = ("latex2mathml_tokens/lexeme.rt", "latex2mathml_tokens/names.rt", "latex2mathml_trees/append.rt", "latex2mathml_trees/text.rt",
-             "latex2mathml_trees/width.rt", "latex2mathml_formulas/formula.rt")
+             "latex2mathml_trees/width.rt", "latex2mathml_parser/formula.rt")
 
 
 @dataclass(frozen=True)
@@ -77,7 +83,7 @@ def public_calls():
     names = set()
     for source in sources():
         names.update(re.findall(r"^ *pub (?:const )?fn (\w+)", source.read_text(), re.M))
-    return sorted(names)
+    return sorted(names - OWN_FUNCTIONS)
 
 
 def sources():
@@ -85,6 +91,8 @@ def sources():
         for source in sorted((ROOT / "crates" / crate / "src").rglob("*.rt")):
             if f"{crate}/{source.name}" not in OWN_CALLS:
                 yield source
+    for crate, files in CALLED_OF.items():
+        yield from (ROOT / "crates" / crate / "src" / file for file in files)
 
 
 def public_sources():

@@ -8,9 +8,9 @@ ROOT = pathlib.Path(__file__).resolve().parent.parent
 CRATES = ROOT / "crates"
 
 # each after those that it depends on
-CRATES_IN_ORDER = ("latex2mathml_tokens", "latex2mathml_trees", "latex2mathml_nodes", "latex2mathml_formulas", "latex2mathml",
-                   "latex2mathml_program", "latex2mathml_elements", "latex2mathml_tex_grammar", "latex2mathml_tex",
-                   "latex2mathml_tex_program", "latex2mathml_c")
+CRATES_IN_ORDER = ("latex2mathml_tokens", "latex2mathml_trees", "latex2mathml_nodes", "latex2mathml_grammar", "latex2mathml",
+                   "latex2mathml_program", "latex2mathml_elements", "latex2mathml_tex_grammar", "latex2mathml_tex_units",
+                   "latex2mathml_tex", "latex2mathml_tex_program", "latex2mathml_c")
 
 # an import, of a module or of names in it
 USE = re.compile(r"^(?:unfoldable )?(?P<public>pub )?use (?P<path>[^\s{}]+?)(?:\.\{(?P<names>[^}]*)\})?"

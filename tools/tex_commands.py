@@ -217,14 +217,6 @@ def characters():
     return [(chr(c), symbol) for c, symbol in value(GRAMMAR, "Signs", "sign_entries")]
 
 
-def characters_by_name(file, word):
-    return {text_of(name): chr(c) for name, c in value(GRAMMAR, file, word)}
-
-
-def delimiters_of(word):
-    return characters_by_name("Delimiters", word)
-
-
 def delimiters_by_character(word):
     return {chr(c): chr(other) for c, other in value(GRAMMAR, "Delimiters", word)}
 
@@ -313,36 +305,32 @@ def cells(place, commands_there):
 
 
 def word_lines():
-    yield ""
-    yield "In words, these are one character:"
-    yield ""
-    texts = characters_by_name("TextCommands", "text_commands")
-    yield from item("Commands", [f"{command(name)} {drawn(texts[name])}" for name in by_name(texts)])
+    yield from ("", "In words, these are one character:", "")
+    yield from commands_drawn("TextCommands", "text_commands")
 
 
 def stroke_lines():
-    yield ""
-    yield "Behind `\\not`, these are one sign with a stroke:"
-    yield ""
-    stroked = delimiters_of("negated_commands")
-    yield from item("Commands", [f"{command(name)} {drawn(stroked[name])}" for name in by_name(stroked)])
+    yield from ("", "Behind `\\not`, these are one sign with a stroke:", "")
+    yield from commands_drawn("Delimiters", "negated_commands")
     stroked = delimiters_by_character("negated_characters")
     yield from item("Characters", [f"{code(c)} {drawn(other)}" for c, other in sorted(stroked.items())])
 
 
+def commands_drawn(file, word):
+    """An item of the commands of a table, with the character that each draws."""
+    characters = {text_of(name): chr(c) for name, c in value(GRAMMAR, file, word)}
+    return item("Commands", [f"{command(name)} {drawn(characters[name])}" for name in by_name(characters)])
+
+
 def delimiter_lines():
-    yield ""
-    yield "These are delimiters:"
-    yield ""
-    delimiters = delimiters_of("delimiter_commands")
-    yield from item("Commands", [f"{command(name)} {drawn(delimiters[name])}" for name in by_name(delimiters)])
+    yield from ("", "These are delimiters:", "")
+    yield from commands_drawn("Delimiters", "delimiter_commands")
     yield from characters_drawn({"Characters that draw themselves": delimiters_by_character("delimiter_characters")})
 
 
 def character_lines():
     yield from ("", "### Characters", "")
-    yield "ASCII letters and digits stand as they are, and so do characters that are not listed here."
-    yield ""
+    yield from ("ASCII letters and digits stand as they are, and so do characters that are not listed here.", "")
     found = placed(characters(), place_of_symbol)
     by_place = sorted(found.items(), key=lambda entry: (entry[0].section != "Letters", rank(entry[0])))
     yield from characters_drawn({f"{place.section}, {place.what[0].lower()}{place.what[1:]}": drawings for place, drawings in by_place})

@@ -5,7 +5,7 @@ use Rattle.std.specs.List.{prefix_len, suffix_len}
 use Rattle.std.proofs.{lemmas.Bool.eq-eqb, lemmas.Bool.Decides.eqb_tells, lemmas.List.reverse-append}
 use Rattle.latex2mathml.specs.DocumentLaws.{EndsInOddBackslashes, JoinsAnswers}
 use Rattle.latex2mathml.specs.Documents.{Piece, prose, inline, display, piece_text, spelling, IsWhole, nothing, single, pair, IsPlain, whole, lone, IsPiece, MayFollow, ArePieces, IsCut, PieceAnswer, PiecesAnswer, IsAnswer}
-use Rattle.latex2mathml_formulas.specs.Dollars.{dollar, backslash}
+use Rattle.latex2mathml_grammar.specs.Dollars.{dollar, backslash}
 use Rattle.latex2mathml.proofs.{PlainTexts.plain_append, PlainTexts.whole_append, ProseTexts.prose_append}
 
 -- how many backslashes end the text

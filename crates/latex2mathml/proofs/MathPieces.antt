@@ -2,7 +2,7 @@
 use Rattle.std.proofs.Common.{ℕ, List, [], ◌∷◌}
 use Rattle.latex2mathml.specs.DocumentLaws.{ArePiecesMarkup, HasElements}
 use Rattle.latex2mathml.specs.Documents.{Piece, prose, inline, display, IsAnswer, PiecesAnswer}
-use Rattle.latex2mathml_formulas.specs.RenderingLaws.{RenderingsHold}
+use Rattle.latex2mathml_grammar.specs.RenderingLaws.{RenderingsHold}
 use Rattle.latex2mathml_tokens.specs.declared.DisplayStyle.TheVariants.{Block, Inline}
 
 module _ (hold : RenderingsHold) where

@@ -2,7 +2,7 @@
 use Rattle.std.proofs.Common.{◌≡◌, ◌≢◌, ◌⊎◌, ◌↔◌, ℕ, zero, suc, ◌<◌, ◌≤◌, List, [], ◌∷◌, ◌++◌, length, length-append, ⊎_elim, inl, inr, refl, sym, ap, ◌∙◌, append_assoc, arith, subst}
 use Rattle.latex2mathml.specs.{DocumentLaws.HasOneOutcome, DocumentLaws.IsForDollars, Pieces.BeginsWithPiece, Pieces.EndsBefore}
 use Rattle.latex2mathml.specs.Documents.{Piece, prose, inline, display, piece_text, IsPlain, IsPiece, HasCut, HasNoCut, PieceAnswer, PiecesAnswer, IsAnswer, PieceRefuses, FirstRefused, IsRefusal, prose_answer}
-use Rattle.latex2mathml_formulas.specs.{Dollars.dollar, RenderingLaws.RenderingsHold}
+use Rattle.latex2mathml_grammar.specs.{Dollars.dollar, RenderingLaws.RenderingsHold}
 use Rattle.latex2mathml_tokens.specs.Refusal.{Refusal, InvalidNumberOfDollarSigns}
 use Rattle.latex2mathml_tokens.specs.declared.DisplayStyle.TheVariants.{Block, Inline}
 use Rattle.latex2mathml.proofs.Cuts.{begins_with_prose, first_forced, more_cut, no_display, no_inline, one_cut_lem}

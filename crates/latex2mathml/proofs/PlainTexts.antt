@@ -5,7 +5,7 @@ use Rattle.std.proofs.lemmas.Bool.Decides.{eqb_tells, nat_tests}
 use Rattle.std.proofs.{lemmas.List.take_more}
 use Rattle.latex2mathml.specs.Pieces.{EndsAt, EndsBefore}
 use Rattle.latex2mathml.specs.Documents.{IsWhole, nothing, single, pair, IsPlain, whole, lone, IsBody}
-use Rattle.latex2mathml_formulas.specs.Dollars.{dollar, backslash, is_other, IsDollarFree, free_first, free_more, free_rest, other}
+use Rattle.latex2mathml_grammar.specs.Dollars.{dollar, backslash, is_other, IsDollarFree, free_first, free_more, free_rest, other}
 
 -- plain text begins with no dollar sign
 whole_begins : (b : ℕ) (text : List ℕ) → IsWhole (b ∷ text) → b ≢ dollar

@@ -3,7 +3,7 @@ use Rattle.std.proofs.Common.{◌≡◌, ◌≢◌, ℕ, suc, ◌<◌, List, [],
 use Rattle.std.specs.Prelude.{OnOk}
 use Rattle.std.proofs.lemmas.Bool.Decides.{eqb_tells}
 use Rattle.latex2mathml.specs.Documents.{IsWhole, nothing, single, pair, IsPlain, whole, lone, pair_answer, prose_answer}
-use Rattle.latex2mathml_formulas.specs.Dollars.{dollar, backslash, IsDollarFree, free_both, free_first, free_more, free_one, free_rest, other}
+use Rattle.latex2mathml_grammar.specs.Dollars.{dollar, backslash, IsDollarFree, free_both, free_first, free_more, free_one, free_rest, other}
 use Rattle.latex2mathml.proofs.PlainTexts.{backslash_or_other, behind_pair, behind_single, more_pair, more_single, no_dollar, plain_begins}
 
 -- the answer of text with a unit in front

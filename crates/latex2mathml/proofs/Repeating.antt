@@ -3,7 +3,7 @@ use Rattle.std.proofs.Common.{◌≡◌, ◌≢◌, ℕ, List, [], ◌∷◌, �
 use Rattle.std.specs.Prelude.{IfOk, IfSome, MatchResult, String}
 use Rattle.latex2mathml.specs.DocumentLaws.{RepeatsAnswers}
 use Rattle.latex2mathml.specs.Documents.{Piece, prose, inline, display, IsPiece, ArePieces, IsCut, PieceAnswer, PiecesAnswer, IsAnswer, FirstRefused, IsRefusal}
-use Rattle.latex2mathml_formulas.specs.{Dollars.IsDollarFree, Dollars.free_both, RenderingLaws.RenderingsHold}
+use Rattle.latex2mathml_grammar.specs.{Dollars.IsDollarFree, Dollars.free_both, RenderingLaws.RenderingsHold}
 use Rattle.latex2mathml_tokens.specs.Refusal.{Refusal, IfRefused, refusal_of}
 use Rattle.latex2mathml_tokens.specs.declared.DisplayStyle.TheVariants.{Block, Inline}
 use Rattle.latex2mathml_tokens.specs.declared.error.LatexError.{LatexError}

@@ -2,7 +2,7 @@
 use Rattle.std.proofs.Common.{◌≡◌, ℕ, Bool, true, false, ◌&&◌, cond, List, [], ◌∷◌, Some, None, refl, sym, subst, codes}
 use Rattle.latex2mathml.specs.Documents.{Piece, prose, inline, display, PiecesAnswer, IsAnswer}
 use Rattle.latex2mathml.specs.Surroundings.{HasBalancedProse, HasClosedProse, HasPageProse, ProseRuns, TakesFormula}
-use Rattle.latex2mathml_formulas.specs.RenderingLaws.{RenderingsHold}
+use Rattle.latex2mathml_grammar.specs.RenderingLaws.{RenderingsHold}
 use Rattle.latex2mathml_trees.specs.Markup.{Name, OpenElements, Schema, Runs, IsBalanced, add, any_element, at_start, lowest, name_of}
 use Rattle.latex2mathml_trees.specs.MathSchema.{IsMathElement}
 use Rattle.latex2mathml_trees.specs.Pages.{IsPage, JoinsBalanced, JoinsMarkup, JoinsPages, page_schema, takes_math}

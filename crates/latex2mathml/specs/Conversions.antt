@@ -1,7 +1,7 @@
 -- What a text is converted as, what becomes of it, and how it is refused.
 use Rattle.std.specs.Prelude.{ℕ, List}
 use Rattle.latex2mathml.specs.Documents.{IsAnswer, IsRefusal}
-use Rattle.latex2mathml_formulas.specs.{Dollars.IsDollarFree, Rendering.IsFormulaRefusal, Rendering.IsRendering}
+use Rattle.latex2mathml_grammar.specs.{Dollars.IsDollarFree, Rendering.IsFormulaRefusal, Rendering.IsRendering}
 use Rattle.latex2mathml_trees.specs.MathSchema.{IsMathElement}
 use Rattle.latex2mathml_tokens.specs.{Refusal.Refusal, declared.DisplayStyle.DisplayStyle}
 

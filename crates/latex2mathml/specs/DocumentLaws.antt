@@ -3,7 +3,7 @@ use Rattle.std.specs.Prelude.{◌≡◌, ◌⊎◌, ◌↔◌, ◌==◌, ◌%◌
 use Rattle.std.specs.List.{suffix_len}
 use Rattle.latex2mathml.specs.Documents.{Piece, prose, inline, display, HasCut, HasNoCut, IsCut, ProseAnswer, IsAnswer, IsRefusal}
 use Rattle.latex2mathml.specs.Surroundings.{HasBalancedProse, HasPageProse}
-use Rattle.latex2mathml_formulas.specs.{Dollars.backslash, Dollars.IsDollarFree, Rendering.IsRendering}
+use Rattle.latex2mathml_grammar.specs.{Dollars.backslash, Dollars.IsDollarFree, Rendering.IsRendering}
 use Rattle.latex2mathml_trees.specs.{Markup.IsBalanced, MathSchema.IsMathElement, Pages.IsPage}
 use Rattle.latex2mathml_tokens.specs.Refusal.{Refusal, InvalidNumberOfDollarSigns}
 use Rattle.latex2mathml_tokens.specs.declared.DisplayStyle.TheVariants.{Block, Inline}

@@ -6,7 +6,7 @@
 --
 -- A text is its bytes here.
 use Rattle.std.specs.Prelude.{◌≡◌, ◌≢◌, ◌⊎◌, ◌==◌, ℕ, List, [], ◌∷◌, ◌++◌, codes, if◌then◌else◌}
-use Rattle.latex2mathml_formulas.specs.{Dollars.dollar, Dollars.backslash, Rendering.IsFormulaRefusal, Rendering.IsRendering}
+use Rattle.latex2mathml_grammar.specs.{Dollars.dollar, Dollars.backslash, Rendering.IsFormulaRefusal, Rendering.IsRendering}
 use Rattle.latex2mathml_tokens.specs.Refusal.{Refusal, InvalidNumberOfDollarSigns}
 use Rattle.latex2mathml_tokens.specs.declared.DisplayStyle.TheVariants.{Block, Inline}
 

@@ -1,10 +1,10 @@
 -- The words of a formula's promise: its rendering, its refusal, and the laws of both.
-unfoldable pub use Rattle.latex2mathml_formulas.specs.Rendering.{IsRendering, IsFormulaRefusal}
-pub use Rattle.latex2mathml_formulas.specs.RenderingLaws.{RendersElements, RendersDollarFree, IsNeverForDollars, HasOneRendering, ReadsNoArgument, RenderingsHold}
-pub use Rattle.latex2mathml_formulas.specs.TokenLists.{HasOneTokenList, TextHasOneReading}
-pub use Rattle.latex2mathml_formulas.specs.Laws.{HasOneReading, IsSliced, IsReadBySlices, IsRefusedBySlices}
-pub use Rattle.latex2mathml_formulas.specs.Places.{HasPlaces, SpaceChangesNothing}
-pub use Rattle.latex2mathml_formulas.specs.TextLaws.{TextsHold}
+unfoldable pub use Rattle.latex2mathml_grammar.specs.Rendering.{IsRendering, IsFormulaRefusal}
+pub use Rattle.latex2mathml_grammar.specs.RenderingLaws.{RendersElements, RendersDollarFree, IsNeverForDollars, HasOneRendering, ReadsNoArgument, RenderingsHold}
+pub use Rattle.latex2mathml_grammar.specs.TokenLists.{HasOneTokenList, TextHasOneReading}
+pub use Rattle.latex2mathml_grammar.specs.Laws.{HasOneReading, IsSliced, IsReadBySlices, IsRefusedBySlices}
+pub use Rattle.latex2mathml_grammar.specs.Places.{HasPlaces, SpaceChangesNothing}
+pub use Rattle.latex2mathml_grammar.specs.TextLaws.{TextsHold}
 pub use Rattle.latex2mathml_tokens.specs.Refusal.{Refusal, UnexpectedToken, MissingParensethis, UnknownEnvironment, InvalidNumberOfDollarSigns, IfRefused, refusal_of, refusal_text, error_text}
 pub use Rattle.latex2mathml_tokens.specs.declared.DisplayStyle.{DisplayStyle}
 pub use Rattle.latex2mathml_tokens.specs.declared.DisplayStyle.TheVariants.{Block, Inline}

@@ -2,7 +2,7 @@
 use Rattle.std.specs.Prelude.{◌≡◌, ◌≢◌, ℕ, List, None, Result, Ok, Err, IfSome, IsFalse, IsTrue, IsUtf8, string_bytes, ⊤}
 use Rattle.latex2mathml.specs.Conversions.{Conversion, document, IsConverted, IsRefusedAs}
 use Rattle.latex2mathml.specs.{Documents.IsAnswer, Streams.StreamState, Streams.HasEnded, declared.error.FileFault.FileFault}
-use Rattle.latex2mathml_formulas.specs.Dollars.{IsDollarFree}
+use Rattle.latex2mathml_grammar.specs.Dollars.{IsDollarFree}
 use Rattle.latex2mathml_tokens.specs.Refusal.{refusal_of}
 use Rattle.latex2mathml.specs.declared.error.FileFault.TheVariants.{Read, NotText, Refused}
 use Rattle.latex2mathml.specs.declared.input.Reading.{Reading}

@@ -13,15 +13,15 @@ pub mod Streams
 pub mod Surroundings
 pub mod Tree
 -- texts without a dollar sign
-pub use Rattle.latex2mathml_formulas.specs.Dollars
+pub use Rattle.latex2mathml_grammar.specs.Dollars
 -- the words that the laws of formulas speak of: the spelling, the grammar, the slices that it reads, and the places between
 -- tokens
-pub use Rattle.latex2mathml_formulas.specs.Characters
-pub use Rattle.latex2mathml_formulas.specs.Grammar
-pub use Rattle.latex2mathml_formulas.specs.Places
-pub use Rattle.latex2mathml_formulas.specs.SliceRefusals
-pub use Rattle.latex2mathml_formulas.specs.Slices
-pub use Rattle.latex2mathml_formulas.specs.Spelling
+pub use Rattle.latex2mathml_grammar.specs.Characters
+pub use Rattle.latex2mathml_grammar.specs.Grammar
+pub use Rattle.latex2mathml_grammar.specs.Places
+pub use Rattle.latex2mathml_grammar.specs.SliceRefusals
+pub use Rattle.latex2mathml_grammar.specs.Slices
+pub use Rattle.latex2mathml_grammar.specs.Spelling
 -- tokens, the command table, nodes, and their texts
 pub use Rattle.latex2mathml_tokens.specs.Attributes
 pub use Rattle.latex2mathml_tokens.specs.Commands

@@ -1,7 +1,7 @@
 -- What the cutter's functions answer, in the words of documents: the pieces, one at a time.
 use Rattle.std.specs.Prelude.{◌≡◌, ℕ, List, [], ◌∷◌, ◌++◌, Option, Some, None, Result, Ok, Err}
 use Rattle.latex2mathml.specs.Documents.{Piece, prose, inline, display, piece_text, spelling, IsWhole, IsPiece, IsCut, HasNoCut}
-use Rattle.latex2mathml_formulas.specs.Dollars.{dollar}
+use Rattle.latex2mathml_grammar.specs.Dollars.{dollar}
 use Rattle.latex2mathml.specs.declared.document.NoCut.{NoCut}
 use Rattle.latex2mathml.specs.declared.document.Piece as code
 use Rattle.latex2mathml.specs.declared.document.Piece.TheVariants.{Prose, Inline, Display}

@@ -1,7 +1,7 @@
 //! The pieces of a document: prose, and formulas between dollar signs.
 ghost use Rattle.std.specs.Prelude.{◌≡◌, ◌≢◌, ◌++◌, [], IfNone, IfSome, OnErr, OnOk};
 ghost use Rattle.latex2mathml.specs.Pieces.{BeginsWithPiece, EndsAt, EndsBefore, piece_of};
-ghost use Rattle.latex2mathml_formulas.specs.Dollars.{IsDollarFree, dollar};
+ghost use Rattle.latex2mathml_grammar.specs.Dollars.{IsDollarFree, dollar};
 ghost use Rattle.latex2mathml.specs.Documents.{HasCut, HasNoCut, IsPlain};
 
 pub(crate) mod convert;

@@ -2,7 +2,7 @@
 ghost use Rattle.std.specs.Prelude.{ℕ, List, IfErr, IfOk, IsTrue, MatchBool, string_bytes};
 ghost use Rattle.std.specs.Io.KnownBytes.{IsAtEnd};
 ghost use Rattle.latex2mathml.specs.{Inputs.IsReadFault, Inputs.IsReadingOf, Streams.CanGoOn, Streams.Gives, Streams.HasEnded};
-ghost use Rattle.latex2mathml_formulas.specs.Dollars.{IsDollarFree};
+ghost use Rattle.latex2mathml_grammar.specs.Dollars.{IsDollarFree};
 
 use crate::error::FileFault;
 use crate::replace;

@@ -2,7 +2,7 @@
 //! contract states a fact, and a proof calls the function to use the fact.
 ghost use Rattle.latex2mathml.specs.DocumentLaws.{AnswersHold, HasOneCut, HasOneOutcome, JoinsAnswers, RepeatsAnswers};
 
-pub use latex2mathml_formulas::laws::{
+pub use latex2mathml_grammar::laws::{
     dollar_free, one_reading, one_reading_of, one_rendering, one_token_list, places,
     read_by_slices, refused_by_slices, rendering, renderings, sliced, texts, white_space,
 };

@@ -10,7 +10,7 @@
 
 ghost use Rattle.std.specs.Prelude.{◌≡◌, None, IfOk, MatchResult, string_bytes};
 ghost use Rattle.latex2mathml.specs.Documents.{IsAnswer, IsRefusal};
-ghost use Rattle.latex2mathml_formulas.specs.Dollars.{IsDollarFree};
+ghost use Rattle.latex2mathml_grammar.specs.Dollars.{IsDollarFree};
 ghost use Rattle.latex2mathml_tokens.specs.Refusal.{IfRefused, refusal_of};
 
 pub mod ast;
@@ -25,7 +25,7 @@ pub mod token;
 pub use error::{FileFault, WriteCause};
 pub use files::{Disk, Listing, PathKind, Site, Unconverted, convert_html, convert_site};
 pub use input::{Reading, read_document, read_text};
-pub use latex2mathml_formulas::{Steps, latex_to_mathml, latex_to_mathml_counted};
+pub use latex2mathml_parser::{Steps, latex_to_mathml, latex_to_mathml_counted};
 pub use latex2mathml_tokens::{DisplayStyle, LatexError, attribute};
 use std::alloc::Global;
 pub use stream::{Sink, Source, Stream, write_document, write_text};

@@ -2,7 +2,8 @@
 use Rattle.std.proofs.Common.{◌≡◌, ◌==◌, ◌<◌, ◌≤◌, inl, inr, ℕ, Bool, true, false, List, arith, codes, sym, ap, ◌∙◌, subst}
 use Rattle.std.specs.Str.{chars}
 use Rattle.latex2mathml.specs.Formulas.{DisplayStyle}
-use Rattle.latex2mathml_tex.specs.{Answers.style_in, ErrorTexts.refusal_text}
+use Rattle.latex2mathml_tex_units.specs.ErrorTexts.{refusal_text}
+use Rattle.latex2mathml_tex.specs.Answers.{style_in}
 use Rattle.latex2mathml_tex_grammar.specs.{DefinitionLaws.HaveOneTableOrRefusal, DefinitionTexts.Defines, Formulas.IsReading, Formulas.IsRefusal, Formulas.row_print, Formulas.row_print_with_source}
 use Rattle.latex2mathml_tex_grammar.specs.{Laws.HaveOneReading, Macros.Table, Rows.Row, Symbols.Style}
 use Rattle.latex2mathml_c.specs.TexTexts.{Given, HasTexText, IsMarkup, IsNoText, IsRead, IsReadable, IsTexText, annotation}

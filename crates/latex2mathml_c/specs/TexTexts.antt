@@ -3,7 +3,8 @@ use Rattle.std.specs.Prelude.{◌≡◌, ◌==◌, ◌<◌, ◌≤◌, ◌⊎◌
 use Rattle.std.specs.Str.{chars}
 use Rattle.latex2mathml.specs.{Elements.IsMathElement, Formulas.DisplayStyle}
 use Rattle.latex2mathml_elements.specs.{Annotated.IsAnnotatedMathElement, Characters.IsAllowed, Dollars.IsDollarFree}
-use Rattle.latex2mathml_tex.specs.{Answers.IsAnswer, Answers.IsAnswerWithSource, Answers.IsRefusal, Answers.style_in, ErrorTexts.refusal_text}
+use Rattle.latex2mathml_tex_units.specs.ErrorTexts.{refusal_text}
+use Rattle.latex2mathml_tex.specs.Answers.{IsAnswer, IsAnswerWithSource, IsRefusal, style_in}
 use Rattle.latex2mathml_tex_grammar.specs.{DefinitionTexts.AreRefused, DefinitionTexts.Defines, Macros.Table, Refusal.Refusal}
 use Rattle.latex2mathml_c.specs.declared.{Request.Request, Status.Status}
 use Rattle.latex2mathml_c.specs.declared.Status.TheVariants.{Done, Refused, NotUtf8, DefinitionRefused, UnknownFlags}

@@ -1,7 +1,8 @@
 //! What a formula in LaTeX as authors write it comes to.
 ghost use Rattle.std.specs.Prelude.{◌≡◌, IfOk, Some, string_bytes};
 ghost use Rattle.latex2mathml_c.specs.TexTexts.{IsMarkup, IsRead, IsTold};
-ghost use Rattle.latex2mathml_tex.specs.{Answers.IsRefusal, Answers.style_in, Errors.IfRefused, Errors.refusal_of, MacroTables.AreDefined, MacroTables.Holding};
+ghost use Rattle.latex2mathml_tex_units.specs.{Errors.IfRefused, Errors.refusal_of, MacroTables.AreDefined, MacroTables.Holding};
+ghost use Rattle.latex2mathml_tex.specs.Answers.{IsRefusal, style_in};
 ghost use Rattle.latex2mathml_tex_grammar.specs.Refusal.{Refusal};
 
 use crate::Status;

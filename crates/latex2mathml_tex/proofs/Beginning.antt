@@ -16,22 +16,26 @@ use Rattle.latex2mathml_tex_grammar.specs.Units as grammar
 use Rattle.latex2mathml_tex_grammar.specs.Units.{Units, Next, End, Stop}
 use Rattle.latex2mathml_tex.specs.Frames.{Start, context_at, element_count, enter}
 use Rattle.latex2mathml_tex.specs.Innermost as code
-use Rattle.latex2mathml_tex.specs.{Innermost.frame_context, Left.put_back, Left.unit_count, Left.units_at, Left.units_behind}
+use Rattle.latex2mathml_tex_units.specs.Left.{put_back, unit_count, units_at, units_behind}
+use Rattle.latex2mathml_tex.specs.Innermost.{frame_context}
 use Rattle.latex2mathml_tex.specs.Levels.{CoreMade, Leads, Level, OperandMade, Refuses, RuleLeads, as_operand}
 use Rattle.latex2mathml_tex.specs.Levels as levels
-use Rattle.latex2mathml_tex.specs.{Meanings.alphabet_of, Meanings.style_of, Models.context_of, Models.core_with}
+use Rattle.latex2mathml_tex_units.specs.Meanings.{alphabet_of, style_of}
+use Rattle.latex2mathml_tex.specs.Models.{context_of, core_with}
 use Rattle.latex2mathml_tex.specs.Steps.{AwaitsCore, AwaitsOperand, Begins, BeginsIn, BeginsUnit, CanBegin, Follows, HasElements, Holds, InnermostIs, Took, elements_of, frame_weight, left_of, level, level_within, operand_place, to_do}
-use Rattle.latex2mathml_tex.specs.Taking.{kind_of, piece_of, unit_of}
-use Rattle.latex2mathml_tex.specs.declared.{atoms.Context.Context, atoms.Core.Core as CodeCore, atoms.Row.Row as CodeRow, error.TexError.TexError, input.Input.Input, meaning.Alphabet.Alphabet as CodeAlphabet, parse.Parser.Parser, parse.State.State, parse.frames.Frames.Frames, unit.Fault.Fault, unit.Piece.Piece, unit.Unit.Unit}
+use Rattle.latex2mathml_tex_units.specs.Taking.{kind_of, piece_of, unit_of}
+use Rattle.latex2mathml_tex_units.specs.declared.{error.TexError.TexError, input.Input.Input, meaning.Alphabet.Alphabet as CodeAlphabet, unit.Fault.Fault, unit.Piece.Piece, unit.Unit.Unit}
+use Rattle.latex2mathml_tex.specs.declared.{atoms.Context.Context, atoms.Core.Core as CodeCore, atoms.Row.Row as CodeRow, parse.Parser.Parser, parse.State.State, parse.frames.Frames.Frames}
 use Rattle.latex2mathml_tex.specs.declared.parse.State.TheVariants as state
 use Rattle.latex2mathml_tex.specs.declared.parse.frames.Frame.{Frame}
 use Rattle.latex2mathml_tex.specs.declared.parse.frames.Ending.TheVariants as ending
 use Rattle.latex2mathml_tex.specs.declared.parse.frames.Frame.TheVariants as frame
-use Rattle.latex2mathml_tex.specs.declared.unit.Next.TheVariants as next
-use Rattle.latex2mathml_tex.specs.declared.unit.Piece.TheVariants as piece
+use Rattle.latex2mathml_tex_units.specs.declared.unit.Next.TheVariants as next
+use Rattle.latex2mathml_tex_units.specs.declared.unit.Piece.TheVariants as piece
 use Rattle.latex2mathml_tex.proofs.Leading.{core_ended, core_halted, digit_due, group_due, negated_due, none_due, operand_ended, operand_halted, other_due, refused, row_due, words_due}
 use Rattle.latex2mathml_tex.proofs.Marks.{core_refuses}
-use Rattle.latex2mathml_tex.proofs.{Nexts.no_more_past_space, Opening.begins_in, Opening.context_is, Opening.out_of_frame, Opening.pushed}
+use Rattle.latex2mathml_tex_units.proofs.Nexts.{no_more_past_space}
+use Rattle.latex2mathml_tex.proofs.Opening.{begins_in, context_is, out_of_frame, pushed}
 
 -- What stands next behind white space
 

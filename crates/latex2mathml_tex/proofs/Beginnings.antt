@@ -9,11 +9,13 @@ use Rattle.latex2mathml_tex_grammar.specs.Makes.{Core}
 use Rattle.latex2mathml_tex_grammar.specs.Starts.{DividerStart, RuleStart, ScriptStart, atom_start, change_by, empty_base, ends, mark_of, start_of_change, start_of_mark}
 use Rattle.latex2mathml_tex_grammar.specs.Meaning.{Change}
 use Rattle.latex2mathml_tex_grammar.specs.Units.{Unit, Units, Next}
-use Rattle.latex2mathml_tex.specs.{Frames.Start, Frames.context_at, Frames.ending_of, Models.context_of, Taking.piece_of, Taking.unit_of}
+use Rattle.latex2mathml_tex_units.specs.Taking.{piece_of, unit_of}
+use Rattle.latex2mathml_tex.specs.{Frames.Start, Frames.context_at, Frames.ending_of, Models.context_of}
 use Rattle.latex2mathml_tex.specs.Levels.{AtomMade, CoreMade, Leads, Level, RestLeads, RuleLeads, ScriptsLead, as_atom}
 use Rattle.latex2mathml_tex.specs.Levels as levels
 use Rattle.latex2mathml_tex.specs.Steps.{AwaitsAtom, BeginsDivider, BeginsUnit, Took, TookMark, TookUnmarked, elements_of, left_of, level, mark_model}
-use Rattle.latex2mathml_tex.specs.declared.{atoms.Row.Row as CodeRow, parse.Parser.Parser, parse.scripts.Mark.Mark, unit.Unit.Unit as CodeUnit}
+use Rattle.latex2mathml_tex_units.specs.declared.unit.Unit.{Unit as CodeUnit}
+use Rattle.latex2mathml_tex.specs.declared.{atoms.Row.Row as CodeRow, parse.Parser.Parser, parse.scripts.Mark.Mark}
 use Rattle.latex2mathml_tex.specs.declared.parse.frames.Ending.{Ending}
 use Rattle.latex2mathml_tex.specs.declared.parse.frames.Frame.TheVariants as frame
 use Rattle.latex2mathml_tex.specs.declared.parse.scripts.Mark.TheVariants as mark

@@ -7,7 +7,7 @@ use Rattle.latex2mathml_tex_grammar.specs.Makes.{digits_in, number}
 use Rattle.latex2mathml_tex_grammar.specs.Next.{digits_here, digits_next, first_is, first_passes, is_space_piece, next_are, past_space}
 use Rattle.latex2mathml_tex_grammar.specs.{Rules.a_digit, Symbols.Alphabet}
 use Rattle.latex2mathml_tex_grammar.specs.Units.{Units, Next, End, Stop}
-use Rattle.latex2mathml_tex.specs.Left.{unit_count}
+use Rattle.latex2mathml_tex_units.specs.Left.{unit_count}
 
 -- where no digit stands next
 pub no_digit : (l : Units) → next_are (a_digit ∷ []) l ≡ None → digits_next l ≡ ([], past_space l)

@@ -9,17 +9,20 @@ use Rattle.latex2mathml_tex_grammar.specs.Makes.{between_delimiters, core, fence
 use Rattle.latex2mathml_tex_grammar.specs.Refusal.{MissingDelimiter}
 use Rattle.latex2mathml_tex_grammar.specs.Rows.{row_element}
 use Rattle.latex2mathml_tex_grammar.specs.Rules.{gives}
-use Rattle.latex2mathml_tex.specs.{Delimiters.delimiter_text, Errors.refusal_of, Left.units_at, Meanings.style_of, Models.core_with, Models.row_count, Models.row_with, Models.top, Shapes.mapped_first}
+use Rattle.latex2mathml_tex_units.specs.{Delimiters.delimiter_text, Errors.refusal_of, Left.units_at, Meanings.style_of}
+use Rattle.latex2mathml_tex.specs.{Models.core_with, Models.row_count, Models.row_with, Models.top, Shapes.mapped_first}
 use Rattle.latex2mathml_tex.specs.Frames.{Start, element_count}
 use Rattle.latex2mathml_tex.specs.Innermost.{IsInnermost, empty_row, none_begun, on_top}
 use Rattle.latex2mathml_tex.specs.Steps.{CanMake, ClosesRow, Follows, HasElements, Holds, InnermostIs, core_made, elements_of, left_of, level, to_do}
-use Rattle.latex2mathml_tex.specs.declared.{atoms.Context.Context, atoms.Core.Core as CodeCore, atoms.Row.Row as CodeRow, input.Input.Input, meaning.Style.Style, parse.Parser.Parser}
+use Rattle.latex2mathml_tex_units.specs.declared.{input.Input.Input, meaning.Style.Style}
+use Rattle.latex2mathml_tex.specs.declared.{atoms.Context.Context, atoms.Core.Core as CodeCore, atoms.Row.Row as CodeRow, parse.Parser.Parser}
 use Rattle.latex2mathml_tex.specs.declared.parse.State.TheVariants as state
 use Rattle.latex2mathml_tex.specs.declared.parse.frames.{Ending.Ending, Frame.Frame}
 use Rattle.latex2mathml_tex.specs.declared.parse.frames.Ending.TheVariants as ending
 use Rattle.latex2mathml_tex.specs.declared.parse.frames.Frame.TheVariants as frame
 use Rattle.latex2mathml_tex.proofs.Leading.{delimited, given, undelimited}
-use Rattle.latex2mathml_tex.proofs.{Marks.all_refuse, Marks.core_refuses, Nexts.no_more_past_space, Nexts.no_more_taken}
+use Rattle.latex2mathml_tex_units.proofs.Nexts.{no_more_past_space, no_more_taken}
+use Rattle.latex2mathml_tex.proofs.Marks.{all_refuse, core_refuses}
 
 -- the elements of the innermost row are among those of all frames
 row_counts : (style : Style) (fs others : List Frame) (e : Ending) (place : ℕ) (c : Context) (row : CodeRow) → IsInnermost style fs (frame.Row e place c row) others → row_count row ≤ sum_by element_count fs

@@ -5,11 +5,13 @@ use Rattle.latex2mathml_tex_grammar.specs.{Refusal.Refusal, Units.Units}
 use Rattle.latex2mathml_tex_grammar.specs.Reading.{Refused, ReadsRule, found_refused, found_taken, rule_refuses}
 use Rattle.latex2mathml_tex_grammar.specs.Rules.{Rule, with_value}
 use Rattle.latex2mathml_tex_grammar.specs.Scanning.{Spot}
-use Rattle.latex2mathml_tex.specs.{Frames.Start, HandedOn.Stops, HandedOn.TookBy}
+use Rattle.latex2mathml_tex_units.specs.HandedOn.{Stops}
+use Rattle.latex2mathml_tex.specs.{Frames.Start, TakenBy.TookBy}
 use Rattle.latex2mathml_tex.specs.Steps.{Begins, CanBegin, Follows, HasElements, Holds, Advances, NoValue, TookValue, frame_weight, has_none, is_missing, left_of, level, to_do}
 use Rattle.latex2mathml_tex.specs.declared.{parse.Parser.Parser, parse.State.State}
 use Rattle.latex2mathml_tex.specs.declared.parse.State.TheVariants as state
-use Rattle.latex2mathml_tex.proofs.{Marks.core_refuses, Rows.refused_within, Rows.step_within, Scanned.no_more_scanned, TableRules.refused_at}
+use Rattle.latex2mathml_tex_units.proofs.Scanned.{no_more_scanned}
+use Rattle.latex2mathml_tex.proofs.{Marks.core_refuses, Rows.refused_within, Rows.step_within, TableRules.refused_at}
 use Rattle.latex2mathml_tex.proofs.Values.{ValueRule}
 
 module _ {A : Type 0} (part : (A → Rule) → Rule) (p q : Parser) where

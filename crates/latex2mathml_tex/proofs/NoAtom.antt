@@ -5,21 +5,23 @@ use Rattle.std.specs.declared.alloc.AllocError.{AllocError}
 use Rattle.latex2mathml_tex_grammar.specs.{Next.past_space, Reading.Refused, Refusal.Refusal}
 use Rattle.latex2mathml_tex_grammar.specs.Starts.{ends, left_behind}
 use Rattle.latex2mathml_tex_grammar.specs.Units.{Piece, Unit, Units, Next, End, Stop}
-use Rattle.latex2mathml_tex.specs.{Errors.refusal_of, Left.put_back, Left.unit_count, Left.units_at, Meanings.style_of, Taking.piece_of, Taking.unit_of}
+use Rattle.latex2mathml_tex_units.specs.{Errors.refusal_of, Left.put_back, Left.unit_count, Left.units_at, Meanings.style_of, Taking.piece_of, Taking.unit_of}
 use Rattle.latex2mathml_tex.specs.Frames.{Start, Whole, element_count, ending_count, ending_of, within}
 use Rattle.latex2mathml_tex.specs.Innermost.{IsInnermost, none_begun, on_top}
 use Rattle.latex2mathml_tex.specs.Levels.{Leads, Level, Refuses}
 use Rattle.latex2mathml_tex.specs.Models.{row_count}
 use Rattle.latex2mathml_tex.specs.Steps.{Awaits, CanMake, EndsRow, EndsText, HasElements, Holds, IsLeft, Advances, core_made, elements_of, ending_weight, frame_weight, left_of, row_makes}
-use Rattle.latex2mathml_tex.specs.declared.{atoms.Context.Context, atoms.Row.Row as CodeRow, input.Input.Input, meaning.Style.Style, parse.Parser.Parser, parse.State.State, unit.Next.Next as CodeNext, unit.Unit.Unit as CodeUnit}
-use Rattle.latex2mathml_tex.specs.declared.unit.Next.TheVariants as next
+use Rattle.latex2mathml_tex_units.specs.declared.{input.Input.Input, meaning.Style.Style, unit.Next.Next as CodeNext, unit.Unit.Unit as CodeUnit}
+use Rattle.latex2mathml_tex.specs.declared.{atoms.Context.Context, atoms.Row.Row as CodeRow, parse.Parser.Parser, parse.State.State}
+use Rattle.latex2mathml_tex_units.specs.declared.unit.Next.TheVariants as next
 use Rattle.latex2mathml_tex.specs.declared.parse.State.TheVariants as state
 use Rattle.latex2mathml_tex.specs.declared.parse.frames.{Ending.Ending, Frame.Frame, Frames.Frames}
 use Rattle.latex2mathml_tex.specs.declared.parse.frames.Ending.TheVariants as ending
 use Rattle.latex2mathml_tex.specs.declared.parse.frames.Frame.TheVariants as frame
 use Rattle.latex2mathml_tex_grammar.proofs.Spaces.{next_stays}
 use Rattle.latex2mathml_tex.proofs.Leading.{row_ended, row_ends_text, row_stopped, row_unended}
-use Rattle.latex2mathml_tex.proofs.{Marks.all_refuse, Nexts.no_more_past_space, Opening.into_frame, Opening.out_of_frame, Rows.others_await, Rows.step_within, Rows.weighed, Wording.one_innermost}
+use Rattle.latex2mathml_tex_units.proofs.Nexts.{no_more_past_space}
+use Rattle.latex2mathml_tex.proofs.{Marks.all_refuse, Opening.into_frame, Opening.out_of_frame, Rows.others_await, Rows.step_within, Rows.weighed, Wording.one_innermost}
 
 -- no unit ends the whole text
 pub no_text_ends : (e : Ending) (place : ℕ) (piece : Piece) → true ≡ ends (ending_of e place) piece → e ≢ ending.Text

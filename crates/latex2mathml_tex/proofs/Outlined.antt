@@ -4,7 +4,7 @@ use Rattle.std.proofs.lemmas.Str.{length-le-encodes}
 use Rattle.std.specs.Str.{encode_utf8_all}
 use Rattle.latex2mathml_elements.specs.Element.{Element}
 use Rattle.latex2mathml_tex_grammar.specs.Makes.{between_any, fenced}
-use Rattle.latex2mathml_tex.specs.Delimiters.{delimiter_text}
+use Rattle.latex2mathml_tex_units.specs.Delimiters.{delimiter_text}
 
 some_text : (c : ℕ) → encode_utf8_all (c ∷ []) ≡ [] → ⊥
 some_text c e = absurd (omega (arith, length-le-encodes (c ∷ []), ap length e))

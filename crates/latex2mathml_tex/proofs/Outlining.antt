@@ -5,8 +5,10 @@ use Rattle.latex2mathml_tex_grammar.specs.Refusal.{LengthTooLarge, MissingArgume
 use Rattle.latex2mathml_tex_grammar.specs.Reading.{Refused, ReadsRule, units_missing}
 use Rattle.latex2mathml_tex_grammar.specs.Rules.{Rule, a_length, a_line, a_style, an_outer_delimiter, an_outline, empty_braces, has_width, numbered_style}
 use Rattle.latex2mathml_tex_grammar.specs.Scanning.{BeforeArgument, BeforeLengthInBraces, Number}
-use Rattle.latex2mathml_tex.specs.{HandedOn.TookBy, Left.unit_count, Left.units_at, Steps.TookValue, Steps.left_of}
-use Rattle.latex2mathml_tex.specs.declared.{input.Input.Input, parse.Parser.Parser}
+use Rattle.latex2mathml_tex_units.specs.Left.{unit_count, units_at}
+use Rattle.latex2mathml_tex.specs.{TakenBy.TookBy, Steps.TookValue, Steps.left_of}
+use Rattle.latex2mathml_tex_units.specs.declared.input.Input.{Input}
+use Rattle.latex2mathml_tex.specs.declared.parse.Parser.{Parser}
 use Rattle.latex2mathml_tex.proofs.HandingOn.{both_taken, by_no_value, by_value, first_stops, mapped_stops, mapped_taken, second_stops}
 
 module _ (place : ℕ) where

@@ -8,18 +8,19 @@ use Rattle.latex2mathml_tex_grammar.specs.Next.{next_are, past_space, refusal_he
 use Rattle.latex2mathml_tex_grammar.specs.Refusal.{MissingDelimiter, Refusal}
 use Rattle.latex2mathml_tex_grammar.specs.Reading.{Outcome, Read, ReadsAtoms}
 use Rattle.latex2mathml_tex_grammar.specs.Rows.{Row, row_element, with_atom}
-use Rattle.latex2mathml_tex.specs.{Errors.refusal_of, Left.unit_count, Left.units_at}
+use Rattle.latex2mathml_tex_units.specs.{Errors.refusal_of, Left.unit_count, Left.units_at}
 use Rattle.latex2mathml_tex.specs.Frames.{RowMade, Start, base_of, element_count, ending_count, ending_of, inside, within}
-use Rattle.latex2mathml_tex.specs.Innermost.{IsInnermost, none_begun, on_top}
+use Rattle.latex2mathml_tex.specs.Innermost.{IsInnermost, frame_row, none_begun, on_top}
 use Rattle.latex2mathml_tex.specs.Levels.{AtomMade, Leads, Refuses}
-use Rattle.latex2mathml_tex.specs.Meanings.{style_of}
+use Rattle.latex2mathml_tex_units.specs.Meanings.{style_of}
 use Rattle.latex2mathml_tex.specs.Models.{context_of, core_with, row_count, row_rest, row_with, script_count, scripts_with, top}
-use Rattle.latex2mathml_tex.specs.Steps.{BeginsDivider, CanMake, Follows, HasElements, Holds, Advances, MadeAtom, TookMark, are_nested, atom_made, core_made, elements_of, first_accepts, frame_weight, left_of, level, row_makes, to_do}
+use Rattle.latex2mathml_tex.specs.Steps.{Awaits, BeginsDivider, CanMake, Follows, HasElements, Holds, Advances, MadeAtom, TookMark, accepts, are_nested, atom_made, core_made, elements_of, first_accepts, frame_weight, left_of, level, row_makes, to_do}
 use Rattle.std.specs.declared.alloc.AllocError.{AllocError}
-use Rattle.latex2mathml_tex.specs.declared.{atoms.Context.Context, atoms.Core.Core as CodeCore, atoms.Row.Row as CodeRow, atoms.Scripts.Scripts as CodeScripts, error.TexError.TexError, input.Input.Input, meaning.Style.Style, parse.Parser.Parser, parse.State.State, parse.scripts.Mark.Mark}
+use Rattle.latex2mathml_tex_units.specs.declared.{error.TexError.TexError, input.Input.Input, meaning.Style.Style}
+use Rattle.latex2mathml_tex.specs.declared.{atoms.Context.Context, atoms.Core.Core as CodeCore, atoms.Row.Row as CodeRow, atoms.Scripts.Scripts as CodeScripts, parse.Parser.Parser, parse.State.State, parse.scripts.Mark.Mark}
 use Rattle.latex2mathml_tex.specs.declared.atoms.Kind.TheVariants as kind
-use Rattle.latex2mathml_tex.specs.declared.meaning.Class.TheVariants as class
-use Rattle.latex2mathml_tex.specs.declared.meaning.LimitPlace.TheVariants as code_place
+use Rattle.latex2mathml_tex_units.specs.declared.meaning.Class.TheVariants as class
+use Rattle.latex2mathml_tex_units.specs.declared.meaning.LimitPlace.TheVariants as code_place
 use Rattle.latex2mathml_tex.specs.declared.parse.State.TheVariants as state
 use Rattle.latex2mathml_tex.specs.declared.parse.frames.{Ending.Ending, Frame.Frame}
 use Rattle.latex2mathml_tex.specs.declared.parse.frames.Ending.TheVariants as ending
@@ -28,11 +29,12 @@ use Rattle.latex2mathml_tex.proofs.Leading.{delimited, given, undelimited}
 use Rattle.latex2mathml_tex.proofs.Marks.{all_refuse, atom_refuses}
 use Rattle.latex2mathml_tex_grammar.specs.Makes.{Scripts, scripted}
 use Rattle.latex2mathml_tex_grammar.specs.Starts.{mark_of, step_next, step_of_mark}
-use Rattle.latex2mathml_tex.specs.{Frames.context_at, Innermost.frame_context, Left.put_back, Steps.InnermostIs, Taking.piece_of}
+use Rattle.latex2mathml_tex_units.specs.{Left.put_back, Taking.piece_of}
+use Rattle.latex2mathml_tex.specs.{Frames.context_at, Innermost.frame_context, Steps.InnermostIs}
 use Rattle.latex2mathml_tex.specs.Levels.{Level, ScriptsLead}
 use Rattle.latex2mathml_tex.specs.Levels as levels
-use Rattle.latex2mathml_tex.specs.declared.{unit.Next.Next as CodeNext, unit.Unit.Unit as CodeUnit}
-use Rattle.latex2mathml_tex.specs.declared.unit.Next.TheVariants as next
+use Rattle.latex2mathml_tex_units.specs.declared.unit.{Next.Next as CodeNext, Unit.Unit as CodeUnit}
+use Rattle.latex2mathml_tex_units.specs.declared.unit.Next.TheVariants as next
 use Rattle.latex2mathml_tex.proofs.Leading.{scripts_ended}
 use Rattle.latex2mathml_tex.proofs.Opening.{context_is, into_frame}
 
@@ -64,6 +66,23 @@ atom_put s p f others e place context row longer c ys i is made below rest g =
     let xs = drop 1 (elements_of p) in
     let within_f = into_frame (λ l. AtomMade l (Read a (left_of p))) s p.style g.style p.frames.stack.items others f xs i g.leads in
     row_longer s others e place context row longer a (elements_of p) ys (left_of p) made below rest (subst (λ f. AtomMade (within s others f xs) (Read a (left_of p))) is within_f)
+
+-- a frame that waits for an atom is a row
+is_row : (f : Frame) → IsTrue (accepts atom_made f) → (e : Ending) × ((place : ℕ) × ((c : Context) × ((row : CodeRow) × (f ≡ frame.Row e place c row))))
+is_row (frame.Row e place c row) waits = (e, (place, (c, (row, refl))))
+is_row f waits = absurd (cc)
+
+innermost_accepts : (style : Style) (fs others : List Frame) (f : Frame) → IsInnermost style fs f others → IsTrue (first_accepts atom_made (reverse fs)) → IsTrue (accepts atom_made f)
+innermost_accepts style fs others f (none_begun h k is) waits = rw is search
+innermost_accepts style fs others f (on_top h) waits = subst (λ l. IsTrue (first_accepts atom_made l)) (reverse-append others (f ∷ [])) (rw h at waits)
+
+-- .. and so the innermost frame is one where an atom is due
+pub row_there : (p : Parser) (r : Context × CodeRow) → (f : Frame) × ((others : List Frame) × (IsInnermost p.style p.frames.stack.items f others × (r ≡ frame_row f))) → Awaits atom_made p → (e : Ending) × ((place : ℕ) × ((others : List Frame) × IsInnermost p.style p.frames.stack.items (frame.Row e place r.0 r.1) others))
+row_there p r (f, (others, (i, is))) waits =
+    let row = is_row f (innermost_accepts p.style p.frames.stack.items others f i waits.accepted) in
+    let there : (row.1.1.0, row.1.1.1.0) ≡ r = sym (is ∙ ap frame_row row.1.1.1.1) in
+    let same : f ≡ frame.Row row.0 row.1.0 r.0 r.1 = row.1.1.1.1 ∙ ap (λ q. frame.Row row.0 row.1.0 q.0 q.1) there in
+    (row.0, (row.1.0, (others, subst (λ f. IsInnermost p.style p.frames.stack.items f others) same i)))
 
 -- the frame of a row that was taken off can be put back with another row
 pub others_await : (style : Style) (fs others : List Frame) (e : Ending) (place : ℕ) (context : Context) (row : CodeRow) → IsInnermost style fs (frame.Row e place context row) others → IsTrue (are_nested (reverse fs)) → IsTrue (first_accepts (row_makes e) (reverse others) && are_nested (reverse others))

@@ -14,13 +14,13 @@ use Rattle.latex2mathml_tex_grammar.specs.Makes
 use Rattle.latex2mathml_tex_grammar.specs.Meaning
 use Rattle.latex2mathml_tex_grammar.specs.Rows
 use Rattle.latex2mathml_tex_grammar.specs.Symbols.{Class, Ordinary, Style}
-use Rattle.latex2mathml_tex.specs.Meanings.{class_of}
+use Rattle.latex2mathml_tex_units.specs.Meanings.{class_of}
 use Rattle.latex2mathml_tex.specs.Models.{kind_of, top}
 use Rattle.latex2mathml_tex.specs.Shapes.{changed_at, mapped_first}
 use Rattle.latex2mathml_tex.specs.declared.atoms.Kind.{Kind as CodeKind}
 use Rattle.latex2mathml_tex.specs.declared.atoms.Kind.TheVariants as code_kind
-use Rattle.latex2mathml_tex.specs.declared.meaning.Class.{Class as CodeClass}
-use Rattle.latex2mathml_tex.specs.declared.meaning.Class.TheVariants as code_class
+use Rattle.latex2mathml_tex_units.specs.declared.meaning.Class.{Class as CodeClass}
+use Rattle.latex2mathml_tex_units.specs.declared.meaning.Class.TheVariants as code_class
 
 -- One element changed
 

@@ -2,10 +2,12 @@
 use Rattle.std.proofs.Common.{◌≡◌, ◌∙◌, ap, sym}
 use Rattle.latex2mathml_tex_grammar.specs.{Atoms.Atom, Next.past_space, Rows.Row, Rules.Context, Rules.Ending, Units.Units}
 use Rattle.latex2mathml_tex_grammar.specs.Reading.{Outcome, Read, ReadsAtoms, atom_read, atom_refused, atoms_end, atoms_stopped, change_refused, never_ended, rest_read, text_ends}
-use Rattle.latex2mathml_tex.specs.{Frames.Start, Left.units_at, Levels.AtomMade, Levels.Level}
+use Rattle.latex2mathml_tex_units.specs.Left.{units_at}
+use Rattle.latex2mathml_tex.specs.{Frames.Start, Levels.AtomMade, Levels.Level}
 use Rattle.latex2mathml_tex.specs.Levels as levels
 use Rattle.latex2mathml_tex.specs.Steps.{MadeAtom, left_of, level}
-use Rattle.latex2mathml_tex.specs.declared.{atoms.Core.Core, input.Input.Input, parse.Parser.Parser}
+use Rattle.latex2mathml_tex_units.specs.declared.input.Input.{Input}
+use Rattle.latex2mathml_tex.specs.declared.{atoms.Core.Core, parse.Parser.Parser}
 use Rattle.latex2mathml_tex_grammar.proofs.Spaces.{past_twice}
 
 respaced : {e : Ending} {c : Context} {row : Row} {o : Outcome Row} (l m : Units) → past_space m ≡ past_space l → ReadsAtoms e c row l o → ReadsAtoms e c row m o

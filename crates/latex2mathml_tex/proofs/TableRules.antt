@@ -18,16 +18,20 @@ use Rattle.latex2mathml_tex_grammar.specs.Symbols as symbols
 use Rattle.latex2mathml_tex_grammar.specs.Tables.{Lines, a_table, between_any, rows_of, rows_onto, said_style}
 use Rattle.latex2mathml_tex.specs.Frames.{Start, context_at}
 use Rattle.latex2mathml_tex.specs.Levels.{CoreMade, Refuses, RuleLeads}
-use Rattle.latex2mathml_tex.specs.{Errors.refusal_of, Left.unit_count, Left.units_at, Meanings.style_of, Models.context_of}
+use Rattle.latex2mathml_tex_units.specs.{Errors.refusal_of, Left.unit_count, Left.units_at, Meanings.style_of}
+use Rattle.latex2mathml_tex.specs.Models.{context_of}
 use Rattle.latex2mathml_tex.specs.Steps.{Begins, BeginsIn, EndsRows, Follows, GoesOnTable, HasElements, Holds, InnermostIs, Advances, MakesTable, TookText, elements_of, frame_weight, left_of, level, to_do}
-use Rattle.latex2mathml_tex.specs.Tables.{behind_rows, delimiter_texts, environment_of}
+use Rattle.latex2mathml_tex_units.specs.Environments.{delimiter_texts, environment_of}
+use Rattle.latex2mathml_tex.specs.Tables.{behind_rows}
 use Rattle.latex2mathml_tex.specs.{Innermost.frame_context, Models.core_with}
-use Rattle.latex2mathml_tex.specs.declared.{atoms.Context.Context, atoms.Core.Core as CodeCore, environments.Environment.Environment, error.TexError.TexError, input.Input.Input, meaning.Style.Style, parse.Parser.Parser, parse.State.State}
+use Rattle.latex2mathml_tex_units.specs.declared.{environments.Environment.Environment, error.TexError.TexError, input.Input.Input, meaning.Style.Style}
+use Rattle.latex2mathml_tex.specs.declared.{atoms.Context.Context, atoms.Core.Core as CodeCore, parse.Parser.Parser, parse.State.State}
 use Rattle.latex2mathml_tex.specs.declared.parse.frames.Frame.{Frame}
 use Rattle.latex2mathml_tex.specs.declared.parse.State.TheVariants as state
 use Rattle.latex2mathml_tex.specs.declared.parse.frames.Table.{Table}
 use Rattle.latex2mathml_tex.proofs.Leading.{found, given, not_found, passed, rows_due}
-use Rattle.latex2mathml_tex.proofs.{Marks.all_refuse, Marks.core_refuses, Rows.refused_within, Rows.step_within, Scanned.no_more_past, Scanned.no_more_past_break, Scanned.no_more_scanned, Opening.context_is}
+use Rattle.latex2mathml_tex_units.proofs.Scanned.{no_more_past, no_more_past_break, no_more_scanned}
+use Rattle.latex2mathml_tex.proofs.{Marks.all_refuse, Marks.core_refuses, Rows.refused_within, Rows.step_within, Opening.context_is}
 use Rattle.latex2mathml_tex.specs.declared.parse.frames.TableKind.TheVariants as kind
 
 -- A formula that is refused without so many elements

@@ -13,11 +13,12 @@ use Rattle.latex2mathml_tex_grammar.specs.Units.{Units, End}
 use Rattle.latex2mathml_tex.specs.Frames.{Start, context_at, inside}
 use Rattle.latex2mathml_tex.specs.Innermost.{empty_row, frame_context}
 use Rattle.latex2mathml_tex.specs.Levels.{CoreMade, Leads, Level, RuleLeads}
-use Rattle.latex2mathml_tex.specs.{Left.units_at, Meanings.style_of, Taking.piece_of, Taking.unit_of}
+use Rattle.latex2mathml_tex_units.specs.{Left.units_at, Meanings.style_of, Taking.piece_of, Taking.unit_of}
 use Rattle.latex2mathml_tex.specs.Models.{before_of, context_of, row_count, row_with}
 use Rattle.latex2mathml_tex.specs.Steps.{CanMake, ClosesCell, EndsCells, EndsRows, GoesOnTable, InnermostIs, core_made, elements_of, left_of, level, level_within}
 use Rattle.latex2mathml_tex.specs.Tables.{CellMade, RowsLead, TableMade, behind_rows, cell_context, cells_of, rows_of, style_in, table_end}
-use Rattle.latex2mathml_tex.specs.declared.{atoms.Context.Context, atoms.Row.Row as CodeRow, input.Input.Input, meaning.Style.Style, parse.Parser.Parser, unit.Unit.Unit as CodeUnit}
+use Rattle.latex2mathml_tex_units.specs.declared.{input.Input.Input, meaning.Style.Style, unit.Unit.Unit as CodeUnit}
+use Rattle.latex2mathml_tex.specs.declared.{atoms.Context.Context, atoms.Row.Row as CodeRow, parse.Parser.Parser}
 use Rattle.latex2mathml_tex.specs.declared.parse.frames.{Frame.Frame, Table.Table}
 use Rattle.latex2mathml_tex.specs.declared.parse.frames.Ending.TheVariants as ending
 use Rattle.latex2mathml_tex.specs.declared.parse.frames.Frame.TheVariants as frame

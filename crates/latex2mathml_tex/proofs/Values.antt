@@ -4,12 +4,15 @@ use Rattle.std.specs.declared.alloc.AllocError.{AllocError}
 use Rattle.latex2mathml_tex_grammar.specs.{Makes.Core, Reading.Outcome, Reading.Refused, Refusal.Refusal}
 use Rattle.latex2mathml_tex_grammar.specs.Rules.{Rule, takes_found, with_value}
 use Rattle.latex2mathml_tex_grammar.specs.Scanning.{Spot}
-use Rattle.latex2mathml_tex.specs.{Frames.Start, Levels.CoreMade, Levels.RuleLeads, Meanings.style_of, Errors.refusal_of, Left.unit_count}
+use Rattle.latex2mathml_tex_units.specs.{Meanings.style_of, Errors.refusal_of, Left.unit_count}
+use Rattle.latex2mathml_tex.specs.{Frames.Start, Levels.CoreMade, Levels.RuleLeads}
 use Rattle.latex2mathml_tex.specs.Steps.{BeginsIn, CanBegin, Follows, HasElements, Holds, Advances, NoValue, TookText, TookValue, has_none, is_missing, left_of, level, to_do}
-use Rattle.latex2mathml_tex.specs.declared.{atoms.Context.Context, error.TexError.TexError, parse.Parser.Parser, parse.State.State}
+use Rattle.latex2mathml_tex_units.specs.declared.error.TexError.{TexError}
+use Rattle.latex2mathml_tex.specs.declared.{atoms.Context.Context, parse.Parser.Parser, parse.State.State}
 use Rattle.latex2mathml_tex.specs.declared.parse.State.TheVariants as state
 use Rattle.latex2mathml_tex.proofs.Leading.{found, not_found, refused}
-use Rattle.latex2mathml_tex.proofs.{Marks.core_refuses, Rows.refused_within, Scanned.no_more_scanned}
+use Rattle.latex2mathml_tex_units.proofs.Scanned.{no_more_scanned}
+use Rattle.latex2mathml_tex.proofs.{Marks.core_refuses, Rows.refused_within}
 use Rattle.latex2mathml_tex.proofs.TableRules.{refused_at, text_taken, text_within}
 
 module _ {A : Type 0} (value : List ℕ → Option A) (no_value : List ℕ → Refusal) (place : ℕ) (spot : Spot) (p q : Parser) where

@@ -13,10 +13,11 @@ use Rattle.latex2mathml_tex_grammar.specs.Rules.{Context, Rule, gives, of_one, r
 use Rattle.latex2mathml_tex_grammar.specs.Words.{words_atom}
 use Rattle.latex2mathml_tex.specs.{Levels.AtomMade, Levels.as_operand, Levels.as_words, Levels.CoreMade, Levels.Level, Levels.OperandMade, Levels.PartMade, Levels.RuleLeads, Levels.ScriptsLead, Levels.Then}
 use Rattle.latex2mathml_tex.specs.Levels as level
-use Rattle.latex2mathml_tex.specs.Meanings.{alphabet_of, box_of, class_of, fraction_rule_of, limit_place_of, style_of}
+use Rattle.latex2mathml_tex_units.specs.Meanings.{alphabet_of, box_of, class_of, fraction_rule_of, limit_place_of, style_of}
 use Rattle.latex2mathml_tex.specs.Models.{context_of, core_with, row_count, row_with, script_count, scripts_with, top, words_with}
 use Rattle.latex2mathml_tex.specs.{Outlines.outline_of, Tables.TableMade, Tables.table_end}
-use Rattle.latex2mathml_tex.specs.{Delimiters.delimiter_text, declared.atoms.Core.Core as CodeCore, declared.atoms.Scripts.Scripts}
+use Rattle.latex2mathml_tex_units.specs.Delimiters.{delimiter_text}
+use Rattle.latex2mathml_tex.specs.declared.atoms.{Core.Core as CodeCore, Scripts.Scripts}
 use Rattle.latex2mathml_tex.specs.declared.parse.Form.{Form}
 use Rattle.latex2mathml_tex.specs.declared.parse.Form.TheVariants as form
 use Rattle.latex2mathml_tex.specs.declared.parse.frames.{Ending.Ending, First.First, Frame.Frame, Last.Last}

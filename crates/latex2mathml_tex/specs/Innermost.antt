@@ -2,9 +2,9 @@
 use Rattle.std.specs.Prelude.{◌≡◌, List, [], ◌∷◌, ◌++◌, false, None}
 use Rattle.latex2mathml_tex.specs.declared.atoms.{Context.Context, Row.Row}
 use Rattle.latex2mathml_tex.specs.declared.atoms.Before.TheVariants as before
-use Rattle.latex2mathml_tex.specs.declared.meaning.Class.TheVariants as class
-use Rattle.latex2mathml_tex.specs.declared.meaning.Style.{Style}
-use Rattle.latex2mathml_tex.specs.declared.meaning.Style.TheVariants as style
+use Rattle.latex2mathml_tex_units.specs.declared.meaning.Class.TheVariants as class
+use Rattle.latex2mathml_tex_units.specs.declared.meaning.Style.{Style}
+use Rattle.latex2mathml_tex_units.specs.declared.meaning.Style.TheVariants as style
 use Rattle.latex2mathml_tex.specs.declared.parse.frames.Frame.{Frame}
 use Rattle.latex2mathml_tex.specs.declared.parse.frames.Ending.TheVariants as ending
 use Rattle.latex2mathml_tex.specs.declared.parse.frames.Frame.TheVariants as frame
@@ -30,3 +30,8 @@ frame_context (frame.First one place c) = c
 frame_context (frame.Negation place c) = c
 frame_context (frame.Script base scripts on place c) = c
 frame_context f = record { style = style.InText; alphabet = None }
+
+-- its row with its context; a frame that is no row has none
+abbrev pub frame_row : Frame → Context × Row
+frame_row (frame.Row e place c row) = (c, row)
+frame_row f = (frame_context f, empty_row)

@@ -8,8 +8,8 @@ use Rattle.latex2mathml_tex_grammar.specs.Makes as makes
 use Rattle.latex2mathml_tex_grammar.specs.Rows as rows
 use Rattle.latex2mathml_tex_grammar.specs.Rules as rules
 use Rattle.latex2mathml_tex_grammar.specs.Words as words
-use Rattle.latex2mathml_tex.specs.Meanings.{alphabet_of, class_of, fraction_rule_of, limit_place_of, style_of}
-use Rattle.latex2mathml_tex.specs.declared.meaning.FractionRule.{FractionRule}
+use Rattle.latex2mathml_tex_units.specs.Meanings.{alphabet_of, class_of, fraction_rule_of, limit_place_of, style_of}
+use Rattle.latex2mathml_tex_units.specs.declared.meaning.FractionRule.{FractionRule}
 use Rattle.latex2mathml_tex.specs.declared.atoms.{Before.Before, Context.Context, Core.Core, Kind.Kind, Operand.Operand, Restyled.Restyled, Row.Row, Scripts.Scripts, Words.Words}
 use Rattle.latex2mathml_tex.specs.declared.atoms.Before.TheVariants as before
 use Rattle.latex2mathml_tex.specs.declared.atoms.Kind.TheVariants as kind

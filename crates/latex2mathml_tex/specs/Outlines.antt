@@ -1,7 +1,7 @@
 -- How authors say that fractions are drawn, as the definitions have it.
 use Rattle.std.specs.Prelude.{option_map}
 use Rattle.latex2mathml_tex_grammar.specs.Makes as makes
-use Rattle.latex2mathml_tex.specs.{Delimiters.delimiter_text, Meanings.style_of}
+use Rattle.latex2mathml_tex_units.specs.{Delimiters.delimiter_text, Meanings.style_of}
 use Rattle.latex2mathml_tex.specs.declared.outlines.Outline.{Outline}
 
 abbrev pub outline_of : Outline → makes.Outline

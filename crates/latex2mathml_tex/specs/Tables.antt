@@ -1,10 +1,9 @@
--- The tables of the code, as the definitions have them.
-use Rattle.std.specs.Prelude.{◌≡◌, ℕ, List, [], ◌∷◌, drop, option_map, Option, None, take}
+-- The tables that the parser reads, as the definitions have them.
+use Rattle.std.specs.Prelude.{◌≡◌, ℕ, List, drop, None, take}
 use Rattle.std.specs.Str.{bytes_eq}
-use Rattle.latex2mathml_elements.specs.Columns.{Centered, LeftAligned, RightAligned, Dense, Columns as DefinedColumns, Alike, InPairs, Listed}
+use Rattle.latex2mathml_elements.specs.Columns.{Columns as DefinedColumns}
 use Rattle.latex2mathml_builder.specs.Columns.{columns_of}
 use Rattle.latex2mathml_tex_grammar.specs.{Next.past_space, Reading.ReadsBehindCell, Rows.Row, Tables.Lines, Tables.a_table}
-use Rattle.latex2mathml_tex_grammar.specs.Environments as environments
 use Rattle.latex2mathml_tex_grammar.specs.Makes.{Core}
 use Rattle.latex2mathml_tex_grammar.specs.Reading.{Outcome, Read, Refused}
 use Rattle.latex2mathml_elements.specs.Element.{Element}
@@ -13,41 +12,12 @@ use Rattle.latex2mathml_tex_grammar.specs.Scanning.{BeforeArgument, Name}
 use Rattle.latex2mathml_tex_grammar.specs.Starts as starts
 use Rattle.latex2mathml_tex_grammar.specs.Symbols as symbols
 use Rattle.latex2mathml_tex_grammar.specs.Units.{Unit, Units, Next, End}
-use Rattle.latex2mathml_tex.specs.{Delimiters.delimiter_text, Levels.RuleLeads, Meanings.style_of, Scans.argument_of}
-use Rattle.latex2mathml_tex.specs.declared.environments.{Bracket.Bracket, Environment.Environment, Layout.Layout}
-use Rattle.latex2mathml_tex.specs.declared.environments.Bracket.TheVariants as bracket
-use Rattle.latex2mathml_tex.specs.declared.environments.Layout.TheVariants as layout
+use Rattle.latex2mathml_tex_units.specs.{Environments.environment_of, Meanings.style_of}
+use Rattle.latex2mathml_tex.specs.Levels.{RuleLeads}
 use Rattle.latex2mathml_tex.specs.declared.parse.frames.{Table.Table, TableKind.TableKind}
 use Rattle.latex2mathml_tex.specs.declared.parse.frames.TableKind.TheVariants as kind
 use Rattle.latex2mathml_tex.specs.declared.parse.tables.CellEnd.{CellEnd}
 use Rattle.latex2mathml_tex.specs.declared.parse.tables.CellEnd.TheVariants as cell_end
-
-abbrev pub layout_of : Layout → DefinedColumns
-layout_of layout.Centered = Alike Centered
-layout_of layout.LeftAligned = Alike LeftAligned
-layout_of layout.Dense = Alike Dense
-layout_of layout.InPairs = InPairs
-layout_of layout.AroundRelation = Listed (RightAligned ∷ Centered ∷ LeftAligned ∷ [])
-
-abbrev pub bracket_of : Bracket → environments.Bracket
-bracket_of bracket.Nothing = environments.NoBracket
-bracket_of bracket.Position = environments.Position
-bracket_of bracket.Alignment = environments.Alignment
-
-abbrev pub delimiter_texts : Option ℕ × Option ℕ → List ℕ × List ℕ
-delimiter_texts d = (delimiter_text d.0, delimiter_text d.1)
-
-abbrev pub environment_of : Environment → environments.Environment
-environment_of e = record {
-  delimiters = option_map delimiter_texts e.delimiters;
-  columns = layout_of e.layout;
-  style = style_of e.style;
-  bracket = bracket_of e.bracket;
-  argument = option_map argument_of e.argument;
-}
-
-abbrev pub entry_of : Environment → List ℕ × environments.Environment
-entry_of e = (e.name.now, environment_of e)
 
 abbrev pub cell_end_of : CellEnd → starts.CellEnd
 cell_end_of cell_end.PartsCells = starts.PartsCells

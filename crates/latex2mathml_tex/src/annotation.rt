@@ -5,7 +5,7 @@ ghost use Rattle.latex2mathml_elements.specs.Annotated.{alternative, annotation_
 ghost use Rattle.latex2mathml_tokens.specs.Escape.{content};
 ghost use Rattle.latex2mathml_tex_grammar.specs.Formulas.{source_character, source_text};
 
-use crate::reader::characters::is_forbidden;
+use latex2mathml_tex_units::reader::characters::is_forbidden;
 use latex2mathml_trees::append::append_content_char;
 use std::alloc::AllocError;
 

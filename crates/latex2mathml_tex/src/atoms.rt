@@ -1,56 +1,14 @@
 //! Atoms and rows, and what an atom is to those beside it.
 ghost use Rattle.std.specs.Prelude.{◌≡◌, false};
-ghost use Rattle.latex2mathml_builder.specs.Names.{math_style_of};
 ghost use Rattle.latex2mathml_tex_grammar.specs.Atoms;
 ghost use Rattle.latex2mathml_tex_grammar.specs.Makes;
 ghost use Rattle.latex2mathml_tex_grammar.specs.Rows;
-ghost use Rattle.latex2mathml_tex_grammar.specs.Symbols.{smaller};
-ghost use Rattle.latex2mathml_tex.specs.Meanings.{class_of, limit_place_of, style_of};
+ghost use Rattle.latex2mathml_tex_units.specs.Meanings.{class_of, limit_place_of, style_of};
 ghost use Rattle.latex2mathml_tex.specs.{Frames.has_script, Innermost.empty_row, Models.before_of, Models.kind_of};
 
-use crate::meaning::{Alphabet, Class, FractionRule, LimitPlace, Style};
 use latex2mathml_builder::around::Color;
-use latex2mathml_builder::attributes::{MathStyle, Side};
-
-impl Style {
-    /// The style of the parts of a fraction.
-    pub(crate) fn smaller(self) -> Style
-        ensures { style_of result ≡ smaller (style_of self) }
-    {
-        match self {
-            Style::InDisplay => Style::InText,
-            Style::InText | Style::InScript => Style::InScript,
-        }
-    }
-
-    pub(crate) fn is_display(self) -> bool
-        ensures { result ≡ Makes.is_display (style_of self) }
-    {
-        matches!(self, Style::InDisplay)
-    }
-
-    /// What an element of this style says.
-    pub(crate) fn math_style(self) -> MathStyle
-        ensures { math_style_of result ≡ Makes.math_style (style_of self) }
-    {
-        match self {
-            Style::InDisplay => MathStyle::Display,
-            Style::InText => MathStyle::Text,
-            Style::InScript => MathStyle::Script,
-        }
-    }
-
-    /// Whether scripts stand below and above an atom whose limits are to stand there.
-    pub(crate) fn stacks(self, limits: LimitPlace) -> bool
-        ensures { result ≡ Makes.are_stacked (style_of self) (limit_place_of limits) }
-    {
-        match limits {
-            LimitPlace::Beside => false,
-            LimitPlace::ByStyle => self.is_display(),
-            LimitPlace::Movable | LimitPlace::Stacked => true,
-        }
-    }
-}
+use latex2mathml_builder::attributes::Side;
+use latex2mathml_tex_units::meaning::{Alphabet, Class, FractionRule, LimitPlace, Style};
 
 /// In what a unit is read: the style, and the alphabet of letters and digits, if there is one.
 #[derive(Clone, Copy)]

@@ -3,12 +3,13 @@ ghost use Rattle.std.specs.Prelude.{◌≡◌, ◌≤◌, OnOk, length};
 ghost use Rattle.latex2mathml_elements.specs.Element.{Element};
 ghost use Rattle.latex2mathml_builder.specs.{Arounds.element_around, Built.Puts, Built.elements_in};
 ghost use Rattle.latex2mathml_tex_grammar.specs.Makes;
-ghost use Rattle.latex2mathml_tex.specs.{Meanings.box_of, Shapes.ReplacesTop, Shapes.within_any};
+ghost use Rattle.latex2mathml_tex_units.specs.Meanings.{box_of};
+ghost use Rattle.latex2mathml_tex.specs.Shapes.{ReplacesTop, within_any};
 
-use crate::meaning::OperandBox;
 use latex2mathml_builder::around::{Around, Boxing};
 use latex2mathml_builder::builder::Builder;
 use latex2mathml_builder::extent::Extent;
+use latex2mathml_tex_units::meaning::OperandBox;
 use std::alloc::AllocError;
 
 /// The uppermost element in a box.

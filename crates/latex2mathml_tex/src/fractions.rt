@@ -2,13 +2,14 @@
 ghost use Rattle.std.specs.Prelude.{◌≡◌, ◌≤◌, ◌∷◌, true, OnOk, Some, drop, length, option_map};
 ghost use Rattle.latex2mathml_builder.specs.{Built.elements_in, Names.attributes_of};
 ghost use Rattle.latex2mathml_tex_grammar.specs.Makes;
-ghost use Rattle.latex2mathml_tex.specs.{Delimiters.delimiter_text, Meanings.fraction_rule_of, Meanings.style_of, Models.top};
+ghost use Rattle.latex2mathml_tex_units.specs.{Delimiters.delimiter_text, Meanings.fraction_rule_of, Meanings.style_of};
+ghost use Rattle.latex2mathml_tex.specs.Models.{top};
 
-use crate::meaning::{FractionRule, Style};
 use crate::shapes::enclose;
 use latex2mathml_builder::attributes::Attributes;
 use latex2mathml_builder::builder::Builder;
 use latex2mathml_builder::tag::{Container, Pair};
+use latex2mathml_tex_units::meaning::{FractionRule, Style};
 use std::alloc::AllocError;
 
 /// A fraction of the two uppermost elements, which may have a style of its own.

@@ -3,14 +3,15 @@ ghost use Rattle.std.specs.Prelude.{◌≡◌, ◌≤◌, ◌∷◌, true, OnOk,
 ghost use Rattle.latex2mathml_builder.specs.Built.{elements_in};
 ghost use Rattle.latex2mathml_tex_grammar.specs.Makes;
 ghost use Rattle.latex2mathml_tex_grammar.specs.Rules;
-ghost use Rattle.latex2mathml_tex.specs.{Delimiters.delimiter_text, Meanings.style_of, Models.top, Outlines.outline_of};
+ghost use Rattle.latex2mathml_tex_units.specs.{Delimiters.delimiter_text, Meanings.style_of};
+ghost use Rattle.latex2mathml_tex.specs.{Models.top, Outlines.outline_of};
 
 use crate::fractions::{put_in_style, put_without_bar};
-use crate::meaning::Style;
 use crate::shapes::enclose;
 use latex2mathml_builder::attributes::Attributes;
 use latex2mathml_builder::builder::Builder;
 use latex2mathml_builder::tag::Pair;
+use latex2mathml_tex_units::meaning::Style;
 use std::alloc::AllocError;
 
 /// How an author says that a fraction is drawn.

@@ -4,16 +4,16 @@ ghost use Rattle.latex2mathml_elements.specs.Element.{Element};
 ghost use Rattle.latex2mathml_builder.specs.{Arounds.color_of, Built.elements_in};
 ghost use Rattle.latex2mathml_tex_grammar.specs.Rests;
 ghost use Rattle.latex2mathml_tex_grammar.specs.Rows;
-ghost use Rattle.latex2mathml_tex.specs.{Meanings.fraction_rule_of, Meanings.style_of};
+ghost use Rattle.latex2mathml_tex_units.specs.Meanings.{fraction_rule_of, style_of};
 ghost use Rattle.latex2mathml_tex.specs.Models.{row_count, row_with};
 
 use crate::atoms::{Before, Restyled, Row};
 use crate::fractions::{put_fraction, style_attributes};
-use crate::meaning::{Class, FractionRule, Style};
 use crate::shapes::put_row;
 use latex2mathml_builder::around::{Around, Color};
 use latex2mathml_builder::builder::Builder;
 use latex2mathml_builder::tag::Container;
+use latex2mathml_tex_units::meaning::{Class, FractionRule, Style};
 use std::alloc::AllocError;
 
 impl Row {

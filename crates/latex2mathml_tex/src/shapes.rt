@@ -8,16 +8,16 @@ ghost use Rattle.latex2mathml_tex_grammar.specs.Atoms;
 ghost use Rattle.latex2mathml_tex_grammar.specs.Makes;
 ghost use Rattle.latex2mathml_tex_grammar.specs.Meaning;
 ghost use Rattle.latex2mathml_tex_grammar.specs.Rows;
-ghost use Rattle.latex2mathml_tex.specs.Meanings.{class_of, style_of};
+ghost use Rattle.latex2mathml_tex_units.specs.Meanings.{class_of, style_of};
 ghost use Rattle.latex2mathml_tex.specs.Models.{before_of, core_with, kind_of, row_rest, row_with, top};
 ghost use Rattle.latex2mathml_tex.specs.Shapes.{ChangesAt, ReplacesTop, delimiter_element, mapped_first, mark_element};
-ghost use Rattle.latex2mathml_tex.specs.Delimiters.{delimiter_text};
+ghost use Rattle.latex2mathml_tex_units.specs.Delimiters.{delimiter_text};
 
 use crate::atoms::{Before, Core, Kind, Row};
-use crate::meaning::{Class, Style};
 use latex2mathml_builder::attributes::{Attributes, Form, Side, Size, Space, Stretch};
 use latex2mathml_builder::builder::Builder;
 use latex2mathml_builder::tag::{Container, Pair, Token};
+use latex2mathml_tex_units::meaning::{Class, Style};
 use std::alloc::AllocError;
 
 /// Puts an operator that is a delimiter, or empty.
@@ -276,7 +276,8 @@ fn space_as(style: Style, class: Class, space: Option<Space>) -> Option<Space>
     }
 }
 
-/// Gives the uppermost element what its atom has there, which may be the first of its row: whether it is a prefix, or no space.
+/// Makes the uppermost element what its atom is there. A sign may be a prefix, or between two operands, and has no space in
+/// scripts. The atom may be the first of its row.
 fn adapt(builder: &mut Builder, style: Style, first: bool, before: Before, kind: Kind)
     ensures { ChangesAt
         (Atoms.element_there (style_of style) first (before_of before) (kind_of kind)) 0

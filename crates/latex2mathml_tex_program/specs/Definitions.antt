@@ -4,7 +4,7 @@ use Rattle.std.specs.{Borrow.Bor, Str.chars}
 use Rattle.latex2mathml.specs.declared.error.FileFault.{FileFault}
 use Rattle.latex2mathml.specs.declared.error.FileFault.TheVariants as file
 use Rattle.latex2mathml_tokens.specs.Refusal as tokens
-use Rattle.latex2mathml_tex.specs.{Errors.refusal_of, Positions.column_of, Positions.line_of}
+use Rattle.latex2mathml_tex_units.specs.{Errors.refusal_of, Positions.column_of, Positions.line_of}
 use Rattle.latex2mathml_tex_grammar.specs.{DefinitionTexts.AreRefused, DefinitionTexts.Defines, Macros.Table, UsualMacros.usual_macros}
 use Rattle.latex2mathml_tex_program.specs.declared.fault.Fault.{Fault}
 use Rattle.latex2mathml_tex_program.specs.declared.fault.Fault.TheVariants.{Refused, RefusedDefinition, UnreadDefinitions}

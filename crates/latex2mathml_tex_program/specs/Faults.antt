@@ -1,7 +1,7 @@
 -- The texts of faults.
 use Rattle.std.specs.Prelude.{ℕ, List, ◌++◌, codes, decimal}
 use Rattle.latex2mathml.specs.Faults as files
-use Rattle.latex2mathml_tex.specs.{ErrorTexts.error_kind_text, ErrorTexts.error_text, declared.position.Position.Position}
+use Rattle.latex2mathml_tex_units.specs.{ErrorTexts.error_kind_text, ErrorTexts.error_text, declared.position.Position.Position}
 use Rattle.latex2mathml_tex_program.specs.declared.fault.Fault.{Fault}
 use Rattle.latex2mathml_tex_program.specs.declared.fault.Fault.TheVariants.{File, Refused, RefusedDefinition, UnreadDefinitions}
 

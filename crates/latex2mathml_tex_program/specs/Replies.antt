@@ -1,6 +1,7 @@
 -- What the program makes of formulas, where some macros hold. A text is its bytes here.
 use Rattle.std.specs.Prelude.{◌≡◌, ◌≢◌, ℕ, Bool, true, false, List, [], ◌∷◌, ◌++◌, IfSome, codes}
-use Rattle.latex2mathml_tex.specs.{ErrorTexts.error_text, Answers.IsAnswer, Answers.IsAnswerWithSource, Answers.IsRefusal, Answers.style_in, Errors.refusal_of, declared.error.TexError.TexError}
+use Rattle.latex2mathml_tex_units.specs.{ErrorTexts.error_text, Errors.refusal_of, declared.error.TexError.TexError}
+use Rattle.latex2mathml_tex.specs.Answers.{IsAnswer, IsAnswerWithSource, IsRefusal, style_in}
 use Rattle.latex2mathml_tex_grammar.specs.{Macros.Table, Refusal.Refusal, Symbols.Style}
 use Rattle.latex2mathml_tokens.specs.declared.DisplayStyle.{DisplayStyle}
 use Rattle.latex2mathml_tokens.specs.declared.DisplayStyle.TheVariants.{Block, Inline}

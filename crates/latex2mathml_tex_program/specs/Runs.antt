@@ -5,7 +5,7 @@ use Rattle.std.specs.Io.KnownBytes.{Keeps}
 use Rattle.latex2mathml.specs.{Inputs.IsReadFault, Inputs.IsWholeText}
 use Rattle.latex2mathml.specs.Streams.{CanGoOn, Gives, IsStopped, StreamState, Takes}
 use Rattle.latex2mathml.specs.declared.error.FileFault.{FileFault}
-use Rattle.latex2mathml_tex.specs.Errors.{refusal_of}
+use Rattle.latex2mathml_tex_units.specs.Errors.{refusal_of}
 use Rattle.latex2mathml_tex_grammar.specs.{Macros.Table, Refusal.Refusal}
 use Rattle.latex2mathml_tex_program.specs.Definitions.{Hold, IsRefusedFault, IsTextAsked, IsUnreadFault}
 use Rattle.latex2mathml_tex_program.specs.Replies.{AreFormulas, AreReplies, IsLine, IsNoMarkup}

@@ -1,7 +1,7 @@
 //! Definitions in files, whose macros the formulas may use.
 ghost use Rattle.std.specs.Prelude.{ℕ, List, Option, None, IfErr, IfOk, IfSome, string_bytes};
 ghost use Rattle.std.specs.Str.{chars};
-ghost use Rattle.latex2mathml_tex.specs.{Errors.refusal_of, MacroTables.macros_in};
+ghost use Rattle.latex2mathml_tex_units.specs.{Errors.refusal_of, MacroTables.macros_in};
 ghost use Rattle.latex2mathml_tex_grammar.specs.{DefinitionTexts.AreRefused, Macros.SameMacros, Macros.Table};
 ghost use Rattle.latex2mathml_tex_program.specs.Definitions.{Hold, IsFaultIn, IsKnownAs, IsRefusedFault, IsTextAsked, IsUnread, IsUnreadFault};
 

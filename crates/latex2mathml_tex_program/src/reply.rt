@@ -1,6 +1,6 @@
 //! What is put out for formulas.
 ghost use Rattle.std.specs.Prelude.{◌≡◌, ℕ, ◌++◌, ◌∷◌, [], codes, IfErr, IfOk, IfSome, List, OnOk, string_bytes};
-ghost use Rattle.latex2mathml_tex.specs.{ErrorTexts.error_text, Errors.refusal_of, MacroTables.Holding};
+ghost use Rattle.latex2mathml_tex_units.specs.{ErrorTexts.error_text, Errors.refusal_of, MacroTables.Holding};
 ghost use Rattle.latex2mathml_tex_program.specs.Replies.{AreFormulas, AreReplies, HoldsFormula, IsLine, IsMarkup, IsNoMarkup, IsReply};
 
 use crate::request::{Display, Format};

@@ -2,7 +2,7 @@
 ghost use Rattle.std.specs.Prelude.{◌≡◌, ◌++◌, ℕ, [], IfErr, IfOk, IfSome, IsTrue, List, codes, string_bytes};
 ghost use Rattle.std.specs.Io.KnownBytes.{IsAtEnd};
 ghost use Rattle.latex2mathml.specs.Streams.{CanGoOn};
-ghost use Rattle.latex2mathml_tex.specs.{Errors.refusal_of, MacroTables.Holding};
+ghost use Rattle.latex2mathml_tex_units.specs.{Errors.refusal_of, MacroTables.Holding};
 ghost use Rattle.latex2mathml_tex_program.specs.{Exits.IsServed, Exits.LinePrinted, Faults.fault_line};
 ghost use Rattle.latex2mathml_tex_program.specs.Runs.{IsMade, IsNotMade, IsPut, IsRun};
 

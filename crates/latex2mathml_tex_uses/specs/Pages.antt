@@ -1,7 +1,8 @@
 -- Formulas of pages whose preamble may define macros. A text is its bytes here.
 use Rattle.std.specs.Prelude.{◌≡◌, ℕ, List, Option, Some, None, IfSome}
 use Rattle.std.specs.{Borrow.Bor, Str.chars}
-use Rattle.latex2mathml_tex.specs.{Answers.IsRefusal, Errors.refusal_of}
+use Rattle.latex2mathml_tex_units.specs.Errors.{refusal_of}
+use Rattle.latex2mathml_tex.specs.Answers.{IsRefusal}
 use Rattle.latex2mathml_tex_grammar.specs.{DefinitionTexts.AreRefused, DefinitionTexts.Defines, Macros.Table, Refusal.Refusal, Symbols.Style, UsualMacros.usual_macros}
 use Rattle.latex2mathml_tex_uses.specs.declared.page.PageError.{PageError}
 use Rattle.latex2mathml_tex_uses.specs.declared.page.PageError.TheVariants.{Formula, Preamble}

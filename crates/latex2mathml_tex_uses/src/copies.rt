@@ -1,7 +1,8 @@
 //! Formulas that readers copy.
 ghost use Rattle.std.specs.Prelude.{IfOk, string_bytes};
 ghost use Rattle.latex2mathml_elements.specs.Characters.{IsAllowed};
-ghost use Rattle.latex2mathml_tex.specs.{Answers.IsAnswerWithSource, Answers.IsRefusal, Answers.style_in, Errors.IfRefused};
+ghost use Rattle.latex2mathml_tex_units.specs.Errors.{IfRefused};
+ghost use Rattle.latex2mathml_tex.specs.Answers.{IsAnswerWithSource, IsRefusal, style_in};
 ghost use Rattle.latex2mathml_tex_grammar.specs.UsualMacros.{usual_macros};
 
 use latex2mathml_tex::{DisplayStyle, Macros, TexError, tex_to_mathml_with_source};

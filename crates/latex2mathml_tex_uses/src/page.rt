@@ -1,7 +1,8 @@
 //! Pages whose preamble may define macros.
 ghost use Rattle.std.specs.Prelude.{IfErr, IfOk, string_bytes};
 ghost use Rattle.latex2mathml_elements.specs.Characters.{IsAllowed};
-ghost use Rattle.latex2mathml_tex.specs.{Answers.IsAnswer, Answers.style_in, Errors.IfRefused, MacroTables.AreDefined, MacroTables.macros_in};
+ghost use Rattle.latex2mathml_tex_units.specs.{Errors.IfRefused, MacroTables.AreDefined, MacroTables.macros_in};
+ghost use Rattle.latex2mathml_tex.specs.Answers.{IsAnswer, style_in};
 ghost use Rattle.latex2mathml_tex_grammar.specs.{Macros.SameMacros, Macros.Table};
 ghost use Rattle.latex2mathml_tex_uses.specs.Pages.{HoldOnPage, IsPreambleRefusal, IsUnshown};
 

@@ -1,5 +1,5 @@
-pub mod Candidates
 pub mod Escapes
+pub mod Halves
 pub mod Keys
 pub mod Lookups
 pub mod Order

@@ -5,8 +5,8 @@ use Rattle.std.specs.declared.cmp.Ordering.TheVariants.{Less, Equal, Greater}
 use Rattle.std.specs.Ordering.{nat_cmp, is_lt, is_eq, ordering_reverse}
 use Rattle.std.specs.{Cmp.Lexicographic.slice_cmp, Cmp.Lexicographic.texts_ties, Prelude.⊤, Str.bytes_eq, List.AllPass}
 use Rattle.std.proofs.{lemmas.Cmp.nat_list_cmp_total, lemmas.Slice.Eq.bytes_eq-Decides, lemmas.Bool.Decides.nat_tests}
-use Rattle.latex2mathml_tokens.specs.{Commands.entry_token, Ordered.ascending, Ordered.before_first, Tok.Tok}
-use Rattle.latex2mathml_tokens.specs.{declared.token.meaning.Entry.Entry, Entries.entry_of, Keys.has_key}
+use Rattle.latex2mathml_tokens.specs.{Commands.command_entries, Commands.entry_token, Ordered.ascending, Ordered.before_first, Tok.Tok}
+use Rattle.latex2mathml_tokens.specs.{declared.token.table.Entry.Entry, Entries.entry_of, Keys.has_key}
 use Rattle.std.proofs.lemmas.List.{map-append, length-take, length-drop}
 use Rattle.std.proofs.lemmas.List.Elements.{All-drop, All-take}
 use Rattle.std.proofs.{Math.Nat.pow-suc, Math.Nat.mul-le-mul_right, Math.Pow.pow_mono}
@@ -78,7 +78,7 @@ less_apart a b h = texts_ties a b ∙ ap is_eq h
 greater_apart : (a b : List ℕ) → slice_cmp nat_cmp a b ≡ Less → bytes_eq b a ≡ false
 greater_apart a b h = texts_ties b a ∙ ap is_eq (nat_list_cmp_total.antisymm b a ∙ ap ordering_reverse h)
 
-equal_names : (a b : List ℕ) → slice_cmp nat_cmp a b ≡ Equal → b ≡ a
+pub equal_names : (a b : List ℕ) → slice_cmp nat_cmp a b ≡ Equal → b ≡ a
 equal_names a b h = sym ((bytes_eq-Decides a b).0 (texts_ties a b ∙ ap is_eq h))
 
 none_after : (name : List ℕ) (rs : Entries) → IsBefore name rs → entry_token rs name ≡ None
@@ -94,36 +94,40 @@ pub stands_left : (name : List ℕ) (xs : Entries) (x : List ℕ × Tok) (ys : E
 stands_left name [] x ys a h = none_after name (x ∷ ys) (h, IsBefore-less name x.0 ys h a.0)
 stands_left name (z ∷ xs) x ys a h = rw (stands_left name xs x ys a.1 h)
 
--- and that of a greater name right of x
-pub stands_right : (name : List ℕ) (xs : Entries) (x : List ℕ × Tok) (ys : Entries) → InOrder (xs ++ x ∷ ys) → slice_cmp nat_cmp x.0 name ≡ Less → entry_token (xs ++ x ∷ ys) name ≡ entry_token ys name
-stands_right name [] x ys a h = rw (less_apart x.0 name h)
-stands_right name (z ∷ xs) x ys a h =
-    rw (less_apart z.0 name (nat_list_cmp_total.trans z.0 x.0 name (IsBefore-middle z.0 xs x ys a.0) h)) (stands_right name xs x ys a.1 h)
+-- no entry left of x counts where each name that is less than that of x is less than this one
+pub not_left : (name : List ℕ) (xs : Entries) (x : List ℕ × Tok) (ys : Entries) → InOrder (xs ++ x ∷ ys) → ((a : List ℕ) → slice_cmp nat_cmp a x.0 ≡ Less → slice_cmp nat_cmp a name ≡ Less) → entry_token (xs ++ x ∷ ys) name ≡ entry_token (x ∷ ys) name
+not_left name [] x ys a less = refl
+not_left name (z ∷ xs) x ys a less = rw (less_apart z.0 name (less z.0 (IsBefore-middle z.0 xs x ys a.0))) (not_left name xs x ys a.1 less)
+
+pub after_greater : (a b name : List ℕ) → slice_cmp nat_cmp b name ≡ Less → slice_cmp nat_cmp a b ≡ Less → slice_cmp nat_cmp a name ≡ Less
+after_greater a b name h k = nat_list_cmp_total.trans a b name k h
+
+-- the entry of a greater name stands right of x
+stands_right : (name : List ℕ) (xs : Entries) (x : List ℕ × Tok) (ys : Entries) → InOrder (xs ++ x ∷ ys) → slice_cmp nat_cmp x.0 name ≡ Less → entry_token (xs ++ x ∷ ys) name ≡ entry_token ys name
+stands_right name xs x ys a h = not_left name xs x ys a (λ z. after_greater z x.0 name h) ∙ rw (less_apart x.0 name h) refl
 
 -- and that of the same name is x
-pub stands_here : (name : List ℕ) (xs : Entries) (x : List ℕ × Tok) (ys : Entries) → InOrder (xs ++ x ∷ ys) → x.0 ≡ name → entry_token (xs ++ x ∷ ys) name ≡ Some x.1
-stands_here name [] x ys a e = rw ((bytes_eq-Decides x.0 name).1 e)
-stands_here name (z ∷ xs) x ys a e =
-    rw (less_apart z.0 name (subst (λ n. slice_cmp nat_cmp z.0 n ≡ Less) e (IsBefore-middle z.0 xs x ys a.0))) (stands_here name xs x ys a.1 e)
+stands_here : (name : List ℕ) (xs : Entries) (x : List ℕ × Tok) (ys : Entries) → InOrder (xs ++ x ∷ ys) → x.0 ≡ name → entry_token (xs ++ x ∷ ys) name ≡ Some x.1
+stands_here name xs x ys a e = not_left name xs x ys a (λ z l. subst (λ n. slice_cmp nat_cmp z n ≡ Less) e l) ∙ rw ((bytes_eq-Decides x.0 name).1 e) refl
 
 IsBefore-left : (a : List ℕ) (xs ys : Entries) → IsBefore a (xs ++ ys) → IsBefore a xs
 IsBefore-left a [] ys h = tt
 IsBefore-left a (z ∷ xs) ys h = (h.0, IsBefore-left a xs ys h.1)
 
-pub InOrder-left : (xs ys : Entries) → InOrder (xs ++ ys) → InOrder xs
+InOrder-left : (xs ys : Entries) → InOrder (xs ++ ys) → InOrder xs
 InOrder-left [] ys a = tt
 InOrder-left (z ∷ xs) ys a = (IsBefore-left z.0 xs ys a.0, InOrder-left xs ys a.1)
 
-pub InOrder-right : (xs ys : Entries) → InOrder (xs ++ ys) → InOrder ys
+InOrder-right : (xs ys : Entries) → InOrder (xs ++ ys) → InOrder ys
 InOrder-right [] ys a = a
 InOrder-right (z ∷ xs) ys a = InOrder-right xs ys a.1
 
 -- the invariant of the search: the entries that are left decide the look-up, and n comparisons bound their number
-pub record Narrowed (table entries : List Entry) (name : List ℕ) (n : ℕ) : Type 0 where
-  pub same : entry_token (map entry_of table) name ≡ entry_token (map entry_of entries) name
+pub record Narrowed (entries : List Entry) (name : List ℕ) (n : ℕ) : Type 0 where
+  pub same : entry_token command_entries name ≡ entry_token (map entry_of entries) name
   pub ordered : InOrder (map entry_of entries)
   pub halved : length entries * 2 ^ n ≤ 511
-  pub some : 0 < length table → 0 < length entries + n
+  pub some : 1 ≤ n
   pub few : n ≤ 9
   pub keyed : AllPass has_key entries
 
@@ -157,8 +161,8 @@ nonempty : (entries : List Entry) → (length entries == 0) ≡ false → 0 < le
 nonempty entries h = grind (arith, nat_tests)
 
 -- the left half remains if the name is less than the middle entry's
-half_left : (table entries : List Entry) (name : List ℕ) (n : ℕ) (d : Entry) → Narrowed table entries name n → 0 < length entries → slice_cmp nat_cmp name (get_or entries (length entries / 2) d).name.now ≡ Less → Narrowed table (take (length entries / 2) entries) name (n + 1)
-half_left table entries name n d inv h less =
+half_left : (entries : List Entry) (name : List ℕ) (n : ℕ) (d : Entry) → Narrowed entries name n → 0 < length entries → slice_cmp nat_cmp name (get_or entries (length entries / 2) d).name.now ≡ Less → Narrowed (take (length entries / 2) entries) name (n + 1)
+half_left entries name n d inv h less =
     let m : ℕ = length entries / 2 in
     let in_entries : m < length entries = omega arith in
     let split = split_entries entries m d in_entries in
@@ -168,13 +172,13 @@ half_left table entries name n d inv h less =
       ordered = InOrder-left _ _ a;
       halved = half_le _ (length entries) n (take_half entries) inv.halved;
       few = at_most_nine (length entries) n h inv.halved;
-      some = λ _. omega arith;
+      some = omega arith;
       keyed = All-take (λ e. has_key e ≡ true) m entries inv.keyed;
     }
 
 -- and the right half if it is greater
-half_right : (table entries : List Entry) (name : List ℕ) (n : ℕ) (d : Entry) → Narrowed table entries name n → 0 < length entries → slice_cmp nat_cmp name (get_or entries (length entries / 2) d).name.now ≡ Greater → Narrowed table (drop (length entries / 2 + 1) entries) name (n + 1)
-half_right table entries name n d inv h greater =
+half_right : (entries : List Entry) (name : List ℕ) (n : ℕ) (d : Entry) → Narrowed entries name n → 0 < length entries → slice_cmp nat_cmp name (get_or entries (length entries / 2) d).name.now ≡ Greater → Narrowed (drop (length entries / 2 + 1) entries) name (n + 1)
+half_right entries name n d inv h greater =
     let m : ℕ = length entries / 2 in
     let in_entries : m < length entries = omega arith in
     let split = split_entries entries m d in_entries in
@@ -186,13 +190,13 @@ half_right table entries name n d inv h greater =
       ordered = right.1;
       halved = half_le _ (length entries) n (drop_half entries h) inv.halved;
       few = at_most_nine (length entries) n h inv.halved;
-      some = λ _. omega arith;
+      some = omega arith;
       keyed = All-drop (λ e. has_key e ≡ true) (m + 1) entries inv.keyed;
     }
 
 -- the middle entry is the result if its name is equal
-pub found : (table entries : List Entry) (name : List ℕ) (n : ℕ) (d : Entry) (o : Ordering) → Narrowed table entries name n → (length entries == 0) ≡ false → o ≡ slice_cmp nat_cmp name (get_or entries (length entries / 2) d).name.now → o ≡ Equal → entry_token (map entry_of table) name ≡ Some (entry_of (get_or entries (length entries / 2) d)).1
-found table entries name n d o inv h' cmp is =
+pub found : (entries : List Entry) (name : List ℕ) (n : ℕ) (d : Entry) (o : Ordering) → Narrowed entries name n → (length entries == 0) ≡ false → o ≡ slice_cmp nat_cmp name (get_or entries (length entries / 2) d).name.now → o ≡ Equal → entry_token command_entries name ≡ Some (entry_of (get_or entries (length entries / 2) d)).1
+found entries name n d o inv h' cmp is =
     let h : 0 < length entries = nonempty entries h' in
     let equal = sym cmp ∙ is in
     let m : ℕ = length entries / 2 in
@@ -202,17 +206,17 @@ found table entries name n d o inv h' cmp is =
     inv.same ∙ ap (λ r. entry_token r name) split ∙ stands_here name _ (entry_of (get_or entries m d)) _ a (equal_names name (get_or entries m d).name.now equal)
 
 -- no entry is the result if none is left
-pub none_left : (table entries : List Entry) (name : List ℕ) (n : ℕ) → Narrowed table entries name n → length entries ≡ 0 → entry_token (map entry_of table) name ≡ None
-none_left table [] name n inv h = inv.same
-none_left table (r ∷ entries) name n inv h = absurd (omega arith)
+pub none_left : (entries : List Entry) (name : List ℕ) (n : ℕ) → Narrowed entries name n → length entries ≡ 0 → entry_token command_entries name ≡ None
+none_left [] name n inv h = inv.same
+none_left (r ∷ entries) name n inv h = absurd (omega arith)
 
--- before the first comparison
-pub whole_table : (table : List Entry) (name : List ℕ) → ascending (map entry_of table) ≡ true → length table < 512 → AllPass has_key table → Narrowed table table name 0
-whole_table table name a few keyed = record { same = refl; ordered = InOrder-ascending _ a; halved = omega arith; some = λ h. omega arith; few = omega arith; keyed = keyed }
+-- the search begins with one half of the table, which one comparison chose
+pub begins : (entries : List Entry) (name : List ℕ) (n : ℕ) → entry_token (map entry_of entries) name ≡ entry_token command_entries name → ascending (map entry_of entries) ≡ true → length entries < 256 → AllPass has_key entries → n ≡ 1 → Narrowed entries name n
+begins entries name n same a few keyed e = rw e (record { same = sym same; ordered = InOrder-ascending _ a; halved = omega arith; some = omega arith; few = omega arith; keyed = keyed })
 
 -- the two halves, for the search's own variables
-pub kept_left : (table entries entries' : List Entry) (name : List ℕ) (n n' : ℕ) (d : Entry) (o : Ordering) → Narrowed table entries name n → (length entries == 0) ≡ false → o ≡ slice_cmp nat_cmp name (get_or entries (length entries / 2) d).name.now → o ≡ Less → entries' ≡ take (length entries / 2) entries → n' ≡ n + 1 → Narrowed table entries' name n'
-kept_left table entries entries' name n n' d o inv h cmp is e f = rw (e, f) (half_left table entries name n d inv (nonempty entries h) (sym cmp ∙ is))
+pub kept_left : (entries entries' : List Entry) (name : List ℕ) (n n' : ℕ) (d : Entry) (o : Ordering) → Narrowed entries name n → (length entries == 0) ≡ false → o ≡ slice_cmp nat_cmp name (get_or entries (length entries / 2) d).name.now → o ≡ Less → entries' ≡ take (length entries / 2) entries → n' ≡ n + 1 → Narrowed entries' name n'
+kept_left entries entries' name n n' d o inv h cmp is e f = rw (e, f) (half_left entries name n d inv (nonempty entries h) (sym cmp ∙ is))
 
-pub kept_right : (table entries entries' : List Entry) (name : List ℕ) (n n' : ℕ) (d : Entry) (o : Ordering) → Narrowed table entries name n → (length entries == 0) ≡ false → o ≡ slice_cmp nat_cmp name (get_or entries (length entries / 2) d).name.now → o ≡ Greater → entries' ≡ drop (length entries / 2 + 1) entries → n' ≡ n + 1 → Narrowed table entries' name n'
-kept_right table entries entries' name n n' d o inv h cmp is e f = rw (e, f) (half_right table entries name n d inv (nonempty entries h) (sym cmp ∙ is))
+pub kept_right : (entries entries' : List Entry) (name : List ℕ) (n n' : ℕ) (d : Entry) (o : Ordering) → Narrowed entries name n → (length entries == 0) ≡ false → o ≡ slice_cmp nat_cmp name (get_or entries (length entries / 2) d).name.now → o ≡ Greater → entries' ≡ drop (length entries / 2 + 1) entries → n' ≡ n + 1 → Narrowed entries' name n'
+kept_right entries entries' name n n' d o inv h cmp is e f = rw (e, f) (half_right entries name n d inv (nonempty entries h) (sym cmp ∙ is))

@@ -1,6 +1,6 @@
 -- The key of a name: its first eight bytes as a number, with zeros after its end.
 use Rattle.std.specs.Prelude.{ℕ, zero, suc, ◌+◌, ◌*◌, List, Bool, true, ◌&&◌, get_or, nat_eq, nat_lt}
-use Rattle.latex2mathml_tokens.specs.declared.token.meaning.Entry.{Entry}
+use Rattle.latex2mathml_tokens.specs.declared.token.table.Entry.{Entry}
 
 -- the first n bytes as a number, the first with the greatest weight
 abbrev pub number : ℕ → List ℕ → ℕ

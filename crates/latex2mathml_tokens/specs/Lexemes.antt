@@ -1,4 +1,5 @@
 -- The token that a lexeme is: a text is its bytes, and a name its text.
+use Rattle.std.specs.Prelude.{Bool, true, false}
 use Rattle.latex2mathml_tokens.specs.Names.{function_text, limit_text, paren_text, size_text}
 use Rattle.latex2mathml_tokens.specs.Tok.{Tok, Illegal, EOF, Begin, End, Ampersand, NewLine, Left, Right, Middle, Paren, LBrace, RBrace, Frac, Underscore, Circumflex, Binom, Overset, Underset, Overbrace, Underbrace, Sqrt, Integral, Lim, Space, Style, Big, Over, Under, Operator, BigOp, Letter, Number, Function, OperatorName, Slashed, Text, Command}
 use Rattle.latex2mathml_tokens.specs.declared.lexeme.Lexeme.{Lexeme}
@@ -42,3 +43,9 @@ lexeme_tok lexeme.OperatorName = OperatorName
 lexeme_tok lexeme.Slashed = Slashed
 lexeme_tok lexeme.Text = Text
 lexeme_tok (lexeme.Command text) = Command text.now
+
+-- the token has a text of its own, for which the code needs memory
+abbrev pub owns_text : Tok → Bool
+owns_text (Number text) = true
+owns_text (Command text) = true
+owns_text t = false

@@ -4,7 +4,6 @@ pub mod Commands
 pub mod Discreteness
 pub mod Entries
 pub mod Escape
-pub mod Index
 pub mod Keys
 pub mod Lexemes
 pub mod Names

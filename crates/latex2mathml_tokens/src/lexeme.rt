@@ -1,6 +1,6 @@
 //! Tokens that borrow their texts. The reader and the parser pass them by value, and a refusal makes a [`Token`] of one.
-ghost use Rattle.std.specs.Prelude.{◌≡◌, ◌≤◌, IfOk};
-ghost use Rattle.latex2mathml_tokens.specs.{Commands.command_token, Lexemes.lexeme_tok, Tok.tok};
+ghost use Rattle.std.specs.Prelude.{◌≡◌, ◌≤◌, IfOk, IsFalse, IsOk};
+ghost use Rattle.latex2mathml_tokens.specs.{Commands.command_token, Lexemes.lexeme_tok, Lexemes.owns_text, Tok.tok};
 
 use crate::DisplayStyle;
 use crate::attribute::{Accent, Variant};
@@ -97,9 +97,9 @@ impl<'a> Lexeme<'a> {
         ensures at_least { 1 ≤ result.1 }
         ensures at_most { result.1 ≤ 9 }
     {
-        let (entry, comparisons) = look_up(name);
-        let lexeme = match entry {
-            Some(entry) => entry.meaning.lexeme(),
+        let (found, comparisons) = look_up(name);
+        let lexeme = match found {
+            Some(lexeme) => lexeme,
             None => Lexeme::Command(name),
         };
         (lexeme, comparisons)
@@ -108,6 +108,14 @@ impl<'a> Lexeme<'a> {
     /// The token, with texts of its own. An `Err` comes when out of memory for one, and leaves nothing.
     pub fn token(self, alloc: Global) -> Result<Token, AllocError>
         ensures { IfOk result (λ token. tok token ≡ lexeme_tok self.entry) }
+    {
+        self.owned(alloc)
+    }
+
+    /// The same. This contract says too which tokens need no memory.
+    pub(crate) fn owned(self, alloc: Global) -> Result<Token, AllocError>
+        ensures token { IfOk result (λ token. tok token ≡ lexeme_tok self.entry) }
+        ensures no_text { IsFalse (owns_text (lexeme_tok self.entry)) → IsOk result }
     {
         match self {
             Lexeme::Illegal(c) => Ok(Token::Illegal(c)),

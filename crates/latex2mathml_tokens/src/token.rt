@@ -3,15 +3,13 @@ ghost use Rattle.std.specs.Prelude.{◌≡◌, ◌≤◌, ◌↔◌, IsOk, IsSom
 ghost use Rattle.latex2mathml_tokens.specs.Commands.{command_entries, command_token, entry_token};
 ghost use Rattle.latex2mathml_tokens.specs.{Discreteness.same_tok, Discreteness.tok-discrete, Same.same_laws, Tok.tok};
 
-mod index;
-pub(crate) mod meaning;
 pub(crate) mod search;
 mod table;
 pub mod text;
 
 use crate::DisplayStyle;
 use crate::attribute::{Accent, Variant};
-use search::look_up;
+use crate::lexeme::Lexeme;
 use std::alloc::{AllocError, Global};
 
 /// What a slice of a formula stands for.
@@ -108,7 +106,6 @@ impl Token {
     }
 
     /// The same, with the number of names of the command table that were compared, also for an `Err`.
-    #[tactic(auto, unfolding(crate::specs::Commands::command_token))]
     pub fn from_command_counted(
         alloc: Global,
         command: &str,
@@ -119,12 +116,9 @@ impl Token {
         ensures at_least { 1 ≤ compared.new }
         ensures at_most { compared.new ≤ 9 }
     {
-        let (entry, comparisons) = look_up(command);
+        let (lexeme, comparisons) = Lexeme::of_command(command);
         *compared = u128::from(comparisons);
-        match entry {
-            Some(entry) => Ok(entry.meaning.token()),
-            None => Ok(Token::Command(String::from_str(alloc, command)?)),
-        }
+        lexeme.owned(alloc)
     }
 
     /// Returns a token with the same contents, or an `Err` when out of memory for its text.

@@ -6,7 +6,7 @@ ghost use Rattle.latex2mathml_tokens.specs.Refusal.{IfRefused, InvalidNumberOfDo
 
 use crate::document::plain::Plain;
 use crate::document::{NoCut, Piece, Pieces, check_cut};
-use latex2mathml_formulas::Converter;
+use latex2mathml_parser::Converter;
 use latex2mathml_tokens::{DisplayStyle, LatexError};
 use std::alloc::{AllocError, Global};
 

@@ -1,6 +1,6 @@
 //! Plain text, as the cutter gives it.
 ghost use Rattle.std.specs.Prelude.{IsFalse};
-ghost use Rattle.latex2mathml_formulas.specs.Dollars.{IsDollarFree};
+ghost use Rattle.latex2mathml_grammar.specs.Dollars.{IsDollarFree};
 
 /// Text in which no formula begins or ends.
 #[derive(Debug, Clone, Copy)]

@@ -4,10 +4,10 @@ ghost use Rattle.latex2mathml_tex.specs.Models.{context_of};
 ghost use Rattle.latex2mathml_tex.specs.Steps.{BeginsIn, CanBegin, Advances, LeadsOn};
 
 use crate::atoms::{Context, Row};
-use crate::meaning::Style;
 use crate::parse::frames::{Ending, Frame, Last};
 use crate::parse::{Parser, State};
 use crate::shapes::put_arrow;
+use latex2mathml_tex_units::meaning::Style;
 use std::alloc::AllocError;
 
 impl<'a> Parser<'a> {

@@ -5,21 +5,21 @@ ghost use Rattle.latex2mathml_tex.specs.Frames.{Start, last_count, made_of};
 ghost use Rattle.latex2mathml_tex.specs.{Models.core_with, Models.operand_with, Models.top};
 ghost use Rattle.latex2mathml_tex_grammar.specs.Makes;
 ghost use Rattle.latex2mathml_elements.specs.Element.{Element};
-ghost use Rattle.latex2mathml_tex.specs.Meanings.{class_of};
+ghost use Rattle.latex2mathml_tex_units.specs.Meanings.{class_of};
 ghost use Rattle.latex2mathml_tex.specs.declared.atoms.{Core.Core, Operand.Operand};
 ghost use Rattle.latex2mathml_tex.specs.Steps.{Begins, CanMake, FirstRead, Holds, HoldsIn, Advances, LeadsOn, Ready, core_made, elements_of};
 
 use crate::atoms::{Context, Core, Kind, Operand, Row, Scripts};
 use crate::boxes::put_in_box;
-use crate::error::TexErrorKind;
 use crate::fractions::put_fraction;
-use crate::meaning::{Class, LimitPlace};
 use crate::outlines::put_outlined;
 use crate::parse::frames::{First, Frame, Last};
 use crate::parse::{Parser, State};
 use crate::shapes::{make_base, put_accent, put_brace, put_stack, with_atom};
 use latex2mathml_builder::attributes::{Attributes, Side};
 use latex2mathml_builder::tag::{Container, Pair, Triple};
+use latex2mathml_tex_units::error::TexErrorKind;
+use latex2mathml_tex_units::meaning::{Class, LimitPlace};
 use std::alloc::AllocError;
 
 impl<'a> Parser<'a> {

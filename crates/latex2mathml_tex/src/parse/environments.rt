@@ -6,17 +6,18 @@ ghost use Rattle.latex2mathml_tex_grammar.specs.Environments;
 ghost use Rattle.latex2mathml_tex_grammar.specs.{Meaning.BeginTable};
 ghost use Rattle.latex2mathml_tex_grammar.specs.Scanning.{BeforeArgument, ColumnList, Number};
 ghost use Rattle.latex2mathml_tex_grammar.specs.Rules.{alignment_rule, argument_rule, environment_rule, listed_rule, meaning_rule, most_columns, rows_rule, takes_found};
-ghost use Rattle.latex2mathml_tex.specs.{Models.context_of, Scans.argument_of, Tables.environment_of};
+ghost use Rattle.latex2mathml_tex_units.specs.{Scans.argument_of, Environments.environment_of};
+ghost use Rattle.latex2mathml_tex.specs.Models.{context_of};
 ghost use Rattle.latex2mathml_tex.specs.Steps.{BeginsIn, CanBegin, Advances, LeadsOn};
 
 use crate::atoms::Context;
-use crate::environments;
-use crate::environments::{Bracket, Environment};
-use crate::error::TexErrorKind;
 use crate::parse::frames::{Table, TableKind};
 use crate::parse::{Parser, State};
-use crate::scanning::{Argument, Spot};
 use latex2mathml_builder::columns::{Column, Columns};
+use latex2mathml_tex_units::environments;
+use latex2mathml_tex_units::environments::{Bracket, Environment};
+use latex2mathml_tex_units::error::TexErrorKind;
+use latex2mathml_tex_units::scanning::{Argument, Spot};
 use std::alloc::AllocError;
 
 impl<'a> Parser<'a> {

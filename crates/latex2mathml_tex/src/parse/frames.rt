@@ -5,18 +5,21 @@ ghost use Rattle.latex2mathml_tex_grammar.specs.{Refusal.refusal_at, Starts.unen
 ghost use Rattle.latex2mathml_elements.specs.Columns.{column_at};
 ghost use Rattle.latex2mathml_builder.specs.Columns.{columns_of};
 ghost use Rattle.latex2mathml_tex.specs.Frames.{ending_of};
-ghost use Rattle.latex2mathml_tex.specs.{Errors.kind_of_error, Meanings.style_of, Models.before_of, Tables.style_in, Tables.table_end};
-ghost use Rattle.latex2mathml_tex.specs.Innermost.{IsInnermost, begun_row, empty_row, frame_context};
-ghost use Rattle.latex2mathml_tex.specs.Taking.{piece_of};
+ghost use Rattle.latex2mathml_tex_units.specs.{Errors.kind_of_error, Meanings.style_of};
+ghost use Rattle.latex2mathml_tex.specs.{Models.before_of, Tables.style_in, Tables.table_end};
+ghost use Rattle.latex2mathml_tex.specs.Innermost.{IsInnermost, begun_row, empty_row, frame_context, frame_row};
+ghost use Rattle.latex2mathml_tex_units.specs.Taking.{piece_of};
 
 use crate::atoms::{Before, Context, Core, Row, Scripts, Words};
-use crate::environments::Environment;
-use crate::error::TexErrorKind;
-use crate::meaning::{Alphabet, Class, FractionRule, LimitPlace, OperandBox, Style};
 use crate::outlines::Outline;
-use crate::unit::Piece;
 use latex2mathml_builder::attributes::{Side, Stretch};
 use latex2mathml_builder::columns::{Column, Columns};
+use latex2mathml_tex_units::environments::Environment;
+use latex2mathml_tex_units::error::TexErrorKind;
+use latex2mathml_tex_units::meaning::{
+    Alphabet, Class, FractionRule, LimitPlace, OperandBox, Style,
+};
+use latex2mathml_tex_units::unit::Piece;
 use std::alloc::{AllocError, Global};
 
 /// Up to what the atoms of a row stand, and what the row is for.
@@ -226,6 +229,16 @@ impl Frame {
             },
         }
     }
+
+    /// Its row with its context, if it is a row.
+    fn row(&self) -> (Context, Row)
+        ensures { result ≡ frame_row self.now }
+    {
+        match self {
+            Frame::Row(_, _, context, row) => (*context, *row),
+            other => ((*other).context(), Row::empty()),
+        }
+    }
 }
 
 /// What was begun, the innermost last. Where nothing was begun, the row of the whole formula is the innermost.
@@ -258,20 +271,6 @@ impl Frames {
         Ok(())
     }
 
-    /// Puts a frame in place of the innermost one, which may be the row of the whole formula.
-    pub(crate) fn replace(&mut self, frame: Frame) -> Result<(), AllocError>
-        ensures { OnOk result ((style : Style) (f : Frame) (others : List Frame)
-            → IsInnermost style self.old.stack.items f others
-            → self.new.stack.items ≡ others ++ frame ∷ []) }
-    {
-        let len = self.stack.as_slice().len();
-        if len == 0 {
-            return self.push(frame);
-        }
-        self.stack[len - 1] = frame;
-        Ok(())
-    }
-
     /// The innermost frame, in a formula of this style.
     #[inline(always)]
     pub(crate) fn innermost(&self, style: Style) -> Frame
@@ -281,6 +280,35 @@ impl Frames {
             Some(&frame) => frame,
             None => text_row(style),
         }
+    }
+
+    /// The innermost frame's row with its context, if the frame is a row, in a formula of this style. A frame is long, so no
+    /// more of it is copied.
+    pub(crate) fn row(&self, style: Style) -> (Context, Row)
+        ensures { (f : Frame) × ((others : List Frame)
+            × (IsInnermost style self.now.stack.items f others × (result ≡ frame_row f))) }
+    {
+        match self.stack.as_slice().last() {
+            Some(frame) => frame.row(),
+            None => text_row(style).row(),
+        }
+    }
+
+    /// Puts this row in place of the innermost frame's, if the frame is a row, in a formula of this style.
+    pub(crate) fn set_row(&mut self, style: Style, row: Row) -> Result<(), AllocError>
+        ensures { OnOk result
+            ((e : Ending) (place : ℕ) (c : Context) (old : Row) (others : List Frame)
+            → IsInnermost style self.old.stack.items (Frame.Row e place c old) others
+            → self.new.stack.items ≡ others ++ Frame.Row e place c row ∷ []) }
+    {
+        let len = self.stack.as_slice().len();
+        if len == 0 {
+            return self.push(Frame::Row(Ending::Text, 0, text_context(style), row));
+        }
+        if let Frame::Row(_, _, _, old) = &mut self.stack[len - 1] {
+            *old = row;
+        }
+        Ok(())
     }
 
     /// Takes off the innermost frame, in a formula of this style.
@@ -298,9 +326,15 @@ impl Frames {
 fn text_row(style: Style) -> Frame
     ensures { result ≡ begun_row style }
 {
-    let context = Context {
+    Frame::Row(Ending::Text, 0, text_context(style), Row::empty())
+}
+
+/// In what the atoms of a whole formula of this style are read.
+fn text_context(style: Style) -> Context
+    ensures { result ≡ record { style = style; alphabet = None } }
+{
+    Context {
         style,
         alphabet: None,
-    };
-    Frame::Row(Ending::Text, 0, context, Row::empty())
+    }
 }

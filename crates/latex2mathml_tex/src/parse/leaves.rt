@@ -9,21 +9,22 @@ ghost use Rattle.latex2mathml_tex_grammar.specs.Rules.{a_symbol, gives};
 ghost use Rattle.latex2mathml_tex_grammar.specs.Commands.{symbol_of};
 ghost use Rattle.latex2mathml_tex.specs.{Models.context_of, declared.atoms.Context.Context};
 ghost use Rattle.latex2mathml_elements.specs.{Element.Element};
-ghost use Rattle.latex2mathml_tex.specs.{Frames.Start, Left.units_at, Meanings.alphabet_of, Meanings.limit_place_of, Models.core_with};
-ghost use Rattle.latex2mathml_tex.specs.Meanings;
+ghost use Rattle.latex2mathml_tex_units.specs.{Left.units_at, Meanings.alphabet_of, Meanings.limit_place_of};
+ghost use Rattle.latex2mathml_tex.specs.{Frames.Start, Models.core_with};
+ghost use Rattle.latex2mathml_tex_units.specs.Meanings;
 ghost use Rattle.latex2mathml_tex.specs.Numbers.{digit_in};
 ghost use Rattle.latex2mathml_tex.specs.Steps.{Begins, CanBegin, Holds, Advances, LeadsOn, NumberBegins, PointBegins};
 
-use crate::alphabets::in_alphabet;
 use crate::atoms::{Core, Kind};
-use crate::input::Input;
-use crate::meaning::{Alphabet, Class, LimitPlace, Symbol};
 use crate::parse::symbols::{put_letter, put_symbol, put_upright_letter};
 use crate::parse::{Parser, State};
-use crate::signs::symbol_of;
 use latex2mathml_builder::attributes::Attributes;
 use latex2mathml_builder::builder::Builder;
 use latex2mathml_builder::tag::Token;
+use latex2mathml_tex_units::alphabets::in_alphabet;
+use latex2mathml_tex_units::input::Input;
+use latex2mathml_tex_units::meaning::{Alphabet, Class, LimitPlace, Symbol};
+use latex2mathml_tex_units::signs::symbol_of;
 use std::alloc::AllocError;
 
 impl<'a> Parser<'a> {

@@ -1,22 +1,23 @@
 //! Rows: how each atom of one begins, how it is put behind the others, and how a row ends.
 ghost use Rattle.std.specs.Prelude.{◌≡◌, ◌≢◌, ◌+◌, ◌≤◌, ℕ, false};
 ghost use Rattle.latex2mathml_tex_grammar.specs.{Makes.no_scripts, Meaning.Beside, Starts.empty_base, Starts.ends};
-ghost use Rattle.latex2mathml_tex.specs.{Frames.ending_count, Frames.ending_of, Meanings.change_of, Models.row_count, Taking.piece_of, Frames.Start};
+ghost use Rattle.latex2mathml_tex_units.specs.{Meanings.change_of, Taking.piece_of};
+ghost use Rattle.latex2mathml_tex.specs.{Frames.ending_count, Frames.ending_of, Models.row_count, Frames.Start};
 ghost use Rattle.latex2mathml_tex.specs.Steps.{Awaits, AwaitsAtom, BeginsDivider, BeginsRest, CanBegin, CanMake, ClosesRow, EndsFormula, EndsRow, EndsText, EndsWithText, HasElements, HoldsIn, InnermostIs, Advances, LeadsOn, MadeAtom, Ready, Took, TookMark, TookUnmarked, atom_made, core_made, ending_weight, level, row_makes, Closes, Follows, Holds, to_do};
 ghost use Rattle.latex2mathml_tex.specs.declared.atoms.{Context.Context, Row.Row};
 
 use crate::atoms::{Context, Core, Kind, Operand, Row, Scripts, Words};
-use crate::commands;
-use crate::error::TexErrorKind;
-use crate::meaning::{Change, Class, LimitPlace, Meaning, Style};
 use crate::parse::frames::{Ending, Frame, Last, Table};
 use crate::parse::scripts::{Mark, mark_of};
 use crate::parse::{Parser, State};
 use crate::rests::{divide, finish, recolor, restyle};
 use crate::shapes::{enclose, lower_dividers, put_divider, put_row, with_atom};
-use crate::unit::{Next, Piece, Unit};
 use latex2mathml_builder::attributes::Attributes;
 use latex2mathml_builder::tag::Container;
+use latex2mathml_tex_units::commands;
+use latex2mathml_tex_units::error::TexErrorKind;
+use latex2mathml_tex_units::meaning::{Change, Class, LimitPlace, Meaning, Style};
+use latex2mathml_tex_units::unit::{Next, Piece, Unit};
 use std::alloc::AllocError;
 
 impl<'a> Parser<'a> {
@@ -171,12 +172,9 @@ impl<'a> Parser<'a> {
         ensures holds { LeadsOn (MadeAtom core) self.old self.new result }
         ensures step { Advances 2 self.old self.new result }
     {
-        let Frame::Row(ending, place, context, row) = self.frames.innermost(self.style) else {
-            unreachable!()
-        };
+        let (context, row) = self.frames.row(self.style);
         let row = with_atom(&mut self.builder, context.style, row, core)?;
-        self.frames
-            .replace(Frame::Row(ending, place, context, row))?;
+        self.frames.set_row(self.style, row)?;
         Ok(State::Next)
     }
 

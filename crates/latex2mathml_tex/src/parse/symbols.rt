@@ -5,16 +5,17 @@ ghost use Rattle.latex2mathml_elements.specs.{Attributes.plain, Element.Mo, Elem
 ghost use Rattle.latex2mathml_tex_grammar.specs.Makes;
 ghost use Rattle.latex2mathml_tex_grammar.specs.Makes.{core};
 ghost use Rattle.latex2mathml_tex_grammar.specs.{Atoms.Plain, Atoms.atom, Symbols.Operator};
-ghost use Rattle.latex2mathml_tex.specs.{Meanings.alphabet_of, Meanings.class_of, Meanings.limit_place_of, Models.core_with, Models.kind_of};
-ghost use Rattle.latex2mathml_tex.specs.Meanings;
+ghost use Rattle.latex2mathml_tex_units.specs.Meanings.{alphabet_of, class_of, limit_place_of};
+ghost use Rattle.latex2mathml_tex.specs.Models.{core_with, kind_of};
+ghost use Rattle.latex2mathml_tex_units.specs.Meanings;
 ghost use Rattle.latex2mathml_tex.specs.Shapes.{PutsCore};
 
-use crate::alphabets::in_alphabet;
 use crate::atoms::{Core, Kind};
-use crate::meaning::{Alphabet, Class, LimitPlace, Symbol};
 use latex2mathml_builder::attributes::{Attributes, Form, Space, Stretch};
 use latex2mathml_builder::builder::Builder;
 use latex2mathml_builder::tag::Token;
+use latex2mathml_tex_units::alphabets::in_alphabet;
+use latex2mathml_tex_units::meaning::{Alphabet, Class, LimitPlace, Symbol};
 use std::alloc::AllocError;
 
 /// Puts a character as it is, or in an alphabet.

@@ -6,23 +6,25 @@ ghost use Rattle.latex2mathml_builder.specs.Names.{math_style_of};
 ghost use Rattle.latex2mathml_tex_grammar.specs.Tables;
 ghost use Rattle.latex2mathml_tex_grammar.specs.{Meaning.Substack, Starts.cell_end, Tables.a_row, Rows.row_element};
 ghost use Rattle.latex2mathml_tex_grammar.specs.Rules.{meaning_rule, rows_of_text};
-ghost use Rattle.latex2mathml_tex.specs.{Frames.context_at, Meanings.style_of, Models.context_of, Scans.spot_of, Taking.piece_of};
-ghost use Rattle.latex2mathml_tex.specs.Tables.{cell_end_of, delimiter_texts};
+ghost use Rattle.latex2mathml_tex_units.specs.{Meanings.style_of, Scans.spot_of, Taking.piece_of};
+ghost use Rattle.latex2mathml_tex.specs.{Frames.context_at, Models.context_of};
+ghost use Rattle.latex2mathml_tex_units.specs.Environments.{delimiter_texts};
+ghost use Rattle.latex2mathml_tex.specs.Tables.{cell_end_of};
 ghost use Rattle.latex2mathml_tex.specs.Steps.{BeginsIn, CanBegin, CanMake, Begins, ClosesCell, EndsCells, EndsRows, GoesOnTable, Advances, LeadsOn, MakesTable, TookText, core_made, level};
 
 use crate::atoms::{Context, Core, Kind, Row};
-use crate::environments::Environment;
-use crate::error::TexErrorKind;
-use crate::meaning::{Class, Style};
 use crate::parse::frames::{Ending, Frame, Table, TableKind};
 use crate::parse::{Parser, State};
-use crate::scanning::{Argument, Spot};
 use crate::shapes::{enclose, put_row};
-use crate::unit::{Piece, Unit};
 use latex2mathml_builder::attributes::{Attributes, MathStyle};
 use latex2mathml_builder::builder::Builder;
 use latex2mathml_builder::columns::{Column, Columns};
 use latex2mathml_builder::tag::Container;
+use latex2mathml_tex_units::environments::Environment;
+use latex2mathml_tex_units::error::TexErrorKind;
+use latex2mathml_tex_units::meaning::{Class, Style};
+use latex2mathml_tex_units::scanning::{Argument, Spot};
+use latex2mathml_tex_units::unit::{Piece, Unit};
 use std::alloc::AllocError;
 
 /// What ends a cell.

@@ -5,14 +5,15 @@ ghost use Rattle.latex2mathml_tex_grammar.specs.Colors;
 ghost use Rattle.latex2mathml_tex_grammar.specs.Lengths;
 ghost use Rattle.latex2mathml_tex_grammar.specs.Refusal.{LengthTooLarge, UnknownColor, refusal_at};
 ghost use Rattle.latex2mathml_tex_grammar.specs.Scanning.{BeforeArgument, ColorName};
-ghost use Rattle.latex2mathml_tex.specs.{Scans.spot_of, Steps.TookValue};
+ghost use Rattle.latex2mathml_tex_units.specs.Scans.{spot_of};
+ghost use Rattle.latex2mathml_tex.specs.Steps.{TookValue};
 
-use crate::colors::color_of;
-use crate::error::TexErrorKind;
-use crate::lengths::width_of;
 use crate::parse::Parser;
-use crate::scanning::{Argument, Spot};
 use latex2mathml_builder::around::Color;
+use latex2mathml_tex_units::colors::color_of;
+use latex2mathml_tex_units::error::TexErrorKind;
+use latex2mathml_tex_units::lengths::width_of;
+use latex2mathml_tex_units::scanning::{Argument, Spot};
 use std::alloc::AllocError;
 
 impl<'a> Parser<'a> {

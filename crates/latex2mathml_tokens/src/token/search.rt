@@ -1,82 +1,53 @@
 //! The look-up in the command table.
 ghost use Rattle.std.specs.Prelude.{◌≡◌, ◌+◌, ◌<◌, ◌≤◌, ◌^◌, map, get_or, length, MatchOption, IsTrue, Some, None};
 ghost use Rattle.std.specs.{List.AllPass, Ordering.nat_cmp, Cmp.Lexicographic.slice_cmp};
-ghost use Rattle.latex2mathml_tokens.specs.{Commands.command_entries, Commands.entry_token, Ordered.ascending, Entries.entry_of};
+ghost use Rattle.latex2mathml_tokens.specs.Commands.{command_entries, entry_token};
+ghost use Rattle.latex2mathml_tokens.specs.{Entries.entry_of, Lexemes.lexeme_tok, Ordered.ascending};
 ghost use Rattle.latex2mathml_tokens.specs.Keys.{has_key, is_key};
 
-use crate::token::index::places;
-use crate::token::meaning::Entry;
-use crate::token::table::table;
+use crate::lexeme::Lexeme;
+use crate::token::table::{Entry, first, last};
 use std::cmp::Ordering;
 
-/// Returns the entry of the command with this name, if there is one, and the number of names that were compared.
-pub(crate) fn look_up(name: &str) -> (Option<Entry>, u64)
+/// Returns what the command with this name stands for, if it has an entry, and the number of names that were compared. Each
+/// comparison halves the entries that are left, until one is equal or none is left.
+pub(crate) fn look_up(name: &str) -> (Option<Lexeme<'static>>, u64)
     ensures entry { MatchOption result.0 (entry_token command_entries name.now ≡ None)
-        (λ entry. entry_token command_entries name.now ≡ Some (entry_of entry).1) }
+        (λ lexeme. entry_token command_entries name.now ≡ Some (lexeme_tok lexeme)) }
     ensures at_least { 1 ≤ result.1 }
     ensures at_most { result.1 ≤ 9 }
 {
-    search(candidates(name), name)
-}
-
-/// The entries whose names begin with the first byte of this one. Where there are none, all entries of the table.
-fn candidates(name: &str) -> &'static [Entry]
-    ensures same { entry_token (map entry_of result.now) name.now ≡ entry_token command_entries name.now }
-    ensures ordered { IsTrue (ascending (map entry_of result.now)) }
-    ensures few { length result.now < 512 }
-    ensures some { 0 < length result.now }
-    ensures keyed { AllPass has_key result.now }
-{
-    let entries = entries();
-    let Some(&byte) = name.as_bytes().first() else {
-        return entries;
-    };
-    if byte >= 128 {
-        return entries;
-    }
-    let (start, end) = places(byte);
-    if start < end {
-        &entries[start..end]
-    } else {
-        entries
-    }
-}
-
-/// The entries of the table: each name is less than the next, and there are fewer than 512.
-fn entries() -> &'static [Entry]
-    ensures same { map entry_of result.now ≡ command_entries }
-    ensures ordered { IsTrue (ascending (map entry_of result.now)) }
-    ensures few { length result.now < 512 }
-    ensures some { 0 < length result.now }
-    ensures keyed { AllPass has_key result.now }
-{
-    table()
-}
-
-/// Returns the entry with this name among sorted entries, and the number of names that were compared. Each comparison
-/// halves the entries that are left, until one is equal or none is left.
-fn search(table: &[Entry], name: &str) -> (Option<Entry>, u64)
-    requires ordered { IsTrue (ascending (map entry_of table.now)) }
-    requires few { length table.now < 512 }
-    requires keyed { AllPass has_key table.now }
-    ensures entry { MatchOption result.0 (entry_token (map entry_of table.now) name.now ≡ None)
-        (λ entry. entry_token (map entry_of table.now) name.now ≡ Some (entry_of entry).1) }
-    ensures at_least { 0 < length table.now → 1 ≤ result.1 }
-    ensures at_most { result.1 ≤ 9 }
-{
     let key = key_of(name);
-    let mut entries = table;
     let mut comparisons = 0;
+    let mut entries = half(key, name, &mut comparisons);
     while !entries.is_empty() {
         let middle = entries.len() / 2;
         let entry = &entries[middle];
         match compare(key, name, entry, &mut comparisons) {
-            Ordering::Equal => return (Some(*entry), comparisons),
+            Ordering::Equal => return (Some(entry.lexeme), comparisons),
             Ordering::Less => entries = &entries[..middle],
             Ordering::Greater => entries = &entries[middle + 1..],
         }
     }
     (None, comparisons)
+}
+
+/// The half of the table in which an entry with this name stands, if there is one.
+fn half(key: u64, name: &str, comparisons: &mut u64) -> &'static [Entry]
+    requires room { comparisons.old + 1 < 2 ^ 64 }
+    requires key { IsTrue (is_key key name.now) }
+    ensures same { entry_token (map entry_of result.now) name.now
+        ≡ entry_token command_entries name.now }
+    ensures ordered { IsTrue (ascending (map entry_of result.now)) }
+    ensures few { length result.now < 256 }
+    ensures keyed { AllPass has_key result.now }
+    ensures counts { comparisons.new ≡ comparisons.old + 1 }
+{
+    let (first, last) = (first::entries(), last::entries());
+    match compare(key, name, &last[0], comparisons) {
+        Ordering::Less => first,
+        _ => last,
+    }
 }
 
 /// Compares the name, which has this key, with the entry's name, and counts the comparison. Most names differ in their

@@ -1,6 +1,6 @@
 use Rattle.std.proofs.{Common.arith, lemmas.Str.Pattern.ends_char}
 use Rattle.latex2mathml.specs.Documents.{whole}
-use Rattle.latex2mathml_formulas.specs.Dollars.{backslash}
+use Rattle.latex2mathml_grammar.specs.Dollars.{backslash}
 use Rattle.latex2mathml.proofs.PlainTexts.{ends_whole, unended}
 use Rattle.latex2mathml.proofs.document.until_dollar.Goals as goal
 

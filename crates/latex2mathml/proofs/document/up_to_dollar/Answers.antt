@@ -1,7 +1,7 @@
 use Rattle.std.proofs.Common.{length, sym, subst, arith}
 use Rattle.std.specs.Prelude.{Some, None}
 use Rattle.std.proofs.lemmas.Str.Pattern.{find_char}
-use Rattle.latex2mathml_formulas.specs.Dollars.{dollar, IsDollarFree}
+use Rattle.latex2mathml_grammar.specs.Dollars.{dollar, IsDollarFree}
 use Rattle.latex2mathml.proofs.PlainTexts.{none_before}
 use Rattle.latex2mathml.proofs.document.up_to_dollar.Goals as goal
 

@@ -1,5 +1,5 @@
 use Rattle.std.proofs.{Common.arith, lemmas.Str.Pattern.contains_char}
-use Rattle.latex2mathml_formulas.specs.Dollars.{dollar}
+use Rattle.latex2mathml_grammar.specs.Dollars.{dollar}
 use Rattle.latex2mathml.proofs.PlainTexts.{tells_dollars}
 use Rattle.latex2mathml.proofs.input.holds_dollar.Goals as goal
 

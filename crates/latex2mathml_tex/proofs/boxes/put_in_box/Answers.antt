@@ -2,7 +2,7 @@ use Rattle.std.proofs.Common.{◌∙◌, ◌∷◌, ap, drop}
 use Rattle.std.proofs.lemmas.Result.{on_ok_weaker}
 use Rattle.latex2mathml_builder.specs.{Arounds.around_first, Built.elements_in}
 use Rattle.latex2mathml_tex_grammar.specs.Makes.{in_box}
-use Rattle.latex2mathml_tex.specs.Meanings.{box_of}
+use Rattle.latex2mathml_tex_units.specs.Meanings.{box_of}
 use Rattle.latex2mathml_tex.proofs.Boxing.{in_one, in_two}
 use Rattle.latex2mathml_tex.proofs.boxes.put_in_box.Goals as goal
 use Rattle.latex2mathml_tex.proofs.boxes.put_in_box.Goals.{in-Some+in_ok-surround, in_default}

@@ -1,6 +1,7 @@
 use Rattle.std.proofs.Common.{◌≤◌, length}
 use Rattle.latex2mathml_tex.proofs.Answering.{read_row, refused}
-use Rattle.latex2mathml_tex.specs.{Errors.refusal_of, Steps.Holds, Steps.Ready, Steps.elements_of, Steps.start_of}
+use Rattle.latex2mathml_tex_units.specs.Errors.{refusal_of}
+use Rattle.latex2mathml_tex.specs.Steps.{Holds, Ready, elements_of, start_of}
 use Rattle.latex2mathml_tex.specs.declared.parse.State.TheVariants as state
 use Rattle.latex2mathml_tex.proofs.convert.read_formula.Goals as goal
 

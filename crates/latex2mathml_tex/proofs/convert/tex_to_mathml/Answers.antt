@@ -1,5 +1,6 @@
 use Rattle.std.proofs.Common.{refl}
-use Rattle.latex2mathml_tex.specs.{Answers.IsAnswer, Answers.style_in, MacroTables.macros_in}
+use Rattle.latex2mathml_tex_units.specs.MacroTables.{macros_in}
+use Rattle.latex2mathml_tex.specs.Answers.{IsAnswer, style_in}
 use Rattle.latex2mathml_tex.proofs.Answering.{appended, no_dollar, one_element, sound_text}
 use Rattle.latex2mathml_tex.proofs.convert.tex_to_mathml.Goals as goal
 

@@ -1,5 +1,6 @@
 use Rattle.std.proofs.Common.{refl}
-use Rattle.latex2mathml_tex.specs.{Answers.IsAnswerWithSource, Answers.style_in, MacroTables.macros_in}
+use Rattle.latex2mathml_tex_units.specs.MacroTables.{macros_in}
+use Rattle.latex2mathml_tex.specs.Answers.{IsAnswerWithSource, style_in}
 use Rattle.latex2mathml_tex.proofs.Answering.{appended, no_dollar_with_source, one_element_with_source, sound_text_with_source}
 use Rattle.latex2mathml_tex.proofs.convert.tex_to_mathml_with_source.Goals as goal
 

@@ -1,7 +1,8 @@
 use Rattle.std.proofs.Common.{◌≡◌, true}
 use Rattle.latex2mathml_tex_grammar.specs.Makes
 use Rattle.latex2mathml_builder.specs.Built.{elements_in}
-use Rattle.latex2mathml_tex.specs.{Delimiters.delimiter_text, Models.top}
+use Rattle.latex2mathml_tex_units.specs.Delimiters.{delimiter_text}
+use Rattle.latex2mathml_tex.specs.Models.{top}
 use Rattle.latex2mathml_tex.proofs.Outlined.{between_second, between_first}
 use Rattle.latex2mathml_tex.proofs.outlines.put_between_any.Goals as goal
 use Rattle.latex2mathml_tex.proofs.outlines.put_between_any.Goals.{else-is_none-via-then-is_none+else-is_none-2, else-is_none-via-else-is_none}

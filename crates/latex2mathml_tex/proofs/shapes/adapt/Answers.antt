@@ -1,7 +1,8 @@
 use Rattle.std.proofs.Common.{◌∙◌, ap, sym}
 use Rattle.latex2mathml_builder.specs.Built.{elements_in}
 use Rattle.latex2mathml_tex_grammar.specs.Atoms
-use Rattle.latex2mathml_tex.specs.{Meanings.style_of, Models.before_of, Models.kind_of}
+use Rattle.latex2mathml_tex_units.specs.Meanings.{style_of}
+use Rattle.latex2mathml_tex.specs.Models.{before_of, kind_of}
 use Rattle.latex2mathml_tex.specs.Shapes.{changed_at}
 use Rattle.latex2mathml_tex.proofs.Shaping.{infix_there, no_sign, spaced_sign, unchanged}
 use Rattle.latex2mathml_tex.proofs.shapes.adapt.Goals as goal

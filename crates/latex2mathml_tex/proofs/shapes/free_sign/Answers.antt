@@ -1,7 +1,7 @@
 use Rattle.std.proofs.Common.{◌∙◌, sym}
 use Rattle.latex2mathml_builder.specs.{Built.elements_in, Names.attributes_of, Names.token_of}
 use Rattle.latex2mathml_tex_grammar.specs.Atoms
-use Rattle.latex2mathml_tex.specs.Meanings.{class_of, style_of}
+use Rattle.latex2mathml_tex_units.specs.Meanings.{class_of, style_of}
 use Rattle.latex2mathml_tex.proofs.Shaping.{given_changed, no_operator_alone, no_sign_alone, unchanged_at}
 use Rattle.latex2mathml_tex.proofs.shapes.free_sign.Goals as goal
 

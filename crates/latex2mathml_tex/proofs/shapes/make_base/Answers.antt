@@ -1,7 +1,7 @@
 use Rattle.std.proofs.Common.{ap, length, refl, sym, ◌∙◌}
 use Rattle.latex2mathml_builder.specs.Built.{elements_in}
 use Rattle.latex2mathml_tex_grammar.specs.Atoms
-use Rattle.latex2mathml_tex.specs.Meanings.{class_of, style_of}
+use Rattle.latex2mathml_tex_units.specs.Meanings.{class_of, style_of}
 use Rattle.latex2mathml_tex.proofs.Shaping.{length_changed, no_base_changed, unchanged}
 use Rattle.latex2mathml_tex.proofs.shapes.make_base.Goals as goal
 

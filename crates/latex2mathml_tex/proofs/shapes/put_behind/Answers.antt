@@ -1,7 +1,8 @@
 use Rattle.std.proofs.Common.{◌≡◌, ◌+◌, ◌∙◌, suc, ap, arith, length, pos, sym, take}
 use Rattle.latex2mathml_builder.specs.Built.{elements_in}
 use Rattle.latex2mathml_elements.specs.Element.{space}
-use Rattle.latex2mathml_tex.specs.{Meanings.style_of, Models.before_of, Models.kind_of}
+use Rattle.latex2mathml_tex_units.specs.Meanings.{style_of}
+use Rattle.latex2mathml_tex.specs.Models.{before_of, kind_of}
 use Rattle.latex2mathml_tex.proofs.Shaping.{length_changed, length_parted, put_adapted}
 use Rattle.latex2mathml_tex.proofs.shapes.put_behind.Goals as goal
 use Rattle.latex2mathml_tex.proofs.shapes.put_behind.Goals.{After-adapt, In_ok-space_below}

@@ -1,7 +1,7 @@
 use Rattle.std.proofs.Common.{⊎_elim, sym}
 use Rattle.latex2mathml_builder.specs.Built.{elements_in}
 use Rattle.latex2mathml_tex_grammar.specs.Atoms
-use Rattle.latex2mathml_tex.specs.Meanings.{style_of}
+use Rattle.latex2mathml_tex_units.specs.Meanings.{style_of}
 use Rattle.latex2mathml_tex.proofs.Shaping.{unchanged}
 use Rattle.latex2mathml_tex.proofs.shapes.tighten.Goals as goal
 

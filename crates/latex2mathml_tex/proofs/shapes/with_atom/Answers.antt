@@ -2,7 +2,8 @@ use Rattle.std.proofs.Common.{rules, ◌≡◌, ◌∙◌, ◌||◌, ◌&&◌, a
 use Rattle.latex2mathml_builder.specs.Built.{elements_in}
 use Rattle.latex2mathml_tex_grammar.specs.Atoms
 use Rattle.latex2mathml_tex_grammar.specs.Rows
-use Rattle.latex2mathml_tex.specs.{Meanings.style_of, Models.before_of, Models.kind_of, Models.restyled_with, Models.settled_count, Models.top, Models.under_with}
+use Rattle.latex2mathml_tex_units.specs.Meanings.{style_of}
+use Rattle.latex2mathml_tex.specs.Models.{before_of, kind_of, restyled_with, settled_count, top, under_with}
 use Rattle.latex2mathml_tex.proofs.Shaping.{class_behind, put_high, same_below, same_far_below, same_row}
 use Rattle.latex2mathml_tex.proofs.shapes.with_atom.Goals as goal
 use Rattle.latex2mathml_tex.proofs.shapes.with_atom.Goals.{then-row, else-row}

@@ -1,5 +1,6 @@
 use Rattle.std.proofs.lemmas.Result.{on_ok_weaker}
-use Rattle.latex2mathml_tex.specs.{Answers.IsRefusal, Answers.style_in, Errors.refusal_of}
+use Rattle.latex2mathml_tex_units.specs.Errors.{refusal_of}
+use Rattle.latex2mathml_tex.specs.Answers.{IsRefusal, style_in}
 use Rattle.latex2mathml_tex_program.specs.Replies.{IsNoMarkup}
 use Rattle.latex2mathml_tex_program.proofs.Refusals.{refusals_weaker}
 use Rattle.latex2mathml_tex_program.proofs.reply.append_markup.Goals as goal

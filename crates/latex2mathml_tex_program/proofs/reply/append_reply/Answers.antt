@@ -1,6 +1,6 @@
 use Rattle.std.proofs.Common.{◌≡◌, ◌∙◌, ◌∷◌, ◌++◌, [], ap, codes, refl, string_bytes}
 use Rattle.std.proofs.lemmas.Result.{on_ok_weaker}
-use Rattle.latex2mathml_tex.specs.ErrorTexts.{error_text}
+use Rattle.latex2mathml_tex_units.specs.ErrorTexts.{error_text}
 use Rattle.latex2mathml_tex_program.specs.Replies.{answered, refused}
 use Rattle.latex2mathml_tex_program.proofs.reply.append_reply.Goals as goal
 

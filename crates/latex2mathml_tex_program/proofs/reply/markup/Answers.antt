@@ -1,6 +1,7 @@
 use Rattle.std.proofs.Common.{string_bytes}
 use Rattle.std.proofs.lemmas.Result.{IfOk-weaker}
-use Rattle.latex2mathml_tex.specs.{Answers.IsAnswer, Answers.IsAnswerWithSource, Answers.IsRefusal, Answers.style_in, Errors.refusal_of}
+use Rattle.latex2mathml_tex_units.specs.Errors.{refusal_of}
+use Rattle.latex2mathml_tex.specs.Answers.{IsAnswer, IsAnswerWithSource, IsRefusal, style_in}
 use Rattle.latex2mathml_tex_program.specs.Replies.{IsMarkup, IsNoMarkup}
 use Rattle.latex2mathml_tex_program.proofs.Refusals.{refusals_weaker}
 use Rattle.latex2mathml_tex_program.proofs.reply.markup.Goals as goal

@@ -1,7 +1,7 @@
 use Rattle.std.proofs.Common.{length, string_bytes}
 use denote.Text.{Utf8}
 use denote.Shadow.{shadow}
-use Rattle.latex2mathml_tex.specs.MacroTables.{Holding}
+use Rattle.latex2mathml_tex_units.specs.MacroTables.{Holding}
 use Rattle.latex2mathml_tex_program.proofs.Formulas.{AreRepliedSoFar}
 use Rattle.latex2mathml_tex_program.proofs.reply.replies.Given as goal
 

@@ -1,4 +1,4 @@
-use Rattle.latex2mathml_tex.specs.Errors.{refusal_of}
+use Rattle.latex2mathml_tex_units.specs.Errors.{refusal_of}
 use Rattle.latex2mathml_tex_program.specs.{Replies.IsNoMarkup, Runs.IsNotMade}
 use Rattle.latex2mathml_tex_program.proofs.Refusals.{refusals_weaker}
 use Rattle.latex2mathml_tex_program.proofs.serving.product.Goals as goal

@@ -1,5 +1,5 @@
 use Rattle.std.proofs.Common.{refl}
-use Rattle.latex2mathml_tex.specs.MacroTables.{macros_in}
+use Rattle.latex2mathml_tex_units.specs.MacroTables.{macros_in}
 use Rattle.latex2mathml_tex.proofs.Answering.{answered}
 use Rattle.latex2mathml_tex.proofs.convert.Converter.append.Goals as goal
 

@@ -1,8 +1,10 @@
 use Rattle.std.proofs.Common.{◌≡◌, ℕ, IfOk, Result, ap, subst, sym}
 use Rattle.latex2mathml_builder.specs.Built.{Built, elements_in}
 use Rattle.latex2mathml_tex_grammar.specs.{Symbols.Style, Units.Units}
-use Rattle.latex2mathml_tex.specs.{Frames.ReadsAs, Meanings.style_of, ReadRows.HasRead}
-use Rattle.latex2mathml_tex.specs.declared.{error.TexError.TexError, parse.Form.Form}
+use Rattle.latex2mathml_tex_units.specs.Meanings.{style_of}
+use Rattle.latex2mathml_tex.specs.{Frames.ReadsAs, ReadRows.HasRead}
+use Rattle.latex2mathml_tex_units.specs.declared.error.TexError.{TexError}
+use Rattle.latex2mathml_tex.specs.declared.parse.Form.{Form}
 use Rattle.latex2mathml_tex.proofs.convert.Converter.read_as.Goals as goal
 
 -- what was read stands in the builder that is kept

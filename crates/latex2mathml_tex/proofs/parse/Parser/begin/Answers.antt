@@ -1,6 +1,6 @@
 use Rattle.std.proofs.Common.{refl}
 use Rattle.latex2mathml_tex_grammar.specs.Refusal.{MissingArgument, UnopenedBrace, refusal_at}
-use Rattle.latex2mathml_tex.specs.declared.unit.Piece.TheVariants as piece
+use Rattle.latex2mathml_tex_units.specs.declared.unit.Piece.TheVariants as piece
 use Rattle.latex2mathml_tex.proofs.{Beginning.group_begins, Beginning.rule_refused, Beginning.unit_begins, Rows.refused_here}
 use Rattle.latex2mathml_tex.proofs.parse.Parser.begin.Goals as goal
 

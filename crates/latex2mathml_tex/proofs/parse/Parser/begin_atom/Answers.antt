@@ -1,6 +1,6 @@
 use Rattle.std.proofs.Common.{◌∙◌, ap, refl, sym}
 use Rattle.latex2mathml_tex_grammar.specs.Starts.{change_by, start_of_mark}
-use Rattle.latex2mathml_tex.specs.Taking.{piece_of}
+use Rattle.latex2mathml_tex_units.specs.Taking.{piece_of}
 use Rattle.latex2mathml_tex.proofs.Beginnings.{begins_scripts, divider_begun, rule_begun, scripts_begun, unmarked_begun}
 use Rattle.latex2mathml_tex.proofs.parse.Parser.begin_atom.Goals as goal
 

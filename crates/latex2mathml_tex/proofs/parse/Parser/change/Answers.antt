@@ -3,7 +3,7 @@ use Rattle.latex2mathml_tex_grammar.specs.Refusal.{SecondInfix, UnknownColor, re
 use Rattle.latex2mathml_tex_grammar.specs.Rests.{GoesOnIn, NoRest, begun_below, recolored, rest_of, restyled, settled, style_of_group}
 use Rattle.latex2mathml_tex_grammar.specs.Rules.{in_context, styled}
 use Rattle.latex2mathml_tex_grammar.specs.Symbols.{smaller}
-use Rattle.latex2mathml_tex.specs.Meanings.{alphabet_of, change_of, fraction_rule_of, style_of}
+use Rattle.latex2mathml_tex_units.specs.Meanings.{alphabet_of, change_of, fraction_rule_of, style_of}
 use Rattle.latex2mathml_tex.specs.{Models.context_of, Models.row_with, Steps.TookValue, Steps.elements_of, Steps.left_of}
 use Rattle.latex2mathml_builder.specs.Arounds as arounds
 use Rattle.latex2mathml_builder.specs.declared.around.Color.{Color}

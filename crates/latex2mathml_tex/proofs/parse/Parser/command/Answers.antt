@@ -1,7 +1,8 @@
 use Rattle.std.proofs.Common.{◌≡◌, Some, ap, option_map, refl, subst}
 use Rattle.latex2mathml_tex_grammar.specs.Refusal.{UnknownCommand, refusal_at}
 use Rattle.latex2mathml_tex_grammar.specs.Rules.{command_rule, refuses}
-use Rattle.latex2mathml_tex.specs.{Meanings.meaning_of, Models.context_of}
+use Rattle.latex2mathml_tex_units.specs.Meanings.{meaning_of}
+use Rattle.latex2mathml_tex.specs.Models.{context_of}
 use Rattle.latex2mathml_tex.specs.Steps.{Begins}
 use Rattle.latex2mathml_tex.proofs.{RuleSteps.begun, RuleSteps.rule_refuses}
 use Rattle.latex2mathml_tex.proofs.parse.Parser.command.Goals as goal

@@ -2,7 +2,8 @@ use Rattle.std.proofs.Common.{◌≡◌, ◌∙◌, Some, ap, arith, refl}
 use Rattle.latex2mathml_tex_grammar.specs.Refusal.{UnclosedBrace, refusal_at}
 use Rattle.latex2mathml_tex_grammar.specs.Starts.{is_close}
 use Rattle.latex2mathml_tex_grammar.specs.Units.{End, Next, Stop}
-use Rattle.latex2mathml_tex.specs.{Errors.refusal_of, Left.put_back, Left.units_at, Left.units_behind, Steps.left_of, Taking.kind_of, Taking.piece_of, Taking.unit_of}
+use Rattle.latex2mathml_tex_units.specs.{Errors.refusal_of, Left.put_back, Left.units_at, Left.units_behind, Taking.kind_of, Taking.piece_of, Taking.unit_of}
+use Rattle.latex2mathml_tex.specs.Steps.{left_of}
 use Rattle.latex2mathml_tex.specs.declared.parse.frames.Frame.TheVariants as frame
 use Rattle.latex2mathml_tex.proofs.Rows.{step_within}
 use Rattle.latex2mathml_tex.proofs.WordStarts.{other_piece, taken_innermost}

@@ -1,9 +1,9 @@
 use Rattle.std.proofs.Common.{◌≡◌, ◌≤◌, Some, ap, ◌∙◌, arith}
 use Rattle.latex2mathml_tex_grammar.specs.Next.{past_space, refusal_here}
 use Rattle.latex2mathml_tex_grammar.specs.Refusal.{MissingDelimiter}
-use Rattle.latex2mathml_tex.specs.{Delimiters.delimiter_text, Left.unit_count, Left.units_at}
+use Rattle.latex2mathml_tex_units.specs.{Delimiters.delimiter_text, Left.unit_count, Left.units_at}
 use Rattle.latex2mathml_tex.specs.Steps.{left_of}
-use Rattle.latex2mathml_tex.proofs.Nexts.{no_more_past_space, no_more_taken}
+use Rattle.latex2mathml_tex_units.proofs.Nexts.{no_more_past_space, no_more_taken}
 use Rattle.latex2mathml_tex_grammar.specs.Delimiters.{delimiter_of}
 use Rattle.std.proofs.Common.{[], ◌∷◌}
 use Rattle.latex2mathml_tex.proofs.Rows.{divider_put, no_divider, refused_here, refused_step, step_within}

@@ -4,7 +4,8 @@ use Rattle.latex2mathml_tex_grammar.specs.Refusal.{OtherName, refusal_at}
 use Rattle.latex2mathml_tex_grammar.specs.Rules.{Rule, ended_table}
 use Rattle.latex2mathml_tex_grammar.specs.Scanning.{BeforeArgument, Name}
 use Rattle.latex2mathml_builder.specs.Columns.{columns_of}
-use Rattle.latex2mathml_tex.specs.{Frames.context_at, Levels.CoreMade, Levels.RuleLeads, Steps.left_of, Steps.level, Tables.environment_of}
+use Rattle.latex2mathml_tex_units.specs.Environments.{environment_of}
+use Rattle.latex2mathml_tex.specs.{Frames.context_at, Levels.CoreMade, Levels.RuleLeads, Steps.left_of, Steps.level}
 use Rattle.latex2mathml_tex.proofs.{Leading.found, Leading.refused, Marks.core_refuses}
 use Rattle.latex2mathml_tex.proofs.TableRules.{ended_well, refused_behind, refused_behind_within, text_refused, text_within, took_none, took_some}
 use Rattle.latex2mathml_tex.proofs.parse.Parser.end_environment.Goals as goal

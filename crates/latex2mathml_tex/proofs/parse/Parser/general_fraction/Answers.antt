@@ -1,7 +1,8 @@
 use Rattle.std.proofs.Common.{◌≡◌, ◌∙◌, Option, ap, arith, option_map, subst, sym}
 use Rattle.latex2mathml_tex_grammar.specs.{Makes.outlined_fraction, Symbols.smaller}
 use Rattle.latex2mathml_tex_grammar.specs.Rules.{an_outline, an_outlined_fraction, in_context, of_two, own_style}
-use Rattle.latex2mathml_tex.specs.{Frames.after_first, Frames.context_at, HandedOn.TookBy, Meanings.style_of, Models.context_of, Outlines.outline_of}
+use Rattle.latex2mathml_tex_units.specs.Meanings.{style_of}
+use Rattle.latex2mathml_tex.specs.{Frames.after_first, Frames.context_at, TakenBy.TookBy, Models.context_of, Outlines.outline_of}
 use Rattle.latex2mathml_tex.specs.Steps.{Begins, level}
 use Rattle.latex2mathml_tex.specs.declared.outlines.Outline.{Outline}
 use Rattle.latex2mathml_tex.specs.declared.parse.frames.First.TheVariants as first

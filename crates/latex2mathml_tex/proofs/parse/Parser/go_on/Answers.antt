@@ -1,10 +1,10 @@
 use Rattle.std.proofs.Common.{◌≡◌, None, inl, inr, suc, ap, ◌∙◌, sym, arith}
 use Rattle.latex2mathml_tex_grammar.specs.{Next.past_space, Starts.mark_of}
-use Rattle.latex2mathml_tex.specs.{Left.put_back, Left.unit_count, Left.units_at, Taking.piece_of}
+use Rattle.latex2mathml_tex_units.specs.{Left.put_back, Left.unit_count, Left.units_at, Taking.piece_of}
 use Rattle.latex2mathml_tex.specs.Steps.{left_of}
-use Rattle.latex2mathml_tex.specs.declared.unit.Unit.{Unit}
-use Rattle.latex2mathml_tex.specs.declared.unit.Next.TheVariants as next
-use Rattle.latex2mathml_tex.proofs.Nexts.{no_more_past_space}
+use Rattle.latex2mathml_tex_units.specs.declared.unit.Unit.{Unit}
+use Rattle.latex2mathml_tex_units.specs.declared.unit.Next.TheVariants as next
+use Rattle.latex2mathml_tex_units.proofs.Nexts.{no_more_past_space}
 use Rattle.latex2mathml_tex.proofs.Rows.{scripts_made, step_within}
 use Rattle.latex2mathml_tex.proofs.Spaced.{made_spaced}
 use Rattle.latex2mathml_tex.proofs.parse.Parser.go_on.Goals as goal

@@ -7,7 +7,7 @@ use Rattle.latex2mathml_tex_grammar.specs.Rows.{as_base}
 use Rattle.latex2mathml_tex_grammar.specs.Rules.{gives, of_two, refuses, slashed, styled}
 use Rattle.latex2mathml_tex_grammar.specs.Symbols.{InScript, Relation}
 use Rattle.latex2mathml_tex.specs.{Frames.after_first, Frames.context_at}
-use Rattle.latex2mathml_tex.specs.Meanings.{class_of, style_of}
+use Rattle.latex2mathml_tex_units.specs.Meanings.{class_of, style_of}
 use Rattle.latex2mathml_tex.specs.Models.{context_of}
 use Rattle.latex2mathml_tex.specs.Steps.{Begins, level}
 use Rattle.latex2mathml_tex.specs.declared.parse.frames.First.TheVariants as first

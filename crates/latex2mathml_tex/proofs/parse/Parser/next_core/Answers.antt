@@ -1,6 +1,7 @@
 use Rattle.std.proofs.Common.{arith, refl}
 use Rattle.latex2mathml_tex_grammar.specs.Refusal.{MissingArgument, refusal_at}
-use Rattle.latex2mathml_tex.specs.{Left.units_at, Steps.left_of, Taking.kind_of}
+use Rattle.latex2mathml_tex_units.specs.{Left.units_at, Taking.kind_of}
+use Rattle.latex2mathml_tex.specs.Steps.{left_of}
 use Rattle.latex2mathml_tex.proofs.Beginning.{core_begins, ends_next, no_core_at_end, no_core_there, one_less_next, stops_next, taken_next}
 use Rattle.latex2mathml_tex.proofs.Rows.{refused_here, step_within}
 use Rattle.latex2mathml_tex.proofs.parse.Parser.next_core.Goals as goal

@@ -1,6 +1,7 @@
 use Rattle.std.proofs.Common.{arith, refl, sym, ◌∙◌}
 use Rattle.latex2mathml_tex_grammar.specs.Refusal.{MissingArgument, refusal_at}
-use Rattle.latex2mathml_tex.specs.{Left.units_at, Left.units_behind, Steps.left_of, Taking.kind_of}
+use Rattle.latex2mathml_tex_units.specs.{Left.units_at, Left.units_behind, Taking.kind_of}
+use Rattle.latex2mathml_tex.specs.Steps.{left_of}
 use Rattle.latex2mathml_tex.proofs.Beginning.{ends_next, no_more_next, no_operand_at_end, no_operand_begins, no_operand_there, one_less_next, refused_next, stands_next, stops_next}
 use Rattle.latex2mathml_tex.proofs.Rows.{refused_here, step_within}
 use Rattle.latex2mathml_tex.proofs.parse.Parser.next_operand.Goals as goal

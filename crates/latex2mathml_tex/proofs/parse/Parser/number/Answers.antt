@@ -2,12 +2,13 @@ use Rattle.std.proofs.Common.{◌≡◌, ◌≤◌, ◌∷◌, ◌++◌, [], Lis
 use Rattle.latex2mathml_builder.specs.Built.{elements_in}
 use Rattle.latex2mathml_tex_grammar.specs.{Makes.core, Makes.number, Next.digits_next, Symbols.Alphabet}
 use Rattle.latex2mathml_tex_grammar.specs.Rules.{a_character, a_digit, after_digits, decimal, gives}
-use Rattle.latex2mathml_tex.specs.{Frames.Start, Left.unit_count, Left.units_at, Meanings.alphabet_of, Models.context_of}
+use Rattle.latex2mathml_tex_units.specs.{Left.unit_count, Left.units_at, Meanings.alphabet_of}
+use Rattle.latex2mathml_tex.specs.{Frames.Start, Models.context_of}
 use Rattle.latex2mathml_tex.specs.Steps.{Begins, Holds, NumberBegins, elements_of, left_of}
 use Rattle.latex2mathml_tex.specs.declared.parse.Parser.{Parser}
 use Rattle.latex2mathml_tex.specs.declared.parse.State.TheVariants as state
 use Rattle.latex2mathml_tex.proofs.Digits.{longer_by_point, longer_number, no_more_behind_digits}
-use Rattle.latex2mathml_tex.proofs.Nexts.{no_more_taken}
+use Rattle.latex2mathml_tex_units.proofs.Nexts.{no_more_taken}
 use Rattle.latex2mathml_tex.proofs.Putting.{core_step, number_put, past_digits, past_none, past_units}
 use Rattle.latex2mathml_tex.proofs.parse.Parser.number.Goals as goal
 use Rattle.latex2mathml_tex.proofs.parse.Parser.number.Goals.{in-Some+in_ok-append_digit+in_ok-append_digit-2+in_ok-digits-2, in_default}

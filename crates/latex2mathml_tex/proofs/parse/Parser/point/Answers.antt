@@ -2,11 +2,12 @@ use Rattle.std.proofs.Common.{◌≡◌, ◌≤◌, ◌∷◌, ◌++◌, [], Lis
 use Rattle.latex2mathml_builder.specs.Built.{elements_in}
 use Rattle.latex2mathml_tex_grammar.specs.{Commands.symbol_of, Makes.core, Makes.number, Next.digits_next, Symbols.Alphabet}
 use Rattle.latex2mathml_tex_grammar.specs.Rules.{a_digit, a_symbol, decimal, gives}
-use Rattle.latex2mathml_tex.specs.{Left.unit_count, Left.units_at, Meanings.alphabet_of, Models.context_of}
+use Rattle.latex2mathml_tex_units.specs.{Left.unit_count, Left.units_at, Meanings.alphabet_of}
+use Rattle.latex2mathml_tex.specs.Models.{context_of}
 use Rattle.latex2mathml_tex.specs.Steps.{elements_of, left_of}
 use Rattle.latex2mathml_tex.specs.declared.parse.Parser.{Parser}
 use Rattle.latex2mathml_tex.proofs.Digits.{longer_number, no_more_behind_digits}
-use Rattle.latex2mathml_tex.proofs.Nexts.{no_more_taken}
+use Rattle.latex2mathml_tex_units.proofs.Nexts.{no_more_taken}
 use Rattle.latex2mathml_tex.proofs.Putting.{core_step, number_put, past_digits, past_none, past_units}
 use Rattle.latex2mathml_tex.proofs.parse.Parser.point.Goals as goal
 

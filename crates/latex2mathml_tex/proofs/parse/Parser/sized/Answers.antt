@@ -2,9 +2,10 @@ use Rattle.std.proofs.Common.{[], ◌∷◌, refl}
 use Rattle.latex2mathml_builder.specs.Names.{size_of}
 use Rattle.latex2mathml_tex_grammar.specs.{Delimiters.delimiter_of, Rules.gives}
 use Rattle.latex2mathml_tex_grammar.specs.Makes
-use Rattle.latex2mathml_tex.specs.{Delimiters.delimiter_text, Left.units_at, Meanings.class_of}
+use Rattle.latex2mathml_tex_units.specs.{Delimiters.delimiter_text, Left.units_at, Meanings.class_of}
 use Rattle.latex2mathml_tex.specs.Steps.{left_of}
-use Rattle.latex2mathml_tex.proofs.{RuleSteps.no_delimiter, RuleSteps.no_delimiter_step, RuleSteps.past_delimiter, Nexts.no_more_taken, Putting.core_put, Putting.core_step}
+use Rattle.latex2mathml_tex_units.proofs.Nexts.{no_more_taken}
+use Rattle.latex2mathml_tex.proofs.{RuleSteps.no_delimiter, RuleSteps.no_delimiter_step, RuleSteps.past_delimiter, Putting.core_put, Putting.core_step}
 use Rattle.latex2mathml_tex.proofs.parse.Parser.sized.Goals as goal
 
 pub returns-in_default-clause-holds : goal.returns-in_default-clause-holds

@@ -7,7 +7,7 @@ use Rattle.latex2mathml_tex_grammar.specs.Lengths as lengths
 use Rattle.latex2mathml_tex_grammar.specs.{Makes.blank, Makes.core}
 use Rattle.latex2mathml_tex_grammar.specs.Refusal.{LengthTooLarge, refusal_at}
 use Rattle.latex2mathml_tex_grammar.specs.Rules.{gives}
-use Rattle.latex2mathml_tex.specs.{Scans.spot_of}
+use Rattle.latex2mathml_tex_units.specs.Scans.{spot_of}
 use Rattle.latex2mathml_tex.specs.Steps.{Follows, TookValue, to_do}
 use Rattle.latex2mathml_tex.specs.declared.parse.State.TheVariants as state
 use Rattle.latex2mathml_tex.proofs.{Putting.core_put, Putting.core_step, RuleSteps.begun}

@@ -1,7 +1,7 @@
 use Rattle.std.proofs.Common.{ap, refl, string_bytes, sym, ◌∙◌}
 use Rattle.latex2mathml_tex_grammar.specs.Lengths as lengths
 use Rattle.latex2mathml_tex_grammar.specs.Refusal.{LengthTooLarge, refusal_at}
-use Rattle.latex2mathml_tex.specs.Scans.{spot_of}
+use Rattle.latex2mathml_tex_units.specs.Scans.{spot_of}
 use Rattle.latex2mathml_tex.proofs.TableRules.{took_none, took_some}
 use Rattle.latex2mathml_tex.proofs.Values.{text_without_value, value_missing}
 use Rattle.latex2mathml_tex.proofs.parse.Parser.take_length.Goals as goal

@@ -5,9 +5,10 @@ use Rattle.latex2mathml_tex_grammar.specs.Reading.{units_taken}
 use Rattle.latex2mathml_tex_grammar.specs.Refusal.{LengthTooLarge, refusal_at}
 use Rattle.latex2mathml_tex_grammar.specs.Rules.{empty_braces}
 use Rattle.latex2mathml_tex_grammar.specs.Scanning.{BeforeLengthInBraces}
-use Rattle.latex2mathml_tex.specs.{Left.units_at, Steps.TookValue, Steps.left_of}
+use Rattle.latex2mathml_tex_units.specs.Left.{units_at}
+use Rattle.latex2mathml_tex.specs.Steps.{TookValue, left_of}
 use Rattle.latex2mathml_tex.specs.declared.parse.Parser.{Parser}
-use Rattle.latex2mathml_tex.proofs.Nexts.{no_more_taken}
+use Rattle.latex2mathml_tex_units.proofs.Nexts.{no_more_taken}
 use Rattle.latex2mathml_tex.proofs.{Outlining.line_refused, Outlining.line_taken, Widths.width_tested}
 use Rattle.latex2mathml_tex.proofs.parse.Parser.take_line.Goals as goal
 

@@ -1,6 +1,7 @@
 use Rattle.std.proofs.Common.{◌≤◌, arith, refl}
 use Rattle.latex2mathml_tex_grammar.specs.Refusal.{MissingDelimiter, refusal_at}
-use Rattle.latex2mathml_tex.specs.{Left.unit_count, Left.units_at, Steps.left_of}
+use Rattle.latex2mathml_tex_units.specs.Left.{unit_count, units_at}
+use Rattle.latex2mathml_tex.specs.Steps.{left_of}
 use Rattle.latex2mathml_tex.proofs.parse.Parser.take_outer_delimiter.Goals as goal
 
 pub returns : goal.returns

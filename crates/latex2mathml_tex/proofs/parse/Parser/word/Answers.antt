@@ -1,7 +1,8 @@
 use Rattle.std.proofs.Common.{◌≡◌, ◌∙◌, Some, ap, arith, refl, suc}
 use Rattle.latex2mathml_tex_grammar.specs.Refusal.{MissingArgument, refusal_at}
 use Rattle.latex2mathml_tex_grammar.specs.Units.{End, Next, Stop}
-use Rattle.latex2mathml_tex.specs.{Errors.refusal_of, Left.put_back, Left.unit_count, Left.units_at, Left.units_behind, Steps.left_of, Taking.kind_of, Taking.piece_of, Taking.unit_of}
+use Rattle.latex2mathml_tex_units.specs.{Errors.refusal_of, Left.put_back, Left.unit_count, Left.units_at, Left.units_behind, Taking.kind_of, Taking.piece_of, Taking.unit_of}
+use Rattle.latex2mathml_tex.specs.Steps.{left_of}
 use Rattle.latex2mathml_tex.proofs.{Rows.step_within, WordStarts.none_at_end, WordStarts.none_at_stop, WordStarts.none_in_braces, WordStarts.word_begins}
 use Rattle.latex2mathml_tex.proofs.parse.Parser.word.Goals as goal
 

@@ -1,5 +1,5 @@
 use Rattle.std.proofs.Common.{sym}
-use Rattle.latex2mathml_tex.proofs.{Listings.one_of_nine, Names.is_other}
+use Rattle.latex2mathml_tex_units.proofs.{Listings.one_of_nine, Names.is_other}
 use Rattle.latex2mathml_tex.proofs.parse.begin.is_no_operand_named.Goals as goal
 
 pub returns-in_default : goal.returns-in_default

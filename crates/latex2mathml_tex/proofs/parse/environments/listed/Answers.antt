@@ -1,6 +1,6 @@
 use Rattle.std.proofs.Common.{◌<◌, ap, arith, get_or, length, sym, ◌∙◌}
 use Rattle.latex2mathml_tex_grammar.specs.Environments.{column_of}
-use Rattle.latex2mathml_tex.proofs.Listings.{one_more, one_more_room, too_many}
+use Rattle.latex2mathml_tex_units.proofs.Listings.{one_more, one_more_room, too_many}
 use Rattle.latex2mathml_tex.proofs.parse.environments.listed.Goals as goal
 
 pub returns-then-not-push : goal.returns-then-not-push

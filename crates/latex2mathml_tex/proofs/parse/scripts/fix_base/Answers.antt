@@ -1,7 +1,8 @@
 use Rattle.std.proofs.Common.{sym}
 use Rattle.latex2mathml_builder.specs.Built.{elements_in}
 use Rattle.latex2mathml_tex_grammar.specs.Makes
-use Rattle.latex2mathml_tex.specs.{Meanings.limit_place_of, Models.script_count}
+use Rattle.latex2mathml_tex_units.specs.Meanings.{limit_place_of}
+use Rattle.latex2mathml_tex.specs.Models.{script_count}
 use Rattle.latex2mathml_tex.proofs.{Scripting.not_fixed, Shaping.unchanged}
 use Rattle.latex2mathml_tex.proofs.parse.scripts.fix_base.Goals as goal
 

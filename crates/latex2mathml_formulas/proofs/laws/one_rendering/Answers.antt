@@ -1,5 +1,0 @@
-use Rattle.latex2mathml_formulas.proofs.Renderings.{has_one_rendering}
-use Rattle.latex2mathml_formulas.proofs.laws.one_rendering.Goals as goal
-
-pub returns : goal.returns
-returns c = has_one_rendering c.args.text.now c.args.display

@@ -1,6 +1,0 @@
-use Rattle.std.specs.Str.{chars}
-use Rattle.latex2mathml_formulas.proofs.OneList.{has_one_list}
-use Rattle.latex2mathml_formulas.proofs.laws.one_token_list.Goals as goal
-
-pub returns : goal.returns
-returns c = has_one_list (chars c.args.text.now)

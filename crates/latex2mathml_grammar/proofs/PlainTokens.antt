@@ -1,0 +1,56 @@
+-- The tokens of slices: a slice is one character that stands for itself, or its token is plain.
+use Rattle.std.proofs.Common.{◌≡◌, ◌⊎◌, inl, inr, ℕ, Bool, true, false, not, ◌==◌, List, [], ◌∷◌, codes, Option, Some, unwrap_or, refl, sym, subst, cond}
+use Rattle.std.proofs.lemmas.Bool.{and_parts}
+use Rattle.std.specs.{Char.encode_utf8, List.list_all, Str.byte, Str.bytes_eq, Str.encode_utf8_all}
+use Rattle.latex2mathml_tokens.specs.Commands.{command_entries, command_token, entry_token}
+use Rattle.latex2mathml_grammar.specs.Dollars.{is_other}
+use Rattle.latex2mathml_grammar.specs.Spelling.{SpellsAt, character_token, character, colon, colon_equals, number, digit, symbol_command, letter_command, lone_backslash}
+use Rattle.latex2mathml_tokens.specs.Tok.{Tok, EOF, Paren, Underscore, Circumflex, Big, Operator, Command}
+
+-- the token is no end of a formula, no prime, no sign and no opening bracket, and no size with a dollar sign
+abbrev pub is_plain : Tok → Bool
+is_plain EOF = false
+is_plain Underscore = false
+is_plain Circumflex = false
+is_plain (Operator c) = not (c == byte "'")
+is_plain (Paren text) = not (bytes_eq text (codes "["))
+is_plain (Big size) = list_all is_other size
+is_plain t = true
+
+abbrev pub IsPlain : Tok → Type 0
+IsPlain t = is_plain t ≡ true
+
+-- computed over the whole table
+plain-command_entries : list_all (λ r. is_plain r.1) command_entries ≡ true
+unfolding command_entries encode_utf8
+plain-command_entries = refl
+
+-- the first entry is found, or a later one
+found_first : (t other : Tok) (later : Option Tok) (p : Bool) → IsPlain t → IsPlain (unwrap_or later other) → IsPlain (unwrap_or (cond p (Some t) later) other)
+found_first t other later true h l = h
+found_first t other later false h l = l
+
+plain_entry : (rs : List (List ℕ × Tok)) (name : List ℕ) → list_all (λ r. is_plain r.1) rs ≡ true → IsPlain (unwrap_or (entry_token rs name) (Command name))
+plain_entry [] name h = refl
+plain_entry (r ∷ rs) name h =
+    let parts = and_parts (is_plain r.1) (list_all (λ r. is_plain r.1) rs) h in
+    found_first r.1 (Command name) (entry_token rs name) (bytes_eq r.0 name) parts.0 (plain_entry rs name parts.1)
+
+-- so is the token of a command
+plain_command : (name : List ℕ) → IsPlain (command_token name)
+unfolding command_token
+plain_command name = plain_entry command_entries name plain-command_entries
+
+-- a slice is one character that stands for itself, or its token is plain
+abbrev pub IsKnown : List ℕ → Tok → Type 0
+IsKnown w t = ((c : ℕ) × (w ≡ c ∷ []) × (t ≡ character_token c)) ⊎ IsPlain t
+
+pub known : (alone : Bool) (w : List ℕ) (next : Option ℕ) (t : Tok) → SpellsAt alone w next t → IsKnown w t
+known alone w next t (character c b s e f) = inl (c, e, f)
+known alone w next t (colon s e f) = inr (subst IsPlain (sym f) refl)
+known alone w next t (colon_equals e f) = inr (subst IsPlain (sym f) refl)
+known alone w next t (number a i f) = inr (subst IsPlain (sym f) refl)
+known alone w next t (digit c a i e f) = inr (subst IsPlain (sym f) refl)
+known alone w next t (symbol_command c a e f) = inr (subst IsPlain (sym f) (plain_command (encode_utf8_all (c ∷ []))))
+known alone w next t (letter_command c cs e a s f) = inr (subst IsPlain (sym f) (plain_command (encode_utf8_all (c ∷ cs))))
+known alone w next t (lone_backslash e n f) = inr (subst IsPlain (sym f) refl)

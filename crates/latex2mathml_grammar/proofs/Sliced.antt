@@ -1,0 +1,132 @@
+-- What is read is a slice of the tokens, with the rest after it; and what is refused is refused after such slices.
+use Rattle.std.proofs.Common.{◌≡◌, ◌≢◌, ◌∙◌, ℕ, List, [], ◌∷◌, ◌++◌, length, map, Option, Some, None, refl, sym, ap, subst, append_assoc, arith}
+use Rattle.std.proofs.lemmas.List.{append_cancel_right}
+use Rattle.latex2mathml_grammar.specs.Grammar.{Sort, node, Rule, takes_token, prime, Outcome, Read, Refused, first, first_or_end, first_letter, letter_of, AreLetters, Reads, core_at_end, core_begun, single_read, node_read, ReadsRule, rule_gives, rule_refuses, part_read, part_refused, members_read, members_refused, sign_stands, sign_missing, token_taken, token_at_end, token_seen, letters_taken, ReadsAll, formula_ends, group_ends, never_closed, member_read, later_refused, member_refused}
+use Rattle.latex2mathml_grammar.specs.SliceRefusals.{PartRefuses, core_refuses, single_refuses, node_refuses, subscript_refuses, superscript_refuses, RuleRefuses, rule_itself, part_itself, behind_part, members_themselves, behind_members, behind_sign, behind_no_sign, behind_token, behind_no_token, at_next_token, behind_letters, MembersRefuse, end_missing, member_itself, behind_member, FormulaRefuses, node_itself, behind_node}
+use Rattle.latex2mathml_grammar.specs.Slices.{IsPart, no_core, core_by_rule, without_prime, with_prime, without_script, with_subscript, with_superscript, AreParts, no_part, part, members, with_sign, without_sign, with_token, without_token, by_next_token, letters, AreMembers, no_member, member, AreNodes, no_node, one_node}
+use Rattle.latex2mathml_tokens.specs.Tok.{Tok, EOF, Underscore, Circumflex}
+use Rattle.latex2mathml_trees.specs.Tree.{Tree}
+use Rattle.latex2mathml_grammar.proofs.Total.{some_taken}
+
+-- what is read of a part is a slice, and what is refused is refused after slices
+abbrev pub PartBySlices : Sort → List Tok → Outcome Tree → Type 0
+PartBySlices s l (Read x f) = (w : List Tok) × (l ≡ w ++ f) × IsPart s w f x
+PartBySlices s l (Refused r) = PartRefuses s l r
+
+-- the same of the parts of a rule
+abbrev pub RuleBySlices : Rule → List Tok → Outcome Tree → Type 0
+RuleBySlices r l (Read x f) = (w : List Tok) × (l ≡ w ++ f) × AreParts r w f x
+RuleBySlices r l (Refused q) = RuleRefuses r l q
+
+-- the same of nodes side by side, up to an end token or to the end of the formula
+abbrev pub AllBySlices : Option Tok → List Tok → Outcome (List Tree) → Type 0
+AllBySlices (Some end) l (Read xs f) = (w : List Tok) × (l ≡ w ++ f) × AreMembers end w f xs
+AllBySlices (Some end) l (Refused r) = MembersRefuse end l r
+AllBySlices None l (Read xs f) = AreNodes l xs
+AllBySlices None l (Refused r) = FormulaRefuses l r
+
+-- two slices, one after the other, and the rest after them
+joined : (u v f : List Tok) {l m : List Tok} → l ≡ u ++ m → m ≡ v ++ f → l ≡ (u ++ v) ++ f
+joined u v f e p = e ∙ ap (λ k. u ++ k) p ∙ sym (append_assoc u v f)
+
+-- .. are one slice
+one_slice : (P : List Tok → List Tok → Type 0) (Q R : List Tok → Type 0) (l m f : List Tok) → (u : List Tok) × (l ≡ u ++ m) × P u m → (v : List Tok) × (m ≡ v ++ f) × Q v → ((u v : List Tok) → P u (v ++ f) → Q v → R (u ++ v)) → (w : List Tok) × (l ≡ w ++ f) × R w
+one_slice P Q R l m f (u, e, a) (v, p, b) make = (u ++ v, joined u v f e p, make u v (subst (P u) p a) b)
+
+-- a part before the same tokens
+part_before : {s : Sort} {w f g : List Tok} {x : Tree} → f ≡ g → IsPart s w f x → IsPart s w g x
+part_before {s} {w} {x = x} e d = subst (λ k. IsPart s w k x) e d
+
+-- the letters of a run are a slice, and no letter stands after them
+letter_slice : (cs : List ℕ) (l m : List Tok) → AreLetters cs l m → (u : List Tok) × (l ≡ u ++ m) × ((map letter_of u ≡ map Some cs) × (first_letter m ≡ None))
+letter_slice [] l m d = ([], d.0, (refl, d.1))
+letter_slice (c ∷ cs) l m d =
+    let later = letter_slice cs d.1.0 m d.1.3 in
+    (d.0 ∷ later.0, d.1.1 ∙ ap (λ k. d.0 ∷ k) later.1, (cc (d.1.2, later.2.0), later.2.1))
+
+-- no token, and what follows
+no_token_then : (then : Tok → Rule) (o : Outcome Tree) → RuleBySlices (then EOF) [] o → RuleBySlices (takes_token then) [] o
+no_token_then then (Read x []) ([], e, d) = ([], e, without_token d)
+no_token_then then (Read x (t ∷ f)) ([], e, d) = absurd cc
+no_token_then then (Read x f) (t ∷ w, e, d) = absurd cc
+no_token_then then (Refused r) d = behind_no_token d
+
+-- nodes that are read take a token where one is left
+begun : (t : Tok) (l m : List Tok) (x : Tree) → Reads node (t ∷ l) (Read x m) → PartBySlices node (t ∷ l) (Read x m) → (u : List Tok) × (t ∷ l ≡ u ++ m) × ((first u ≡ Some t) × IsPart node u m x)
+begun t l m x d ([], e, p) = absurd (let fewer = some_taken node t l m x d in omega (arith, fewer, ap length e))
+begun t l m x d (s ∷ u, e, p) = (s ∷ u, e, (cc, p))
+
+mutual
+  -- a core, a single or a node is read or refused by slices
+  pub part_by_slices : {s : Sort} {l : List Tok} {o : Outcome Tree} → Reads s l o → PartBySlices s l o
+  part_by_slices core_at_end = ([], refl, no_core)
+  part_by_slices (core_begun {t = t} {o = Read x f} d) = (let c = rule_by_slices d in (t ∷ c.0, ap (λ k. t ∷ k) c.1, core_by_rule c.2))
+  part_by_slices (core_begun {o = Refused r} d) = core_refuses (rule_by_slices d)
+  part_by_slices (single_read (part_read d (sign_stands {m = f} p rule_gives))) =
+      let c = part_by_slices d in (_, joined c.0 (prime ∷ []) f c.1 p, with_prime refl (part_before p c.2))
+  part_by_slices (single_read (part_read d (sign_missing h rule_gives))) = (let c = part_by_slices d in (c.0, c.1, without_prime c.2 h))
+  part_by_slices (single_read (part_refused d)) = single_refuses (part_by_slices d)
+  part_by_slices (node_read (part_read d (sign_stands p (part_read {m = f} e rule_gives)))) =
+      let u = part_by_slices d in
+      let v = part_by_slices e in
+      let behind = p ∙ ap (λ k. Underscore ∷ k) v.1 in
+      (_, joined u.0 (Underscore ∷ v.0) f u.1 behind, with_subscript refl (part_before behind u.2) v.2)
+  part_by_slices (node_read (part_read d (sign_stands p (part_refused e)))) =
+      let u = part_by_slices d in subscript_refuses (u.1 ∙ ap (λ k. u.0 ++ k) p) (part_before p u.2) (part_by_slices e)
+  part_by_slices (node_read (part_read d (sign_missing h (sign_stands p (part_read {m = f} e rule_gives))))) =
+      let u = part_by_slices d in
+      let v = part_by_slices e in
+      let behind = p ∙ ap (λ k. Circumflex ∷ k) v.1 in
+      (_, joined u.0 (Circumflex ∷ v.0) f u.1 behind, with_superscript refl (part_before behind u.2) v.2)
+  part_by_slices (node_read (part_read d (sign_missing h (sign_stands p (part_refused e))))) =
+      let u = part_by_slices d in superscript_refuses (u.1 ∙ ap (λ k. u.0 ++ k) p) (part_before p u.2) (part_by_slices e)
+  part_by_slices (node_read (part_read d (sign_missing h (sign_missing k rule_gives)))) = (let u = part_by_slices d in (u.0, u.1, without_script u.2 h k))
+  part_by_slices (node_read (part_refused d)) = node_refuses (part_by_slices d)
+
+  -- the parts of a rule are
+  pub rule_by_slices : {r : Rule} {l : List Tok} {o : Outcome Tree} → ReadsRule r l o → RuleBySlices r l o
+  rule_by_slices rule_gives = ([], refl, no_part)
+  rule_by_slices rule_refuses = rule_itself
+  rule_by_slices (part_read {s = s} {x = y} {o = Read x f} d ds) =
+      one_slice (λ u g. IsPart s u g y) _ _ _ _ f (part_by_slices d) (rule_by_slices ds) (λ u v. part refl)
+  rule_by_slices (part_read {o = Refused r} d ds) = (let u = part_by_slices d in behind_part u.1 u.2 (rule_by_slices ds))
+  rule_by_slices (part_refused d) = part_itself (part_by_slices d)
+  rule_by_slices (members_read {end = end} {xs = ys} {o = Read x f} d ds) =
+      one_slice (λ u g. AreMembers end u g ys) _ _ _ _ f (all_by_slices d) (rule_by_slices ds) (λ u v. members refl)
+  rule_by_slices (members_read {o = Refused r} d ds) = (let u = all_by_slices d in behind_members u.1 u.2 (rule_by_slices ds))
+  rule_by_slices (members_refused d) = members_themselves (all_by_slices d)
+  rule_by_slices (sign_stands {t = t} {o = Read x f} p d) = (let c = rule_by_slices d in (_, p ∙ ap (λ k. t ∷ k) c.1, with_sign refl c.2))
+  rule_by_slices (sign_stands {o = Refused r} p d) = behind_sign p (rule_by_slices d)
+  rule_by_slices (sign_missing {t = t} {o = Read x f} h d) =
+      let c = rule_by_slices d in (c.0, c.1, without_sign (subst (λ k. first k ≢ Some t) c.1 h) c.2)
+  rule_by_slices (sign_missing {o = Refused r} h d) = behind_no_sign h (rule_by_slices d)
+  rule_by_slices (token_taken {t = t} {o = Read x f} d) = (let c = rule_by_slices d in (t ∷ c.0, ap (λ k. t ∷ k) c.1, with_token c.2))
+  rule_by_slices (token_taken {o = Refused r} d) = behind_token (rule_by_slices d)
+  rule_by_slices (token_at_end {o = o} d) = no_token_then _ o (rule_by_slices d)
+  rule_by_slices (token_seen {then = then} {o = Read x f} d) =
+      let c = rule_by_slices d in (c.0, c.1, by_next_token (subst (λ k. AreParts (then (first_or_end k)) c.0 f x) c.1 c.2))
+  rule_by_slices (token_seen {o = Refused r} d) = at_next_token (rule_by_slices d)
+  rule_by_slices (letters_taken cs {l = l} {m = m} {o = Read x f} p d) =
+      one_slice (λ u g. (map letter_of u ≡ map Some cs) × (first_letter g ≡ None)) _ _ _ _ f (letter_slice cs l m p) (rule_by_slices d) (λ u v a. letters cs u refl a.0 a.1)
+  rule_by_slices (letters_taken cs {l = l} {m = m} {o = Refused r} p d) =
+      let u = letter_slice cs l m p in behind_letters cs u.0 u.1 u.2.0 u.2.1 (rule_by_slices d)
+
+  -- nodes side by side are
+  pub all_by_slices : {end : Option Tok} {l : List Tok} {o : Outcome (List Tree)} → ReadsAll end l o → AllBySlices end l o
+  all_by_slices formula_ends = no_node
+  all_by_slices never_closed = end_missing
+  all_by_slices (group_ends {end = end} p) = (_, p, no_member refl)
+  all_by_slices (member_read {end = Some end} {t = t} {rest = f} {x = x} h d ds) =
+      one_slice (λ u g. (first u ≡ Some t) × IsPart node u g x) _ _ _ _ f (begun _ _ _ _ d (part_by_slices d)) (all_by_slices ds) (λ u v a. member refl (λ q. h (sym q ∙ a.0)) a.1)
+  all_by_slices (member_read {end = None} h d ds) =
+      let u = begun _ _ _ _ d (part_by_slices d) in one_node u.1 (λ q. cc (q, u.2.0)) u.2.1 (all_by_slices ds)
+  all_by_slices (later_refused {end = Some end} h d ds) =
+      let u = begun _ _ _ _ d (part_by_slices d) in behind_member u.1 (λ q. h (sym q ∙ u.2.0)) u.2.1 (all_by_slices ds)
+  all_by_slices (later_refused {end = None} h d ds) =
+      let u = begun _ _ _ _ d (part_by_slices d) in behind_node u.1 (λ q. cc (q, u.2.0)) u.2.1 (all_by_slices ds)
+  all_by_slices (member_refused {end = Some end} h d) = member_itself (λ e. h (ap Some (sym e))) (part_by_slices d)
+  all_by_slices (member_refused {end = None} h d) = node_itself (part_by_slices d)
+
+-- what is read is the slice before the rest
+pub slice_at : (P : List Tok → Type 0) (w f : List Tok) → (v : List Tok) × (w ++ f ≡ v ++ f) × P v → P w
+slice_at P w f (v, e, d) = subst P (sym (append_cancel_right w v f e)) d

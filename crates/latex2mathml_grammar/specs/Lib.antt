@@ -1,0 +1,16 @@
+pub mod Beginnings
+pub mod Characters
+pub mod Counts
+pub mod Cutting
+pub mod Dollars
+pub mod Grammar
+pub mod Laws
+pub mod Openers
+pub mod Places
+pub mod Rendering
+pub mod RenderingLaws
+pub mod SliceRefusals
+pub mod Slices
+pub mod Spelling
+pub mod TextLaws
+pub mod TokenLists

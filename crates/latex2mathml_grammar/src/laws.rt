@@ -1,0 +1,104 @@
+//! Laws of texts, of the grammar, and of renderings.
+ghost use Rattle.std.specs.{Prelude.map, Str.chars};
+ghost use Rattle.latex2mathml_grammar.specs.Laws.{HasOneReading, IsReadBySlices, IsRefusedBySlices, IsSliced};
+ghost use Rattle.latex2mathml_grammar.specs.{Places.HasPlaces, Places.SpaceChangesNothing, TextLaws.TextsHold};
+ghost use Rattle.latex2mathml_grammar.specs.RenderingLaws.{HasOneRendering, RendersDollarFree, RendersElements, RenderingsHold};
+ghost use Rattle.latex2mathml_tokens.specs.Tok.{tok};
+ghost use Rattle.latex2mathml_grammar.specs.TokenLists.{HasOneTokenList, TextHasOneReading};
+
+use latex2mathml_tokens::DisplayStyle;
+use latex2mathml_tokens::token::Token;
+
+/// Each text has exactly one token list, and each list of tokens exactly one reading or exactly one refusal. White space
+/// between two tokens changes neither.
+pub fn texts()
+    ensures { TextsHold }
+{}
+
+/// A text has exactly one token list.
+pub fn one_token_list(text: &str)
+    ensures { HasOneTokenList (chars text.now) }
+{
+    let _ = text;
+}
+
+/// A text has exactly one token list, and that has exactly one reading or exactly one refusal.
+pub fn one_reading(text: &str)
+    ensures { TextHasOneReading (chars text.now) }
+{
+    let _ = text;
+}
+
+/// Tokens have exactly one reading or exactly one refusal.
+pub fn one_reading_of(tokens: &[Token])
+    ensures { HasOneReading (map tok tokens.now) }
+{
+    let _ = tokens;
+}
+
+/// What is read is a slice of the tokens, and the rest stands after it. The slice is empty only where nothing is left.
+pub fn sliced()
+    ensures { IsSliced }
+{}
+
+/// A slice is a core, a single, a node, the parts of a rule or the members of a group exactly where the rules read it and
+/// leave what stands after it; and tokens are nodes side by side exactly where those are a reading of the formula.
+pub fn read_by_slices()
+    ensures { IsReadBySlices }
+{}
+
+/// Tokens are refused exactly where the grammar over slices refuses them: after parts that are slices.
+pub fn refused_by_slices()
+    ensures { IsRefusedBySlices }
+{}
+
+/// Each rendering of a text is one `math` element that obeys the child table.
+#[tactic(auto, using(crate::proofs::MathElements::rendering_is_math))]
+pub fn rendering(text: &str, display: DisplayStyle)
+    ensures { RendersElements text.now display }
+{
+    let _ = text;
+    let _ = display;
+}
+
+/// No rendering of a formula holds a dollar sign.
+#[tactic(auto, using(crate::proofs::Kept::dollar_free))]
+pub fn dollar_free(text: &str)
+    ensures { RendersDollarFree text.now }
+{
+    let _ = text;
+}
+
+/// A formula has exactly one rendering or exactly one refusal.
+pub fn one_rendering(text: &str, display: DisplayStyle)
+    ensures { HasOneRendering text.now display }
+{
+    let _ = text;
+    let _ = display;
+}
+
+/// Each formula has exactly one rendering, which is one `math` element and holds no dollar sign, or exactly one refusal,
+/// which is never for dollar signs. In a reading no function has an argument.
+#[tactic(auto, using(crate::proofs::Renderings::renderings_hold))]
+pub fn renderings()
+    ensures { RenderingsHold }
+{}
+
+/// A place lies between each two tokens of a text that stand side by side.
+#[tactic(auto, using(crate::proofs::WhiteSpace::has_places))]
+pub fn places(text: &str)
+    ensures { HasPlaces (chars text.now) }
+{
+    let _ = text;
+}
+
+/// White space at a place between two tokens leaves the tokens as they were, and so every answer. A digit place is left
+/// out: `\frac12` has one after `\frac`, and there white space makes another formula of it.
+#[tactic(auto, using(crate::proofs::WhiteSpace::space_changes_nothing))]
+pub fn white_space(before: &str, space: &str, after: &str)
+    ensures { SpaceChangesNothing before.now space.now after.now }
+{
+    let _ = before;
+    let _ = space;
+    let _ = after;
+}

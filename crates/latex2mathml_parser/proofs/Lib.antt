@@ -1,0 +1,13 @@
+pub mod Accounts
+pub mod Appending
+pub mod Beginning
+pub mod Combining
+pub mod Fronts
+pub mod Levels
+pub mod Names
+pub mod Progress
+pub mod Sights
+pub mod Spellings
+pub mod Stacks
+pub mod Starts
+pub mod Stepping

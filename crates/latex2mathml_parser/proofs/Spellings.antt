@@ -1,0 +1,47 @@
+-- What each branch of the reader has read is a slice that spells its token.
+use Rattle.std.proofs.Common.{◌≡◌, ℕ, Bool, true, false, List, [], ◌∷◌, ◌++◌, codes, refl, sym, ap, subst, ◌∙◌, arith}
+use Rattle.std.proofs.{lemmas.Bool.Decides.nat_tests, lemmas.List.Elements.All-cons}
+use Rattle.std.specs.{Char.is_ascii_digit, Char.is_ascii_alphabetic, Str.byte, Str.encode_utf8_all}
+use Rattle.latex2mathml_grammar.specs.Characters.{Stops, head, is_space}
+use Rattle.latex2mathml_tokens.specs.Commands.{command_token}
+use Rattle.latex2mathml_grammar.specs.Beginnings.{BeginsWith, BeginsWithNumber, IsLongestRun}
+use Rattle.latex2mathml_parser.specs.Lexing.{BeginsWithName}
+use Rattle.latex2mathml_grammar.specs.Spelling.{SpellsAt, is_equals_sign, begins_longer, character_token, character, colon, colon_equals, number, digit, symbol_command, letter_command, lone_backslash}
+use Rattle.latex2mathml_tokens.specs.Tok.{Tok, Number, Paren, Operator}
+use Rattle.latex2mathml_tokens.proofs.Order.{no_empty_name}
+
+pub number_spelled : (alone : Bool) (text rest bs : List ℕ) → alone ≡ false → BeginsWithNumber text rest → ((w : List ℕ) → text ≡ w ++ rest → bs ≡ encode_utf8_all w) → BeginsWith alone text (Number bs) rest
+number_spelled alone text rest bs a (w, e, is) bytes = (w, e, number a is (ap Number (bytes w e)))
+
+-- the name of a command: an ASCII letter and all that follow it
+pub letters_named : (text : List ℕ) (c : ℕ) (after rest : List ℕ) → text ≡ c ∷ after → is_ascii_alphabetic c ≡ true → (front : List ℕ) × IsLongestRun is_ascii_alphabetic after front rest → BeginsWithName text rest
+letters_named text c after rest e letter (front, run) =
+    (c ∷ front, e ∙ ap (λ k. c ∷ k) run.0, λ alone. letter_command c front refl (All-cons (λ x. is_ascii_alphabetic x ≡ true) c front letter run.1) run.2 refl)
+
+-- .. or one other character
+pub symbol_named : (text : List ℕ) (c : ℕ) (after : List ℕ) → text ≡ c ∷ after → is_ascii_alphabetic c ≡ false → BeginsWithName text after
+symbol_named text c after e other = (c ∷ [], e, λ alone. symbol_command c other refl refl)
+
+-- .. or nothing, at the end of the text
+pub nothing_named : (text : List ℕ) → text ≡ [] → BeginsWithName text text
+nothing_named text e = ([], refl, λ alone. lone_backslash refl (ap head e) no_empty_name)
+
+pub command_spelled : (alone : Bool) (text rest bs : List ℕ) (t : Tok) → BeginsWithName text rest → ((w : List ℕ) → text ≡ w ++ rest → bs ≡ encode_utf8_all w) → t ≡ command_token bs → BeginsWith alone (byte "\\" ∷ text) t rest
+command_spelled alone text rest bs t (w, e, spells) bytes f =
+    (byte "\\" ∷ w, ap (λ s. byte "\\" ∷ s) e, subst (SpellsAt alone (byte "\\" ∷ w) (head rest)) (sym (f ∙ ap command_token (bytes w e))) (spells alone))
+
+pub colon_with_equals : (alone : Bool) (text : List ℕ) (c : ℕ) (after rest : List ℕ) → text ≡ c ∷ after → c ≡ byte ":" → after ≡ byte "=" ∷ rest → BeginsWith alone text (Paren (codes ":=")) rest
+colon_with_equals alone text c after rest e f g = (codes ":=", cc, colon_equals refl refl)
+
+pub lone_colon : (alone : Bool) (text : List ℕ) (c : ℕ) (after : List ℕ) → text ≡ c ∷ after → c ≡ byte ":" → Stops is_equals_sign (head after) → BeginsWith alone text (Operator (byte ":")) after
+lone_colon alone text c after e f stops = (codes ":", cc, colon stops refl refl)
+
+-- a digit that is a number of its own
+pub lone_digit : (alone : Bool) (text : List ℕ) (c : ℕ) (after bs : List ℕ) (t : Tok) → text ≡ c ∷ after → is_ascii_digit c ≡ true → alone ≡ true → bs ≡ encode_utf8_all (c ∷ []) → t ≡ Number bs → BeginsWith alone text t after
+lone_digit alone text c after bs t e d a f g = (c ∷ [], e, digit c a d refl (g ∙ ap Number f))
+
+pub not_longer : (c : ℕ) → is_ascii_digit c ≡ false → (c ≡ byte "\\" → ⊥) → (c ≡ byte ":" → ⊥) → begins_longer c ≡ false
+not_longer c d f g = rw d (grind (arith, nat_tests))
+
+pub one_character : (alone : Bool) (text : List ℕ) (c : ℕ) (after : List ℕ) (t : Tok) → text ≡ c ∷ after → begins_longer c ≡ false → is_space c ≡ false → t ≡ character_token c → BeginsWith alone text t after
+one_character alone text c after t e f g h = (c ∷ [], e, character c f g refl h)

@@ -1,0 +1,45 @@
+-- The steps of the parser: what they answer, and what they count.
+use Rattle.std.proofs.Common.{◌≡◌, ℕ, ◌+◌, ◌∷◌, arith}
+use Rattle.latex2mathml_grammar.specs.Openers.{opens}
+use Rattle.latex2mathml_parser.specs.{Marks.rest_of, Steps.Counted, Steps.StacksWithin, Unread.GoesOn}
+use Rattle.latex2mathml_tokens.specs.Tok.{Tok}
+use Rattle.latex2mathml_parser.specs.declared.parse.Parser.{Parser}
+use Rattle.latex2mathml_parser.proofs.Progress.{GoesOn-trans, OpensFor-one, OpensFor-rest, OpensFor-trans}
+
+-- what is counted from step to step
+pub counted_on : (m n : ℕ) (p q r : Parser) → Counted m p q → Counted n q r → Counted (m + n) p r
+counted_on m n p q r h i = record {
+  counts = GoesOn-trans _ _ _ h.counts i.counts;
+  frames = record { taken = omega arith; openers = omega arith };
+}
+
+pub counted_none : (p : Parser) → Counted 0 p p
+counted_none p = record {
+  counts = record {
+    tokens = omega arith;
+    more = omega arith;
+    rest = λ slices stands. stands;
+    at_least = omega arith;
+    at_most = omega arith;
+  };
+  frames = record { taken = omega arith; openers = omega arith };
+}
+
+-- the greatest number of frames bounds the stack
+pub stacks_within : (p q : Parser) → Counted 0 p q → StacksWithin p q
+stacks_within p q h = omega (arith, h.frames.taken, q.frames.covered)
+
+-- a token is taken, which may open a frame
+pub counted_taken : (t : Tok) (p q r : Parser) → p.reader.list ≡ t ∷ q.reader.list → GoesOn p.reader q.reader → q.frames.greatest ≡ p.frames.greatest → Counted (opens t) q r → Counted 0 p r
+counted_taken t p q r stood counts same h =
+    let opened = OpensFor-one t p.reader q.reader (p.frames.greatest + 0) q.frames.greatest stood counts (omega arith) in
+    record { counts = GoesOn-trans _ _ _ counts h.counts; frames = OpensFor-trans _ _ _ _ _ _ opened h.frames }
+
+-- a token is passed over
+pub counted_skipped : (p q r : Parser) (n : ℕ) → q.reader.list ≡ rest_of p.reader.list → GoesOn p.reader q.reader → q.frames.greatest ≡ p.frames.greatest → Counted 0 q r → Counted n p r
+counted_skipped p q r n passed counts same h =
+    let over = OpensFor-rest p.reader q.reader passed counts in
+    record {
+      counts = GoesOn-trans _ _ _ counts h.counts;
+      frames = record { taken = omega arith; openers = omega arith };
+    }

@@ -1,0 +1,55 @@
+use Rattle.std.proofs.Common.{append-nil, arith, refl, sym, ap}
+use Rattle.latex2mathml_grammar.specs.Counts.{none_read}
+use Rattle.latex2mathml_tokens.specs.Lexemes.{lexeme_tok}
+use Rattle.latex2mathml_parser.proofs.Appending.{finished, formula_refused, one_node, within_node}
+use Rattle.latex2mathml_parser.proofs.{Beginning.stood, Stepping.counted_none, Stepping.counted_on, Stepping.counted_taken, Stepping.stacks_within}
+use Rattle.latex2mathml_parser.proofs.formula.append_math.Goals as goal
+
+pub nodes-init : goal.nodes-init
+nodes-init c = record {
+  closed = c.requires;
+  nodes = record { are = none_read; text = sym (append-nil _) };
+  counted = counted_none _;
+}
+
+pub nodes-preserved : goal.nodes-preserved
+nodes-preserved c =
+    let found = stood c.take-lexeme.result c.nodes.parser.reader.list c.take-lexeme.new.self.list c.in_default.not-EOF c.take-lexeme.ensures.token c.take-lexeme.ensures.list in
+    let read = rw c.if-not-is_read.false at (c.in_ok-is_read.ensures.node _ found) in
+    record {
+      closed = read.0;
+      nodes = one_node found read.1.1 read.1.2 c.nodes.invariant.nodes;
+      counted = counted_on 0 0 _ _ _ c.nodes.invariant.counted (counted_taken _ c.nodes.parser _ _ found c.take-lexeme.ensures.counts refl c.in_ok-is_read.ensures.counted);
+    }
+
+pub nodes-smaller : goal.nodes-smaller
+nodes-smaller c = grind (arith, stood)
+
+pub returns-in_err-is_read-clause-counted : goal.returns-in_err-is_read-clause-counted
+returns-in_err-is_read-clause-counted c =
+    let found = stood _ _ _ c.in_default.not-EOF c.take-lexeme.ensures.token c.take-lexeme.ensures.list in
+    counted_on 0 0 _ _ _ c.nodes.invariant.counted (counted_taken _ _ _ _ found c.take-lexeme.ensures.counts refl c.in_err-is_read.ensures.counted)
+
+pub returns-in_err-is_read-clause-stack : goal.returns-in_err-is_read-clause-stack
+returns-in_err-is_read-clause-stack c =
+    let found = stood _ _ _ c.in_default.not-EOF c.take-lexeme.ensures.token c.take-lexeme.ensures.list in
+    stacks_within _ _ (counted_on 0 0 _ _ _ c.nodes.invariant.counted (counted_taken _ _ _ _ found c.take-lexeme.ensures.counts refl c.in_err-is_read.ensures.counted))
+
+pub returns-then-not-is_read : goal.returns-then-not-is_read
+returns-then-not-is_read c =
+    let found = stood c.take-lexeme.result c.nodes.parser.reader.list c.take-lexeme.new.self.list c.in_default.not-EOF c.take-lexeme.ensures.token c.take-lexeme.ensures.list in
+    let refused = rw c.if-not-is_read.true at (c.in_ok-is_read.ensures.node _ found) in
+    let counted = counted_taken _ c.nodes.parser _ _ found c.take-lexeme.ensures.counts refl c.in_ok-is_read.ensures.counted in
+    let all_counted = counted_on 0 0 _ _ _ (counted_on 0 0 _ _ _ c.nodes.invariant.counted counted) c.refusal.ensures.counted in
+    record {
+      rendering = tt;
+      refused = formula_refused c.refusal.ensures.refusal found refused c.nodes.invariant.nodes;
+      within = within_node _ c.refusal.ensures.refusal refused c.nodes.invariant.nodes (grind (arith, found));
+      all = tt;
+      counted = all_counted;
+      stack = stacks_within _ _ all_counted;
+    }
+
+pub returns-clause-rendering : goal.returns-clause-rendering
+returns-clause-rendering c =
+    finished c.args.display _ c.in_ok-push_str.ensures.bytes c.opening_tag.ensures (c.take-lexeme.ensures.ended (ap lexeme_tok c.in-EOF.is)) c.nodes.invariant.nodes c.in_ok-push_str-2.ensures.bytes

@@ -1,0 +1,45 @@
+use Rattle.std.proofs.Common.{◌≡◌, arith}
+use Rattle.latex2mathml_grammar.specs.Grammar.{error_rule, rule}
+use Rattle.latex2mathml_tokens.specs.Lexemes.{lexeme_tok}
+use Rattle.latex2mathml_parser.proofs.parse.Parser.begin_rule.Goals as goal
+
+pub returns-in-LBrace-clause-holds : goal.returns-in-LBrace-clause-holds
+returns-in-LBrace-clause-holds c = λ input k. c.open.ensures.holds input (rw c.in-LBrace.is at k)
+
+pub returns-in-Over-clause-holds : goal.returns-in-Over-clause-holds
+returns-in-Over-clause-holds c = λ input k. c.open-in-Over.ensures.holds input (rw c.in-Over.is at k)
+
+pub returns-in-Under-clause-holds : goal.returns-in-Under-clause-holds
+returns-in-Under-clause-holds c = λ input k. c.open-in-Under.ensures.holds input (rw c.in-Under.is at k)
+
+pub returns-in-Frac-clause-holds : goal.returns-in-Frac-clause-holds
+returns-in-Frac-clause-holds c = λ input k. c.open-in-Frac.ensures.holds input (rw c.in-Frac.is at k)
+
+pub returns-in-Binom-clause-holds : goal.returns-in-Binom-clause-holds
+returns-in-Binom-clause-holds c = λ input k. c.open-in-Binom.ensures.holds input (rw c.in-Binom.is at k)
+
+pub returns-in-Overset-clause-holds : goal.returns-in-Overset-clause-holds
+returns-in-Overset-clause-holds c = λ input k. c.open-in-Overset.ensures.holds input (rw c.in-Overset.is at k)
+
+pub returns-in-Underset-clause-holds : goal.returns-in-Underset-clause-holds
+returns-in-Underset-clause-holds c = λ input k. c.open-in-Underset.ensures.holds input (rw c.in-Underset.is at k)
+
+pub returns-in-Overbrace-clause-holds : goal.returns-in-Overbrace-clause-holds
+returns-in-Overbrace-clause-holds c = λ input k. c.open-in-Overbrace.ensures.holds input (rw c.in-Overbrace.is at k)
+
+pub returns-in-Underbrace-clause-holds : goal.returns-in-Underbrace-clause-holds
+returns-in-Underbrace-clause-holds c = λ input k. c.open-in-Underbrace.ensures.holds input (rw c.in-Underbrace.is at k)
+
+pub returns-in-BigOp-clause-holds : goal.returns-in-BigOp-clause-holds
+returns-in-BigOp-clause-holds c = λ input k. c.limits.ensures.holds input (rw c.in-BigOp.is at k)
+
+pub returns-in-Integral-clause-holds : goal.returns-in-Integral-clause-holds
+returns-in-Integral-clause-holds c = λ input k. c.limits-in-Integral.ensures.holds input (rw c.in-Integral.is at k)
+
+pub returns-in-Style-clause-holds : goal.returns-in-Style-clause-holds
+returns-in-Style-clause-holds c = λ input k. c.open-in-Style.ensures.holds input (rw c.in-Style.is at k)
+
+pub returns-in-Illegal-clause-holds : goal.returns-in-Illegal-clause-holds
+returns-in-Illegal-clause-holds c = λ input k.
+    let bare : rule (lexeme_tok c.args.lexeme) ≡ error_rule (lexeme_tok c.args.lexeme) = grind (arith, c.in-Illegal.is) in
+    c.error.ensures.holds input (rw bare at k)

@@ -1,0 +1,6 @@
+pub mod Frames
+pub mod Levels
+pub mod Lexing
+pub mod Marks
+pub mod Steps
+pub mod Unread

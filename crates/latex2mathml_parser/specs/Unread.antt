@@ -1,0 +1,53 @@
+-- What is left of a text that is taken token by token, and what was counted so far.
+use Rattle.std.specs.Prelude.{◌≡◌, ℕ, ◌+◌, ◌*◌, ◌≤◌, List, [], drop, map, length}
+use Rattle.latex2mathml_grammar.specs.{Counts.backslashes, Grammar.first_or_end, Openers.openers, Spelling.Slice}
+use Rattle.latex2mathml_parser.specs.Marks.{rest_of}
+use Rattle.latex2mathml_tokens.specs.Tok.{Tok, EOF}
+
+-- the slices that are left and their tokens, how many tokens were taken, how many of the slices that are left begin with a
+-- backslash, and how many names were compared for those that were taken
+pub record Unread : Type 0 where
+  pub slices : List Slice
+  pub list : List Tok
+  pub tokens : ℕ
+  pub backslashes : ℕ
+  pub comparisons : ℕ
+
+abbrev pub token_list : List Slice → List Tok
+token_list slices = map (λ s. s.token) slices
+
+-- what is left where these slices are, with the counts of what was taken
+abbrev pub unread_in : List Slice → ℕ → ℕ → Unread
+unread_in slices tokens comparisons = record {
+  slices = slices;
+  list = token_list slices;
+  tokens = tokens;
+  backslashes = backslashes slices;
+  comparisons = comparisons;
+}
+
+-- of these slices, the first ones were taken, as many as tokens, and the others are left
+abbrev pub IsLeftOf : List Slice → Unread → Type 0
+IsLeftOf slices unread = unread.slices ≡ drop unread.tokens slices
+
+-- the counts went on as the tokens went: a token that is not left was taken, and each slice with a backslash that is
+-- read took 1 to 9 comparisons
+pub record GoesOn (old new : Unread) : Type 0 where
+  pub tokens : new.tokens + length new.list ≡ old.tokens + length old.list
+  pub more : old.tokens ≤ new.tokens
+  pub rest : (slices : List Slice) → IsLeftOf slices old → IsLeftOf slices new
+  pub at_least : old.comparisons + old.backslashes ≤ new.comparisons + new.backslashes
+  pub at_most : new.comparisons + 9 * new.backslashes ≤ old.comparisons + 9 * old.backslashes
+
+-- the token that stood next is t, and was taken; where none stood, t is the end
+pub record Takes (t : Tok) (old new : Unread) : Type 0 where
+  pub token : t ≡ first_or_end old.list
+  pub list : new.list ≡ rest_of old.list
+  pub ended : t ≡ EOF → old.list ≡ []
+  pub counts : GoesOn old new
+
+-- Reading went on from what was left to what is left now, and the greatest number of frames, which was `before`, is
+-- `after`: each frame was opened for a token that was taken, and each such token opened one at most.
+pub record OpensFor (old new : Unread) (before after : ℕ) : Type 0 where
+  pub taken : after + old.tokens ≤ before + new.tokens
+  pub openers : after + openers new.list ≤ before + openers old.list

@@ -1,0 +1,154 @@
+//! From a formula to its markup.
+ghost use Rattle.std.specs.Prelude.{◌≡◌, ℕ, ◌∷◌, ◌++◌, [], IfOk, List, OnOk, codes, string_bytes};
+ghost use Rattle.latex2mathml_grammar.specs.{Grammar.ReadsFormula, Grammar.Refuses, Openers.opens};
+ghost use Rattle.latex2mathml_grammar.specs.Rendering.{IsFormulaRefusal, IsRendering, math_print};
+ghost use Rattle.latex2mathml_parser.specs.Steps.{Counted, HasTrees, Holds, IsAppended, IsRefusedWithin, StacksWithin, trees_of_state};
+ghost use Rattle.latex2mathml_tokens.specs.{Attributes.display_text, Lexemes.lexeme_tok, Refusal.IfRefused, Tok.Tok};
+ghost use Rattle.latex2mathml_trees.specs.Tree.{Tree};
+
+use crate::parse::begin::symbol;
+use crate::parse::{Parser, State};
+use latex2mathml_parts::write::write_leaf;
+use latex2mathml_tokens::lexeme::Lexeme;
+use latex2mathml_tokens::{DisplayStyle, LatexError};
+use std::alloc::{AllocError, Global};
+
+/// Room for the markup of most formulas, in bytes. It is asked for at once, and grows for longer ones.
+const ROOM: usize = 1024;
+
+/// Appends the `math` element of the tokens that are left. Each node is written and dropped before the next is read, so
+/// memory for one node is enough.
+#[tactic(auto, using(crate::proofs::Stepping::stacks_within))]
+pub(crate) fn append_math(
+    parser: &mut Parser,
+    display: DisplayStyle,
+    markup: &mut String,
+) -> Result<(), LatexError>
+    requires { parser.old.frames.stack.items ≡ [] }
+    ensures rendering { OnOk result ((xs : List Tree) × ReadsFormula parser.old.reader.list xs
+        × (string_bytes markup.new ≡ string_bytes markup.old ++ math_print display xs)) }
+    ensures refused { IfRefused result (Refuses parser.old.reader.list) }
+    ensures within { IfRefused result (IsRefusedWithin parser.old.reader.list parser.new.reader.list) }
+    ensures all { OnOk result (parser.new.reader.list ≡ []) }
+    ensures counted { Counted 0 parser.old parser.new }
+    ensures stack { StacksWithin parser.old parser.new }
+{
+    markup.push_str(opening_tag(display))?;
+    'nodes: loop {
+        let lexeme = parser.reader.take();
+        if let Lexeme::EOF = lexeme {
+            break 'nodes;
+        }
+        let is_read = append_node(parser, lexeme, markup)?;
+        if !is_read {
+            return Err(parser.refusal());
+        }
+    }
+    markup.push_str("</math>")?;
+    Ok(())
+}
+
+/// Returns the `math` element of the tokens that are left.
+pub(crate) fn math(parser: &mut Parser, display: DisplayStyle) -> Result<String, LatexError>
+    requires { parser.old.frames.stack.items ≡ [] }
+    ensures rendering { IfOk result (λ markup. (xs : List Tree) × ReadsFormula parser.old.reader.list xs
+        × (string_bytes markup ≡ math_print display xs)) }
+    ensures refused { IfRefused result (Refuses parser.old.reader.list) }
+    ensures within { IfRefused result (IsRefusedWithin parser.old.reader.list parser.new.reader.list) }
+    ensures all { OnOk result (parser.new.reader.list ≡ []) }
+    ensures counted { Counted 0 parser.old parser.new }
+{
+    let mut markup = String::with_capacity(parser.alloc, ROOM)?;
+    append_math(parser, display, &mut markup)?;
+    Ok(markup)
+}
+
+/// The tag that opens the `math` element.
+fn opening_tag(display: DisplayStyle) -> &'static str
+    ensures { result.now ≡ codes "<math xmlns=\"http://www.w3.org/1998/Math/MathML\" display=\"" ++ (display_text display ++ codes "\">") }
+{
+    match display {
+        DisplayStyle::Block =>
+            "<math xmlns=\"http://www.w3.org/1998/Math/MathML\" display=\"block\">",
+        DisplayStyle::Inline =>
+            "<math xmlns=\"http://www.w3.org/1998/Math/MathML\" display=\"inline\">",
+    }
+}
+
+/// Appends the node of the formula that begins with this lexeme, which was taken. Returns whether it could be read: where
+/// it could not, the parser holds why the formula is refused.
+#[inline(always)]
+fn append_node<'a>(
+    parser: &mut Parser<'a>,
+    lexeme: Lexeme<'a>,
+    markup: &mut String,
+) -> Result<bool, AllocError>
+    requires { parser.old.frames.stack.items ≡ [] }
+    ensures node { (input : List Tok) → input ≡ lexeme_tok lexeme.entry ∷ parser.old.reader.list
+        → IfOk result (IsAppended input parser.new (string_bytes markup.old) (string_bytes markup.new)) }
+    ensures counted { Counted (opens (lexeme_tok lexeme.entry)) parser.old parser.new }
+{
+    let Some(leaf) = symbol(lexeme) else {
+        parser.parts.make_room(&mut parser.works)?;
+        let state = parser.begin(lexeme)?;
+        return append_rest(parser, state, markup);
+    };
+    match parser.reader.mark() {
+        // Most nodes are one such lexeme that no mark follows. These need no part.
+        None => {
+            write_leaf(leaf, markup)?;
+            Ok(true)
+        }
+        Some(_) => {
+            parser.parts.make_room(&mut parser.works)?;
+            let state = parser.put(leaf)?;
+            append_rest(parser, state, markup)
+        }
+    }
+}
+
+/// Goes on until the node is read, and appends it. Returns as [`append_node`] does.
+fn append_rest(parser: &mut Parser, begun: State, markup: &mut String) -> Result<bool, AllocError>
+    requires { HasTrees (trees_of_state begun) parser.old }
+    ensures node { (input : List Tok) → Holds input parser.old begun
+        → IfOk result (IsAppended input parser.new (string_bytes markup.old) (string_bytes markup.new)) }
+    ensures counted { Counted 0 parser.old parser.new }
+{
+    let is_read = parser.finish(begun)?;
+    if !is_read {
+        return Ok(false);
+    }
+    parser.parts.write(&mut parser.works, markup)?;
+    parser.parts.clear();
+    Ok(true)
+}
+
+/// Converts the formulas of a text, one after another. It keeps the room that it works in from each to the next.
+#[derive(Drop)]
+pub struct Converter<'a> {
+    parser: Parser<'a>,
+}
+
+impl<'a> Converter<'a> {
+    /// A converter that has no room yet.
+    pub fn new(alloc: Global) -> Converter<'a> {
+        Converter {
+            parser: Parser::new(alloc, ""),
+        }
+    }
+
+    /// Appends the markup of a formula to the text, whatever was converted before it.
+    pub fn append(
+        &mut self,
+        text: &mut String,
+        latex: &'a str,
+        display: DisplayStyle,
+    ) -> Result<(), LatexError>
+        ensures rendering { OnOk result ((markup : List ℕ) × IsRendering latex.now display markup
+            × (string_bytes text.new ≡ string_bytes text.old ++ markup)) }
+        ensures refusal { IfRefused result (IsFormulaRefusal latex.now) }
+    {
+        self.parser.restart(latex);
+        append_math(&mut self.parser, display, text)
+    }
+}

@@ -1,0 +1,215 @@
+//! Lexemes to parts: one loop over a stack of frames. Each step is proved to lead to what the grammar says about the
+//! tokens that were left before it.
+ghost use Rattle.std.specs.Prelude.{◌≡◌, ◌≢◌, ◌+◌, ◌<◌, [], false, IfOk, IfSome, List, vec_len};
+ghost use Rattle.std.specs.Str.{chars};
+ghost use Rattle.latex2mathml_grammar.specs.{Counts.backslashes, Cutting.slices_of};
+ghost use Rattle.latex2mathml_parser.specs.Frames.{awaits, innermost, tree_count, unfit};
+ghost use Rattle.latex2mathml_grammar.specs.Grammar.{Reads, Refused, node as a_node};
+ghost use Rattle.latex2mathml_parser.specs.{Levels.Leads, Unread.token_list};
+ghost use Rattle.latex2mathml_parser.specs.Steps.{Counted, GoesOnIn, HasTrees, Holds, IsStep, StacksWithin, last_state, level, trees_of_state, state_weight, frame_weight};
+ghost use Rattle.latex2mathml_tokens.specs.{Lexemes.lexeme_tok, Refusal.MissingParensethis, Refusal.refusal_of, Tok.Tok, Tok.tok};
+
+pub(crate) mod begin;
+mod deliver;
+pub(crate) mod frames;
+mod marks;
+
+use crate::reader::Reader;
+use frames::{Due, Frame, Frames};
+use latex2mathml_parts::parts::Parts;
+use latex2mathml_parts::work::Works;
+use latex2mathml_tokens::LatexError;
+use latex2mathml_tokens::lexeme::Lexeme;
+use latex2mathml_tokens::token::Token;
+use std::alloc::{AllocError, Global};
+use std::mem;
+
+/// What the next step has to do. The part that it speaks of is the last tree.
+#[derive(Clone, Copy)]
+pub(crate) enum State {
+    /// To read what is due.
+    Next,
+    /// To go on after a core.
+    Core,
+    /// To give the innermost frame the part that it waits for.
+    Part,
+    /// Nothing: the node of the formula is read.
+    End,
+    /// Nothing: the formula is refused.
+    Refused,
+}
+
+/// Reads a formula, one node at a time.
+#[derive(Drop)]
+pub(crate) struct Parser<'a> {
+    pub(crate) alloc: Global,
+    pub(crate) reader: Reader<'a>,
+    pub(crate) frames: Frames<'a>,
+    /// The trees that were read.
+    pub(crate) parts: Parts<'a>,
+    /// Room for the writer.
+    pub(crate) works: Works,
+    /// Why the formula is refused. It lies here so that what each step returns is small.
+    refusal: LatexError,
+}
+
+impl<'a> Parser<'a> {
+    /// A parser that has read nothing.
+    pub(crate) fn new(alloc: Global, text: &'a str) -> Parser<'a>
+        ensures slices { result.reader.slices ≡ slices_of false (chars text.now) }
+        ensures list { result.reader.list ≡ token_list (slices_of false (chars text.now)) }
+        ensures tokens { result.reader.tokens ≡ 0 }
+        ensures backslashes { result.reader.backslashes ≡ backslashes (slices_of false (chars text.now)) }
+        ensures comparisons { result.reader.comparisons ≡ 0 }
+        ensures closed { result.frames.stack.items ≡ [] }
+        ensures greatest { result.frames.greatest ≡ 0 }
+    {
+        Parser {
+            alloc,
+            reader: Reader::new(text),
+            frames: Frames::new(alloc),
+            parts: Parts::new(alloc),
+            works: Works::new(alloc),
+            refusal: LatexError::OutOfMemory,
+        }
+    }
+
+    /// Begins anew with a text. The lists keep their room.
+    pub(crate) fn restart(&mut self, text: &'a str)
+        ensures list { self.new.reader.list ≡ token_list (slices_of false (chars text.now)) }
+        ensures closed { self.new.frames.stack.items ≡ [] }
+    {
+        self.reader = Reader::new(text);
+        self.frames.clear();
+        self.parts.clear();
+    }
+
+    /// Goes on until the node of the formula is read, or the formula is refused. Returns whether the node is read: it is
+    /// the last tree then.
+    #[inline(always)]
+    #[tactic(auto, using(crate::proofs::Stepping::counted_none, crate::proofs::Stepping::stacks_within))]
+    pub(crate) fn finish(&mut self, begun: State) -> Result<bool, AllocError>
+        requires { HasTrees (trees_of_state begun) self.old }
+        ensures node { (input : List Tok) → Holds input self.old begun → IfOk result (λ read. Holds input self.new (last_state read)) }
+        ensures tree { IfOk result (λ read. HasTrees (trees_of_state (last_state read)) self.new) }
+        ensures counted { Counted 0 self.old self.new }
+        ensures stack { StacksWithin self.old self.new }
+    {
+        let mut state = begun;
+        'steps: loop {
+            match state {
+                State::End => return Ok(true),
+                State::Refused => return Ok(false),
+                going_on => state = self.step(going_on)?,
+            }
+        }
+    }
+
+    /// Takes out why the formula is refused.
+    #[cold]
+    pub(crate) fn refusal(&mut self) -> LatexError
+        ensures refusal { result ≡ self.old.refusal }
+        ensures counted { Counted 0 self.old self.new }
+    {
+        mem::replace(&mut self.refusal, LatexError::OutOfMemory)
+    }
+
+    #[inline(always)]
+    #[tactic(auto, using(crate::proofs::Stepping::stacks_within))]
+    fn step(&mut self, state: State) -> Result<State, AllocError>
+        requires going_on { (state ≢ State.End) × (state ≢ State.Refused) }
+        requires trees { HasTrees (trees_of_state state) self.old }
+        ensures holds { (input : List Tok) → Holds input self.old state → IfOk result (Holds input self.new) }
+        ensures step { IsStep 0 (state_weight state (innermost self.old.frames.stack.items)) self.old self.new result }
+        ensures stack { StacksWithin self.old self.new }
+    {
+        match state {
+            State::Next => self.next(),
+            State::Core => self.after_core(),
+            State::Part => self.after_part(),
+            State::End | State::Refused => unreachable!(),
+        }
+    }
+
+    /// Reads what is due, or ends the innermost group.
+    fn next(&mut self) -> Result<State, AllocError>
+        requires { HasTrees 0 self.old }
+        ensures holds { (input : List Tok) → Holds input self.old State.Next → IfOk result (Holds input self.new) }
+        ensures step { IsStep 0 (state_weight State.Next (innermost self.old.frames.stack.items)) self.old self.new result }
+    {
+        let lexeme = self.reader.take();
+        if let Lexeme::EOF = lexeme {
+            return self.at_end();
+        }
+        if self.frames.due().ends_at(lexeme) {
+            return self.close();
+        }
+        self.begin_any(lexeme)
+    }
+
+    /// What is due where no token is left: an open group is refused, and any other part is `EOF`, marked as an error.
+    #[tactic(auto, using(crate::proofs::Stacks::group_open, crate::proofs::Stacks::nothing_begun))]
+    fn at_end(&mut self) -> Result<State, AllocError>
+        requires { HasTrees 0 self.old }
+        ensures holds { (input : List Tok) → Leads (level 0 input self.old) [] → self.old.reader.list ≡ []
+            → IfOk result (Holds input self.new) }
+        ensures step { IsStep 0 (state_weight State.Next (innermost self.old.frames.stack.items)) self.old self.new result }
+    {
+        if let Due::Member(end) = self.frames.due() {
+            return Ok(self.refuse(LatexError::UnexpectedToken {
+                expected: end.token(),
+                got: Token::EOF,
+            }));
+        }
+        self.error(Lexeme::EOF)
+    }
+
+    /// Refuses the formula.
+    #[cold]
+    fn refuse(&mut self, error: LatexError) -> State
+        ensures state { result ≡ State.Refused }
+        ensures refusal { self.new ≡ record self.old { refusal = error } }
+        ensures holds { (input : List Tok) → IfSome (refusal_of error) (λ r. Reads a_node input (Refused r)) → Holds input self.new result }
+    {
+        self.refusal = error;
+        State::Refused
+    }
+
+    /// Refuses the formula, because this lexeme stands after a token where a fence must stand.
+    #[cold]
+    fn refuse_fence(&mut self, location: Token, got: Lexeme) -> Result<State, AllocError>
+        requires { HasTrees 0 self.old }
+        ensures holds { (input : List Tok)
+            → Reads a_node input (Refused (MissingParensethis (tok location) (lexeme_tok got.entry)))
+            → IfOk result (Holds input self.new) }
+        ensures step { IsStep 0 1 self.old self.new result }
+    {
+        let got = got.token(self.alloc)?;
+        Ok(self.refuse(LatexError::MissingParensethis { location, got }))
+    }
+
+    /// Opens a frame. Its next part is due then.
+    #[tactic(auto, using(crate::proofs::Stacks::put_on))]
+    fn open(&mut self, frame: Frame<'a>) -> Result<State, AllocError>
+        requires fit { unfit frame ≡ 0 }
+        requires trees { HasTrees (tree_count frame) self.old }
+        ensures holds { (input : List Tok) → GoesOnIn frame.entry input self.old → IfOk result (Holds input self.new) }
+        ensures step { IsStep 1 (frame_weight frame.entry + 6) self.old self.new result }
+    {
+        self.frames.open(frame)?;
+        Ok(State::Next)
+    }
+
+    /// Puts a frame back that was taken off. Its next part is due then. This is no opening: the frame was counted before.
+    #[tactic(auto, using(crate::proofs::Stacks::put_on))]
+    fn put_back(&mut self, frame: Frame<'a>) -> Result<State, AllocError>
+        requires fit { unfit frame ≡ 0 }
+        requires trees { HasTrees (tree_count frame) self.old }
+        requires room { vec_len self.old.frames.stack < self.old.frames.greatest }
+        ensures holds { (input : List Tok) → GoesOnIn frame.entry input self.old → IfOk result (Holds input self.new) }
+        ensures step { IsStep 0 (frame_weight frame.entry + state_weight State.Next (awaits frame.entry) + 1) self.old self.new result }
+    {
+        self.frames.put_back(frame)?;
+        Ok(State::Next)
+    }
+}

@@ -1,0 +1,276 @@
+//! How the rule of each lexeme is begun.
+
+ghost use Rattle.std.specs.Prelude.{◌≡◌, ◌≢◌, IfOk, IfSome, List, MatchOption, None, Some};
+ghost use Rattle.latex2mathml_grammar.specs.Openers.{opens};
+ghost use Rattle.latex2mathml_parser.specs.Frames.{with_limits};
+ghost use Rattle.latex2mathml_grammar.specs.Grammar.{a_root, error_rule, gives, rule, sized, takes_token};
+ghost use Rattle.latex2mathml_parser.specs.Steps.{Counted, GoesOnBy, HasTrees, Holds, IsStep, IsStretched};
+ghost use Rattle.latex2mathml_trees.specs.{Productions.fence_of, Tree.Tree};
+ghost use Rattle.latex2mathml_parts.specs.Forests.{trees_in};
+ghost use Rattle.latex2mathml_parts.specs.Parts.{arity, fence_text, put, top};
+ghost use Rattle.latex2mathml_tokens.specs.{Lexemes.lexeme_tok, Names.limit_text, Names.size_text};
+ghost use Rattle.latex2mathml_tokens.specs.declared.lexeme.Lexeme.{Lexeme};
+ghost use Rattle.latex2mathml_tokens.specs.Tok.{Tok, Begin, Left, Lim, Middle, OperatorName, Slashed, Text};
+
+use crate::parse::frames::{Frame, Group, Pair};
+use crate::parse::{Parser, State};
+use crate::reader::mark::Sign;
+use latex2mathml_parts::kind::Kind;
+use latex2mathml_tokens::LatexError;
+use latex2mathml_tokens::lexeme::Lexeme;
+use latex2mathml_tokens::names::{LimitName, Paren, Size};
+use latex2mathml_tokens::token::Token;
+use std::alloc::AllocError;
+
+impl<'a> Parser<'a> {
+    /// Begins the rule of a lexeme that was taken where a core is due. Most are leaves, which need no look at the other
+    /// rules.
+    #[inline(always)]
+    pub(crate) fn begin_any(&mut self, lexeme: Lexeme<'a>) -> Result<State, AllocError>
+        requires { HasTrees 0 self.old }
+        ensures holds { (input : List Tok) → GoesOnBy (rule (lexeme_tok lexeme.entry)) 0 input self.old → IfOk result (Holds input self.new) }
+        ensures step { IsStep (opens (lexeme_tok lexeme.entry)) 13 self.old self.new result }
+    {
+        match symbol(lexeme) {
+            Some(leaf) => self.put(leaf),
+            None => self.begin(lexeme),
+        }
+    }
+
+    /// Begins the rule of a lexeme that was taken where a core is due. An operator that is stretched begins with the lexeme
+    /// after `\middle`, which the frame keeps, because a refusal names it.
+    pub(crate) fn begin(&mut self, lexeme: Lexeme<'a>) -> Result<State, AllocError>
+        requires { HasTrees 0 self.old }
+        ensures holds { (input : List Tok) → GoesOnBy (rule (lexeme_tok lexeme.entry)) 0 input self.old → IfOk result (Holds input self.new) }
+        ensures step { IsStep (opens (lexeme_tok lexeme.entry)) 13 self.old self.new result }
+    {
+        let mut begun = lexeme;
+        'middles: while let Lexeme::Middle = begun {
+            begun = self.stretch()?;
+            if let Lexeme::EOF = begun {
+                return self.error(begun);
+            }
+        }
+        self.begin_rule(begun)
+    }
+
+    /// Opens the frame of an operator that is stretched, and takes the lexeme that it begins with.
+    fn stretch(&mut self) -> Result<Lexeme<'a>, AllocError>
+        requires { HasTrees 0 self.old }
+        ensures holds { (input : List Tok) → GoesOnBy (rule Middle) 0 input self.old
+            → IfOk result (λ got. GoesOnBy (rule (lexeme_tok got)) 0 input self.new) }
+        ensures counted { Counted 1 self.old self.new }
+        ensures taken { IfOk result (IsStretched self.old self.new) }
+    {
+        let got = self.reader.take();
+        self.frames.open(Frame::Stretch(got))?;
+        Ok(got)
+    }
+
+    /// Begins the rule of a lexeme that is not `\middle`.
+    fn begin_rule(&mut self, lexeme: Lexeme<'a>) -> Result<State, AllocError>
+        requires other { lexeme ≢ Lexeme.Middle }
+        requires trees { HasTrees 0 self.old }
+        ensures holds { (input : List Tok) → GoesOnBy (rule (lexeme_tok lexeme.entry)) 0 input self.old → IfOk result (Holds input self.new) }
+        ensures step { IsStep (opens (lexeme_tok lexeme.entry)) 13 self.old self.new result }
+    {
+        match lexeme {
+            Lexeme::LBrace => self.open(Frame::Members(Group::Brace, 0)),
+            Lexeme::Sqrt => self.root(),
+            Lexeme::Over(c, accent) => self.open(Frame::Operand(Kind::Over(c, accent))),
+            Lexeme::Under(c, accent) => self.open(Frame::Operand(Kind::Under(c, accent))),
+            Lexeme::Style(variant) => self.open(Frame::Style(variant)),
+            Lexeme::Frac => self.open(Frame::First(Kind::Frac)),
+            Lexeme::Binom(display) => self.open(Frame::First(Kind::Binom(display))),
+            Lexeme::Overset => self.open(Frame::First(Kind::Overset)),
+            Lexeme::Underset => self.open(Frame::First(Kind::Underset)),
+            Lexeme::Overbrace(c) => self.open(Frame::Single(Pair::Overbrace(c))),
+            Lexeme::Underbrace(c) => self.open(Frame::Single(Pair::Underbrace(c))),
+            Lexeme::BigOp(c) => self.limits(
+                c,
+                Pair::BigOp(c, Sign::Sub),
+                Pair::BigOp(c, Sign::Sup),
+            ),
+            Lexeme::Integral(c) => self.limits(
+                c,
+                Pair::Integral(c, Sign::Sub),
+                Pair::Integral(c, Sign::Sup),
+            ),
+            Lexeme::Lim(name) => self.limit(name),
+            Lexeme::Big(size) => self.size_paren(size),
+            Lexeme::Text => self.words(),
+            Lexeme::OperatorName => self.function(),
+            Lexeme::Slashed => self.slash(),
+            Lexeme::Left => self.open_fence(),
+            Lexeme::Middle => unreachable!(),
+            Lexeme::Begin => self.begin_environment(),
+            Lexeme::Number(digits) => self.put(Kind::Number(digits)),
+            Lexeme::Letter(c, variant) => self.put(Kind::Letter(c, variant)),
+            Lexeme::Operator(c) => self.put(Kind::Operator(c)),
+            Lexeme::Paren(paren) => self.put(Kind::Paren(paren)),
+            Lexeme::Ampersand => self.put(Kind::Ampersand),
+            Lexeme::Space(width) => self.put(Kind::Space(width)),
+            Lexeme::Function(name) => self.put(Kind::Function(name)),
+            Lexeme::NewLine => self.put(Kind::NewLine),
+            Lexeme::Illegal(_)
+            | Lexeme::EOF
+            | Lexeme::End
+            | Lexeme::Right
+            | Lexeme::RBrace
+            | Lexeme::Underscore
+            | Lexeme::Circumflex
+            | Lexeme::Command(_) => self.error(lexeme),
+        }
+    }
+
+    /// Puts a lexeme that has no meaning where it stands. It is marked as an error.
+    pub(crate) fn error(&mut self, lexeme: Lexeme<'a>) -> Result<State, AllocError>
+        requires { HasTrees 0 self.old }
+        ensures holds { (input : List Tok) → GoesOnBy (error_rule (lexeme_tok lexeme.entry)) 0 input self.old → IfOk result (Holds input self.new) }
+        ensures step { IsStep 0 5 self.old self.new result }
+    {
+        self.parts.put_error(lexeme)?;
+        Ok(State::Core)
+    }
+
+    /// A root, and its degree, if one stands next in square brackets.
+    fn root(&mut self) -> Result<State, AllocError>
+        requires { HasTrees 0 self.old }
+        ensures holds { (input : List Tok) → GoesOnBy a_root 0 input self.old → IfOk result (Holds input self.new) }
+        ensures step { IsStep 1 13 self.old self.new result }
+    {
+        if self.reader.take_bracket() {
+            return self.open(Frame::Members(Group::Degree, 0));
+        }
+        self.open(Frame::Operand(Kind::Sqrt))
+    }
+
+    /// An operator with the limits whose signs stand next.
+    fn limits(&mut self, operator: char, below: Pair, above: Pair) -> Result<State, AllocError>
+        requires { HasTrees 0 self.old }
+        ensures holds { (input : List Tok) → GoesOnBy (with_limits operator below above (trees_in self.old.parts)) 0 input self.old → IfOk result (Holds input self.new) }
+        ensures step { IsStep 1 13 self.old self.new result }
+    {
+        if self.reader.take_if(Sign::Sub) {
+            return self.open(Frame::Single(below));
+        }
+        if self.reader.take_if(Sign::Sup) {
+            return self.open(Frame::Single(above));
+        }
+        self.put(Kind::Operator(operator))
+    }
+
+    /// The name of a function, with a limit under it if the sign stands next.
+    fn limit(&mut self, name: LimitName) -> Result<State, AllocError>
+        requires { HasTrees 0 self.old }
+        ensures holds { (input : List Tok) → GoesOnBy (rule (Lim (limit_text name))) 0 input self.old → IfOk result (Holds input self.new) }
+        ensures step { IsStep 1 13 self.old self.new result }
+    {
+        if self.reader.take_if(Sign::Sub) {
+            return self.open(Frame::Last(Kind::LimitUnder(name)));
+        }
+        self.put(Kind::Limit(name))
+    }
+
+    /// A parenthesis of this size. It must stand next.
+    fn size_paren(&mut self, size: Size) -> Result<State, AllocError>
+        requires { HasTrees 0 self.old }
+        ensures holds { (input : List Tok) → GoesOnBy (takes_token (sized (size_text size))) 0 input self.old → IfOk result (Holds input self.new) }
+        ensures step { IsStep 0 13 self.old self.new result }
+    {
+        match self.reader.take() {
+            Lexeme::Paren(paren) => self.put(Kind::SizedParen(size, paren)),
+            got => {
+                let got = got.token(self.alloc)?;
+                Ok(self.refuse(LatexError::UnexpectedToken {
+                    expected: Token::Paren(""),
+                    got,
+                }))
+            }
+        }
+    }
+
+    /// Words, which stand next as a name.
+    fn words(&mut self) -> Result<State, AllocError>
+        requires { HasTrees 0 self.old }
+        ensures holds { (input : List Tok) → GoesOnBy (rule Text) 0 input self.old → IfOk result (Holds input self.new) }
+        ensures step { IsStep 0 13 self.old self.new result }
+    {
+        let text = self.reader.name(self.alloc)?;
+        self.parts.put_words(text)?;
+        Ok(State::Core)
+    }
+
+    /// A function that is spelled out.
+    fn function(&mut self) -> Result<State, AllocError>
+        requires { HasTrees 0 self.old }
+        ensures holds { (input : List Tok) → GoesOnBy (rule OperatorName) 0 input self.old → IfOk result (Holds input self.new) }
+        ensures step { IsStep 0 13 self.old self.new result }
+    {
+        let name = self.reader.name(self.alloc)?;
+        self.parts.put_function(name)?;
+        Ok(State::Core)
+    }
+
+    /// A slash. The lexeme after it is skipped.
+    fn slash(&mut self) -> Result<State, AllocError>
+        requires { HasTrees 0 self.old }
+        ensures holds { (input : List Tok) → GoesOnBy (rule Slashed) 0 input self.old → IfOk result (Holds input self.new) }
+        ensures step { IsStep 1 13 self.old self.new result }
+    {
+        self.reader.skip();
+        self.open(Frame::Slashed)
+    }
+
+    /// A fence, which must stand next, and the members after it.
+    #[tactic(auto, using(crate::proofs::Stepping::counted_skipped))]
+    fn open_fence(&mut self) -> Result<State, AllocError>
+        requires { HasTrees 0 self.old }
+        ensures holds { (input : List Tok) → GoesOnBy (rule Left) 0 input self.old → IfOk result (Holds input self.new) }
+        ensures step { IsStep 1 13 self.old self.new result }
+    {
+        let got = self.reader.take();
+        let Some(opening) = fence_of(got) else {
+            return self.refuse_fence(Token::Left, got);
+        };
+        self.open(Frame::Members(Group::Fence(opening), 0))
+    }
+
+    /// An environment: its name, and the members after it.
+    fn begin_environment(&mut self) -> Result<State, AllocError>
+        requires { HasTrees 0 self.old }
+        ensures holds { (input : List Tok) → GoesOnBy (rule Begin) 0 input self.old → IfOk result (Holds input self.new) }
+        ensures step { IsStep 1 13 self.old self.new result }
+    {
+        let name = self.reader.name(self.alloc)?;
+        self.parts.put_words(name)?;
+        self.open(Frame::Members(Group::Environment, 0))
+    }
+}
+
+/// The parenthesis of a fence, if the lexeme is one: a period is a fence without a parenthesis.
+pub(crate) fn fence_of(lexeme: Lexeme) -> Option<Option<Paren>>
+    ensures { MatchOption result (fence_of (lexeme_tok lexeme.entry) ≡ None)
+        (λ fence. fence_of (lexeme_tok lexeme.entry) ≡ Some (fence_text fence)) }
+{
+    match lexeme {
+        Lexeme::Paren(paren) => Some(Some(paren)),
+        Lexeme::Operator('.') => Some(None),
+        _ => None,
+    }
+}
+
+/// What a lexeme of the most frequent kinds makes, which are cores by themselves.
+pub(crate) fn symbol(lexeme: Lexeme<'_>) -> Option<Kind<'_>>
+    ensures { IfSome result (λ kind. (arity kind ≡ 0) × ((ts : List Tree) → rule (lexeme_tok lexeme.entry) ≡ gives (top (put kind ts)))) }
+{
+    match lexeme {
+        Lexeme::Number(digits) => Some(Kind::Number(digits)),
+        Lexeme::Letter(c, variant) => Some(Kind::Letter(c, variant)),
+        Lexeme::Operator(c) => Some(Kind::Operator(c)),
+        Lexeme::Paren(paren) => Some(Kind::Paren(paren)),
+        Lexeme::Space(width) => Some(Kind::Space(width)),
+        Lexeme::Function(name) => Some(Kind::Function(name)),
+        _ => None,
+    }
+}

@@ -1,0 +1,180 @@
+//! What goes on after a part, and after the end of a group.
+
+ghost use Rattle.std.specs.Prelude.{◌≡◌, ◌∷◌, ◌+◌, ◌<◌, IfOk, List, drop, reverse, take, vec_len};
+ghost use Rattle.latex2mathml_parser.specs.Frames.{after_first, tree_count, innermost, script, unfit, within};
+ghost use Rattle.latex2mathml_grammar.specs.Grammar.{after_fence_members, after_environment_members, gives, stretched_or_refused, under_slash};
+ghost use Rattle.latex2mathml_parser.specs.Levels.{Leads, Accepts, end_token};
+ghost use Rattle.latex2mathml_parser.specs.Steps.{GoesOnBy, HasTrees, Holds, IsStep, last_tree_read, level, frame_weight};
+ghost use Rattle.latex2mathml_trees.specs.{Productions.stretched_operator, Tree.Tree};
+ghost use Rattle.latex2mathml_parts.specs.Forests.{trees_in};
+ghost use Rattle.latex2mathml_parts.specs.Parts.{arity, fence_text, put, top, words_of};
+ghost use Rattle.latex2mathml_tokens.specs.{Lexemes.lexeme_tok, Tok.Tok};
+ghost use Rattle.latex2mathml_parser.specs.{declared.parse.frames.Due.Due, declared.parse.frames.GroupEnd.GroupEnd};
+
+use crate::parse::begin::fence_of;
+use crate::parse::frames::{Frame, Group, Pair};
+use crate::parse::{Parser, State};
+use crate::reader::mark::Sign;
+use latex2mathml_parts::kind::Kind;
+use latex2mathml_tokens::LatexError;
+use latex2mathml_tokens::lexeme::Lexeme;
+use latex2mathml_tokens::names::Paren;
+use latex2mathml_tokens::token::Token;
+use std::alloc::AllocError;
+
+impl<'a> Parser<'a> {
+    /// Gives the innermost frame the part that it waits for. Without frames the part is a node of the formula.
+    #[tactic(auto, using(crate::proofs::Stacks::taken_off))]
+    pub(crate) fn after_part(&mut self) -> Result<State, AllocError>
+        requires { HasTrees 1 self.old }
+        ensures holds { (input : List Tok) → Holds input self.old State.Part → IfOk result (Holds input self.new) }
+        ensures step { IsStep 0 3 self.old self.new result }
+    {
+        let Some(frame) = self.frames.pop() else {
+            return Ok(State::End);
+        };
+        self.deliver(frame)
+    }
+
+    /// Gives a frame, which was taken off, the part that it waits for.
+    #[tactic(auto, using(crate::proofs::Combining::member_read, crate::proofs::Combining::first_read))]
+    fn deliver(&mut self, frame: Frame<'a>) -> Result<State, AllocError>
+        requires fit { unfit frame ≡ 0 }
+        requires trees { HasTrees (tree_count frame + 1) self.old }
+        requires room { vec_len self.old.frames.stack < self.old.frames.greatest }
+        ensures holds { (input : List Tok) → Accepts (within input self.old.frames.stack.items frame.entry (drop 1 (trees_in self.old.parts))) (last_tree_read self.old) → IfOk result (Holds input self.new) }
+        ensures step { IsStep 0 (frame_weight frame.entry + 3) self.old self.new result }
+    {
+        match frame {
+            Frame::Members(group, count) => {
+                // All members are among the parts, so their number has room in a `usize`.
+                let _ = self.parts.len();
+                self.put_back(Frame::Members(group, count + 1))
+            }
+            Frame::Operand(kind) => self.put(kind),
+            Frame::Last(kind) => self.put(kind),
+            Frame::First(kind) => self.put_back(Frame::Operand(kind)),
+            Frame::Style(variant) => {
+                self.parts.give_style(variant);
+                Ok(State::Core)
+            }
+            Frame::Single(pair) => self.after_first(pair),
+            Frame::Slashed => self.end_slash(),
+            Frame::Stretch(got) => self.end_stretch(got),
+            Frame::Script(sign) => {
+                self.parts.put(script(sign))?;
+                Ok(State::Part)
+            }
+        }
+    }
+
+    /// Puts a part after its operands, if it has any.
+    pub(crate) fn put(&mut self, kind: Kind<'a>) -> Result<State, AllocError>
+        requires { HasTrees (arity kind) self.old }
+        ensures holds { (input : List Tok) → GoesOnBy (gives (top (put kind.entry (trees_in self.old.parts)))) (arity kind.entry) input self.old → IfOk result (Holds input self.new) }
+        ensures step { IsStep 0 5 self.old self.new result }
+    {
+        self.parts.put(kind)?;
+        Ok(State::Core)
+    }
+
+    /// Goes on after the single of a rule that takes a second one if its sign stands next.
+    fn after_first(&mut self, pair: Pair) -> Result<State, AllocError>
+        requires trees { HasTrees 1 self.old }
+        requires room { vec_len self.old.frames.stack < self.old.frames.greatest }
+        ensures holds { (input : List Tok) → GoesOnBy (after_first pair (drop 1 (trees_in self.old.parts)) (top (trees_in self.old.parts))) 1 input self.old → IfOk result (Holds input self.new) }
+        ensures step { IsStep 0 5 self.old self.new result }
+    {
+        if self.reader.take_if(pair.sign()) {
+            return self.put_back(Frame::Last(pair.two()));
+        }
+        self.put(pair.one())
+    }
+
+    /// Strikes the last tree through. The lexeme after it is skipped.
+    fn end_slash(&mut self) -> Result<State, AllocError>
+        requires { HasTrees 1 self.old }
+        ensures holds { (input : List Tok) → GoesOnBy (under_slash (top (trees_in self.old.parts))) 1 input self.old → IfOk result (Holds input self.new) }
+        ensures step { IsStep 0 5 self.old self.new result }
+    {
+        self.reader.skip();
+        self.parts.slash()?;
+        Ok(State::Core)
+    }
+
+    /// Stretches the operator that is the last tree, or refuses the lexeme that stood after `\middle`.
+    fn end_stretch(&mut self, got: Lexeme<'a>) -> Result<State, AllocError>
+        requires { HasTrees 1 self.old }
+        ensures holds { (input : List Tok) → GoesOnBy (stretched_or_refused (lexeme_tok got.entry) (stretched_operator (top (trees_in self.old.parts)))) 1 input self.old → IfOk result (Holds input self.new) }
+        ensures step { IsStep 0 5 self.old self.new result }
+    {
+        if self.parts.stretch() {
+            return Ok(State::Core);
+        }
+        self.refuse_fence(Token::Middle, got)
+    }
+
+    /// Ends the innermost group, whose end was taken.
+    pub(crate) fn close(&mut self) -> Result<State, AllocError>
+        requires due { (end : GroupEnd) × (innermost self.old.frames.stack.items ≡ Due.Member end) }
+        requires trees { HasTrees 0 self.old }
+        ensures holds { (input : List Tok) (end : GroupEnd) → innermost self.old.frames.stack.items ≡ Due.Member end
+            → Leads (level 0 input self.old) (end_token end ∷ self.old.reader.list) → IfOk result (Holds input self.new) }
+        ensures step { IsStep 0 16 self.old self.new result }
+    {
+        let Some(Frame::Members(group, count)) = self.frames.pop() else {
+            unreachable!()
+        };
+        match group {
+            Group::Brace => {
+                self.parts.group(count)?;
+                Ok(State::Core)
+            }
+            Group::Degree => {
+                self.parts.group(count)?;
+                self.put_back(Frame::Operand(Kind::Root))
+            }
+            Group::Fence(opening) => self.close_fence(opening, count),
+            Group::Environment => self.end_environment(count),
+        }
+    }
+
+    /// Ends a fence whose members were read.
+    fn close_fence(&mut self, opening: Option<Paren>, count: usize) -> Result<State, AllocError>
+        requires { HasTrees count self.old }
+        ensures holds { (input : List Tok) → GoesOnBy (after_fence_members (fence_text opening) (reverse (take count (trees_in self.old.parts)))) count input self.old → IfOk result (Holds input self.new) }
+        ensures step { IsStep 0 5 self.old self.new result }
+    {
+        let got = self.reader.take();
+        let Some(closing) = fence_of(got) else {
+            return self.refuse_fence(Token::Right, got);
+        };
+        self.parts.group(count)?;
+        self.put(Kind::Fenced(opening, closing))
+    }
+
+    /// Ends an environment whose members were read.
+    fn end_environment(&mut self, count: usize) -> Result<State, AllocError>
+        requires { HasTrees (count + 1) self.old }
+        ensures holds { (input : List Tok) → GoesOnBy (after_environment_members (words_of (top (drop count (trees_in self.old.parts)))) (reverse (take count (trees_in self.old.parts)))) (count + 1) input self.old → IfOk result (Holds input self.new) }
+        ensures step { IsStep 0 5 self.old self.new result }
+    {
+        self.reader.skip_name();
+        if self.parts.environment(count)? {
+            return Ok(State::Core);
+        }
+        let name = String::from_str(self.alloc, self.parts.name(count))?;
+        Ok(self.refuse(LatexError::UnknownEnvironment(name)))
+    }
+}
+
+/// The part that a script of this sign makes.
+fn script(sign: Sign) -> Kind<'static>
+    ensures arity { arity result ≡ 2 }
+    ensures trees { (ts : List Tree) → put result ts ≡ script sign (top (drop 1 ts)) (top ts) ∷ drop 2 ts }
+{
+    match sign {
+        Sign::Sub => Kind::Sub,
+        Sign::Sup => Kind::Sup,
+    }
+}

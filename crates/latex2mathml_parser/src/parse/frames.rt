@@ -1,0 +1,271 @@
+//! The parser's stack of frames: rules that were begun, and how much of each was read.
+//!
+//! A frame holds no tree. What was read for it are the last trees of the parser's parts.
+ghost use Rattle.std.specs.Prelude.{◌≡◌, ◌∷◌, ◌++◌, ◌+◌, ◌<◌, ◌≤◌, ◌↔◌, [], IsTrue, List, MatchBool, MatchOption, OnOk, max, sum_by, vec_len};
+ghost use Rattle.latex2mathml_parser.specs.Frames.{awaits, end_of, innermost, one_of_pair, pair_sign, takes_script, two_of_pair, unfit};
+ghost use Rattle.latex2mathml_parser.specs.{Levels.MayBegin, Levels.end_token, declared.parse.frames.GroupEnd.GroupEnd};
+ghost use Rattle.latex2mathml_tokens.specs.{Lexemes.lexeme_tok, Tok.Tok, Tok.tok};
+
+use crate::reader::mark::Sign;
+use latex2mathml_parts::kind::Kind;
+use latex2mathml_tokens::attribute::Variant;
+use latex2mathml_tokens::lexeme::Lexeme;
+use latex2mathml_tokens::names::Paren;
+use latex2mathml_tokens::token::Token;
+use std::alloc::{AllocError, Global};
+
+/// The token that ends a group.
+#[derive(Clone, Copy)]
+pub(crate) enum GroupEnd {
+    Brace,
+    /// `]`
+    Bracket,
+    Right,
+    End,
+}
+
+impl GroupEnd {
+    pub(crate) fn token(self) -> Token
+        ensures { tok result ≡ end_token self }
+    {
+        match self {
+            GroupEnd::Brace => Token::RBrace,
+            GroupEnd::Bracket => Token::Paren("]"),
+            GroupEnd::Right => Token::Right,
+            GroupEnd::End => Token::End,
+        }
+    }
+
+    /// Whether the lexeme ends such a group.
+    #[tactic(auto, using(crate::proofs::Stacks::one_bracket))]
+    pub(crate) fn is(self, lexeme: Lexeme) -> bool
+        ensures { IsTrue result ↔ (lexeme_tok lexeme.entry ≡ end_token self) }
+    {
+        match self {
+            GroupEnd::Brace => matches!(lexeme, Lexeme::RBrace),
+            GroupEnd::Bracket => matches!(lexeme, Lexeme::Paren(Paren::RightSquare)),
+            GroupEnd::Right => matches!(lexeme, Lexeme::Right),
+            GroupEnd::End => matches!(lexeme, Lexeme::End),
+        }
+    }
+}
+
+/// What is due: a member of a group with this end, or a part.
+#[derive(Clone, Copy)]
+pub(crate) enum Due {
+    Member(GroupEnd),
+    Node,
+    Single,
+    Core,
+}
+
+impl Due {
+    /// Whether the lexeme ends the group whose member is due.
+    pub(crate) fn ends_at(self, lexeme: Lexeme) -> bool
+        ensures { MatchBool result
+            ((end : GroupEnd) × (self ≡ Due.Member end) × (lexeme_tok lexeme.entry ≡ end_token end))
+            ((place : List Tok) → MayBegin self (lexeme_tok lexeme.entry ∷ place)) }
+    {
+        match self {
+            Due::Member(end) => end.is(lexeme),
+            Due::Node | Due::Single | Due::Core => false,
+        }
+    }
+
+    /// Whether a script may follow what is due.
+    pub(crate) fn takes_script(self) -> bool
+        ensures { result ≡ takes_script self }
+    {
+        matches!(self, Due::Member(_) | Due::Node)
+    }
+}
+
+/// What is made of members that stand side by side up to an end.
+#[derive(Clone, Copy)]
+pub(crate) enum Group {
+    Brace,
+    /// The degree of a root.
+    Degree,
+    /// What stands between two fences, of which this one opens. A period is none.
+    Fence(Option<Paren>),
+    /// An environment, whose name stands before its members, as words.
+    Environment,
+}
+
+impl Group {
+    fn end(self) -> GroupEnd
+        ensures { result ≡ end_of self }
+    {
+        match self {
+            Group::Brace => GroupEnd::Brace,
+            Group::Degree => GroupEnd::Bracket,
+            Group::Fence(_) => GroupEnd::Right,
+            Group::Environment => GroupEnd::End,
+        }
+    }
+}
+
+/// A rule of a single, and of a second one if a sign stands between them.
+#[derive(Clone, Copy)]
+pub(crate) enum Pair {
+    Overbrace(char),
+    Underbrace(char),
+    /// The limits of an operator, which stand under and over it. This sign stood before the first.
+    BigOp(char, Sign),
+    /// The limits of an integral, which stand after it.
+    Integral(char, Sign),
+}
+
+impl Pair {
+    /// The sign that the second single stands after.
+    pub(crate) fn sign(self) -> Sign
+        ensures { result ≡ pair_sign self }
+    {
+        match self {
+            Pair::Overbrace(_) | Pair::BigOp(_, Sign::Sub) | Pair::Integral(_, Sign::Sub) => {
+                Sign::Sup
+            }
+            Pair::Underbrace(_) | Pair::BigOp(_, Sign::Sup) | Pair::Integral(_, Sign::Sup) => {
+                Sign::Sub
+            }
+        }
+    }
+
+    /// What is made of one single.
+    pub(crate) fn one(self) -> Kind<'static>
+        ensures { result ≡ one_of_pair self }
+    {
+        match self {
+            Pair::Overbrace(c) => Kind::Overbrace(c),
+            Pair::Underbrace(c) => Kind::Underbrace(c),
+            Pair::BigOp(c, Sign::Sub) => Kind::LimitBelow(c),
+            Pair::BigOp(c, Sign::Sup) => Kind::LimitAbove(c),
+            Pair::Integral(c, Sign::Sub) => Kind::LimitSub(c),
+            Pair::Integral(c, Sign::Sup) => Kind::LimitSup(c),
+        }
+    }
+
+    /// What is made of two.
+    pub(crate) fn two(self) -> Kind<'static>
+        ensures { result ≡ two_of_pair self }
+    {
+        match self {
+            Pair::Overbrace(c) => Kind::OverbraceWith(c),
+            Pair::Underbrace(c) => Kind::UnderbraceWith(c),
+            Pair::BigOp(c, Sign::Sub) => Kind::LimitsBelowAbove(c),
+            Pair::BigOp(c, Sign::Sup) => Kind::LimitsAboveBelow(c),
+            Pair::Integral(c, Sign::Sub) => Kind::LimitsSubSup(c),
+            Pair::Integral(c, Sign::Sup) => Kind::LimitsSupSub(c),
+        }
+    }
+}
+
+/// A rule that was begun. What was read of it are the last trees.
+#[derive(Clone, Copy)]
+pub(crate) enum Frame<'a> {
+    /// A group, of which so many members were read.
+    Members(Group, usize),
+    /// A rule that waits for its last operand, and what is made of its operands.
+    Operand(Kind<'a>),
+    /// A rule that waits for the first of two operands.
+    First(Kind<'a>),
+    /// A style that waits for its operand.
+    Style(Variant),
+    /// A rule that waits for its single, or for the first of two.
+    Single(Pair),
+    /// A rule that waits for its last single.
+    Last(Kind<'a>),
+    /// A slash that waits for what it strikes through.
+    Slashed,
+    /// The lexeme after `\middle`. The operator is due.
+    Stretch(Lexeme<'a>),
+    /// A script, whose base was read.
+    Script(Sign),
+}
+
+impl<'a> Frame<'a> {
+    /// What the rule waits for.
+    fn awaits(&self) -> Due
+        ensures { result ≡ awaits self.now }
+    {
+        match self {
+            Frame::Members(group, _) => Due::Member(group.end()),
+            Frame::Operand(_) | Frame::First(_) | Frame::Style(_) => Due::Core,
+            Frame::Single(_) | Frame::Last(_) | Frame::Stretch(_) => Due::Single,
+            Frame::Slashed | Frame::Script(_) => Due::Node,
+        }
+    }
+}
+
+/// The frames, the innermost last, and the greatest number of them at any time.
+#[derive(Drop)]
+pub(crate) struct Frames<'a> {
+    pub(crate) stack: Vec<Frame<'a>>,
+    pub(crate) greatest: u128,
+    ghost covered: { vec_len stack ≤ greatest },
+    ghost fit: { sum_by unfit stack.items ≡ 0 },
+}
+
+impl<'a> Frames<'a> {
+    pub(crate) fn new(alloc: Global) -> Frames<'a>
+        ensures empty { result.stack.items ≡ [] }
+        ensures greatest { result.greatest ≡ 0 }
+    {
+        Frames {
+            stack: Vec::new(alloc),
+            greatest: 0,
+        }
+    }
+
+    /// Drops all frames, and keeps their room. Counting begins anew.
+    pub(crate) fn clear(&mut self)
+        ensures empty { self.new.stack.items ≡ [] }
+        ensures greatest { self.new.greatest ≡ 0 }
+    {
+        self.stack.clear();
+        self.greatest = 0;
+    }
+
+    /// Opens a frame.
+    pub(crate) fn open(&mut self, frame: Frame<'a>) -> Result<(), AllocError>
+        requires { unfit frame ≡ 0 }
+        ensures stack { OnOk result (self.new.stack.items ≡ self.old.stack.items ++ frame.entry ∷ []) }
+        ensures greatest { self.new.greatest ≤ max self.old.greatest (vec_len self.old.stack + 1) }
+    {
+        self.stack.push(frame)?;
+        self.greatest = self.greatest.max(self.stack.len() as u128);
+        Ok(())
+    }
+
+    /// Puts a frame back that was taken off. This is no opening, so it leaves the greatest number.
+    pub(crate) fn put_back(&mut self, frame: Frame<'a>) -> Result<(), AllocError>
+        requires room { vec_len self.old.stack < self.old.greatest }
+        requires fit { unfit frame ≡ 0 }
+        ensures stack { OnOk result (self.new.stack.items ≡ self.old.stack.items ++ frame.entry ∷ []) }
+        ensures greatest { self.new.greatest ≡ self.old.greatest }
+    {
+        self.stack.push(frame)?;
+        Ok(())
+    }
+
+    /// Takes the innermost frame off.
+    pub(crate) fn pop(&mut self) -> Option<Frame<'a>>
+        ensures stack { MatchOption result ((self.old.stack.items ≡ []) × (self.new.stack.items ≡ []))
+            (λ frame. self.old.stack.items ≡ self.new.stack.items ++ frame ∷ []) }
+        ensures fit { MatchOption result (self.old.stack.items ≡ []) (λ frame. unfit frame ≡ 0) }
+        ensures greatest { self.new.greatest ≡ self.old.greatest }
+    {
+        self.stack.pop()
+    }
+
+    /// What is due: what the innermost frame waits for, or a node of the formula.
+    #[tactic(auto, using(crate::proofs::Stacks::innermost_push))]
+    pub(crate) fn due(&self) -> Due
+        ensures { result ≡ innermost self.now.stack.items }
+    {
+        match self.stack.split_last() {
+            Some((frame, _)) => frame.awaits(),
+            None => Due::Node,
+        }
+    }
+}

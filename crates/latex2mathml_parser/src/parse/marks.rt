@@ -1,0 +1,76 @@
+//! Primes and scripts, which go on with what stands before them.
+
+ghost use Rattle.std.specs.Prelude.{◌≡◌, IfOk, List, Some};
+ghost use Rattle.latex2mathml_grammar.specs.Grammar.{first, prime, single as a_single};
+ghost use Rattle.latex2mathml_parser.specs.{Levels.Made, Marks.sign_token};
+ghost use Rattle.latex2mathml_parser.specs.Steps.{HasTrees, Holds, IsStep, last_tree_read, level};
+ghost use Rattle.latex2mathml_tokens.specs.Tok.{Tok};
+
+use crate::parse::frames::{Due, Frame};
+use crate::parse::{Parser, State};
+use crate::reader::mark::{Mark, Sign};
+use latex2mathml_parts::kind::Kind;
+use std::alloc::AllocError;
+
+impl<'a> Parser<'a> {
+    /// Goes on after a core, with a prime or a script if one follows.
+    #[tactic(auto, using(crate::proofs::Levels::unprimed, crate::proofs::Levels::unscripted))]
+    pub(crate) fn after_core(&mut self) -> Result<State, AllocError>
+        requires { HasTrees 1 self.old }
+        ensures holds { (input : List Tok) → Holds input self.old State.Core → IfOk result (Holds input self.new) }
+        ensures step { IsStep 0 4 self.old self.new result }
+    {
+        let Some(mark) = self.reader.mark() else {
+            return self.after_part();
+        };
+        match mark {
+            Mark::Prime => self.after_prime(),
+            Mark::Script(sign) => self.after_sign(sign),
+        }
+    }
+
+    /// Goes on after a core that a prime follows: the prime is taken, unless a core is due.
+    fn after_prime(&mut self) -> Result<State, AllocError>
+        requires prime { first self.old.reader.list ≡ Some prime }
+        requires trees { HasTrees 1 self.old }
+        ensures holds { (input : List Tok) → Holds input self.old State.Core → IfOk result (Holds input self.new) }
+        ensures step { IsStep 0 4 self.old self.new result }
+    {
+        if let Due::Core = self.frames.due() {
+            return Ok(State::Part);
+        }
+        self.reader.skip();
+        self.parts.put(Kind::Primed)?;
+        self.after_single()
+    }
+
+    /// Goes on after a single, with a script if one follows.
+    #[tactic(auto, using(crate::proofs::Levels::unscripted))]
+    fn after_single(&mut self) -> Result<State, AllocError>
+        requires { HasTrees 1 self.old }
+        ensures holds { (input : List Tok) → Made a_single (level 1 input self.old) (last_tree_read self.old) → IfOk result (Holds input self.new) }
+        ensures step { IsStep 0 4 self.old self.new result }
+    {
+        let Some(mark) = self.reader.mark() else {
+            return Ok(State::Part);
+        };
+        match mark {
+            Mark::Prime => Ok(State::Part),
+            Mark::Script(sign) => self.after_sign(sign),
+        }
+    }
+
+    /// Goes on after a single that a sign follows: the sign is taken if a node is due.
+    fn after_sign(&mut self, sign: Sign) -> Result<State, AllocError>
+        requires sign { first self.old.reader.list ≡ Some (sign_token sign) }
+        requires trees { HasTrees 1 self.old }
+        ensures holds { (input : List Tok) → Made a_single (level 1 input self.old) (last_tree_read self.old) → IfOk result (Holds input self.new) }
+        ensures step { IsStep 0 4 self.old self.new result }
+    {
+        if !self.frames.due().takes_script() {
+            return Ok(State::Part);
+        }
+        self.reader.skip();
+        self.open(Frame::Script(sign))
+    }
+}

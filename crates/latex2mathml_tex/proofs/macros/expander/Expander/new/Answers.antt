@@ -1,8 +1,0 @@
-use Rattle.std.proofs.Common.{ap, ◌∙◌}
-use Rattle.latex2mathml_tex_grammar.specs.{Expanding.expansion, Expansion.most_units, Expansion.most_uses}
-use Rattle.latex2mathml_tex_grammar.proofs.SameTables.{expansion_same}
-use Rattle.latex2mathml_tex.specs.MacroTables.{table_of}
-use Rattle.latex2mathml_tex.proofs.macros.expander.Expander.new.Goals as goal
-
-pub returns : goal.returns
-returns c = ap (expansion (table_of c.within.result) most_uses most_units) c.new.ensures ∙ expansion_same _ _ most_uses most_units _ c.within.ensures

@@ -1,0 +1,124 @@
+-- The turns of an expansion, in the code and in the grammar.
+use Rattle.std.proofs.Common.{◌≡◌, ℕ, suc, ◌+◌, ◌<◌, ◌≤◌, List, Option, Some, None, refl, sym, ap, subst, ◌∙◌, arith}
+use Rattle.std.specs.Prelude.{option_map, Err}
+use Rattle.latex2mathml_tex_grammar.specs.Definitions.{behind_definition, definition_of, word_named}
+use Rattle.latex2mathml_tex_grammar.specs.Definitions as definitions
+use Rattle.latex2mathml_tex_grammar.specs.Expanding.{expansion}
+use Rattle.latex2mathml_tex_grammar.specs.Expansion.{Stands, Stays, Turns, defined, name_role, role_of, turn, turn_of, used, word_role}
+use Rattle.latex2mathml_tex_grammar.specs.{Macros.Macro, Macros.SameMacros, Macros.Table, Macros.count, Reading.Read, UsualMacros.usual_macros}
+use Rattle.latex2mathml_tex_grammar.specs.Units as units
+use Rattle.latex2mathml_tex_grammar.specs.Units.{Units}
+use Rattle.latex2mathml_tex_grammar.proofs.Expanding.{Shrinks, expansion_end, expansion_fails, expansion_stays, expansion_stop, expansion_turns, turn_shrinks}
+use Rattle.latex2mathml_tex_grammar.proofs.SameTables.{expansion_same}
+use Rattle.latex2mathml_tex_units.specs.{Bodies.macro_of, Expanded.IsHalted, Expanded.Turned, Expanded.after_refusal, MacroTables.defined_in, MacroTables.or_usual, MacroTables.table_of, Taking.Takes, Taking.piece_of, Taking.unit_of}
+use Rattle.latex2mathml_tex_units.specs.declared.macros.{expander.Expander.Expander, halt.Halt.Halt, scope.Scope.Scope}
+use Rattle.latex2mathml_tex_units.specs.declared.macros.part.Macro.{Macro as CodeMacro}
+use Rattle.latex2mathml_tex_units.specs.declared.unit.{Fault.Fault, Next.Next, Piece.Piece, Unit.Unit}
+use Rattle.latex2mathml_tex_units.specs.declared.macros.halt.Halt.TheVariants as halt
+use Rattle.latex2mathml_tex_units.specs.declared.unit.Next.TheVariants as next
+use Rattle.latex2mathml_tex_units.specs.declared.unit.Piece.TheVariants as piece
+
+-- the use of a command at a place
+abbrev named : List ℕ → ℕ → units.Unit
+named name place = units.unit (units.Command name) place
+
+-- A turn of the code
+
+abbrev pub TurnsTo : Table → ℕ → ℕ → List ℕ → ℕ → Units → ℕ → ℕ → Units → Table → Type 0
+TurnsTo table uses room name place l uses_left room_left m new =
+    (next : Table) × (turn table uses room (named name place) l ≡ Turns next uses_left room_left m) × SameMacros next new
+
+pub replaced_defined : (m : Scope) (name : List ℕ) (place uses room uses_left room_left : ℕ) (l k : Units) (found : CodeMacro)
+    → Some (macro_of found) ≡ defined_in m name
+    → used (table_of m) uses room (named name place) (macro_of found) l ≡ Turns (table_of m) uses_left room_left k
+    → TurnsTo (table_of m) uses room name place l uses_left room_left k (table_of m)
+replaced_defined m name place uses room uses_left room_left l k found e d =
+    (table_of m, ap (λ x. turn_of (name_role (or_usual x name) name) (table_of m) uses room (named name place) l) (sym e) ∙ d, λ other. refl)
+
+-- what a name stands for that was not defined
+undefined : (m : Scope) (name : List ℕ) (x : Option Macro) → None ≡ defined_in m name → x ≡ usual_macros name → x ≡ table_of m name
+undefined m name x e f = f ∙ ap (λ y. or_usual y name) e
+
+pub replaced_usual : (m : Scope) (name : List ℕ) (place uses room uses_left room_left : ℕ) (l k : Units) (o : Option CodeMacro) (found : CodeMacro)
+    → None ≡ defined_in m name
+    → option_map macro_of o ≡ usual_macros name
+    → o ≡ Some found
+    → used (table_of m) uses room (named name place) (macro_of found) l ≡ Turns (table_of m) uses_left room_left k
+    → TurnsTo (table_of m) uses room name place l uses_left room_left k (table_of m)
+replaced_usual m name place uses room uses_left room_left l k o found none usual is d =
+    let stands : Some (macro_of found) ≡ table_of m name = undefined m name (Some (macro_of found)) none (ap (option_map macro_of) (sym is) ∙ usual) in
+    (table_of m, ap (λ x. turn_of (name_role x name) (table_of m) uses room (named name place) l) (sym stands) ∙ d, λ other. refl)
+
+pub word_taken : (m n : Scope) (name : List ℕ) (place uses room : ℕ) (l k : Units) (o : Option CodeMacro) (word : definitions.Word) (d : definitions.Definition)
+    → None ≡ defined_in m name
+    → option_map macro_of o ≡ usual_macros name
+    → o ≡ None
+    → Some word ≡ word_named name
+    → definition_of word place l ≡ Read d k
+    → SameMacros (table_of n) (behind_definition word d (table_of m))
+    → TurnsTo (table_of m) uses room name place l uses room k (table_of n)
+word_taken m n name place uses room l k o word d none usual is named_so read same =
+    let stands : None ≡ table_of m name = undefined m name None none (ap (option_map macro_of) (sym is) ∙ usual) in (
+      behind_definition word d (table_of m),
+      ap (λ x. turn_of (name_role x name) (table_of m) uses room (named name place) l) (sym stands)
+          ∙ ap (λ w. turn_of (word_role w) (table_of m) uses room (named name place) l) (sym named_so)
+          ∙ ap (λ x. defined (table_of m) uses room word x) read,
+      λ other. sym (same other),
+    )
+
+-- Taking the next unit
+
+-- nothing was refused
+pub takes_left : (taken : Next) (r q : Option (Fault × ℕ)) (l m : Units) → r ≡ None → q ≡ None → Takes taken l m → Takes taken (after_refusal r l) (after_refusal q m)
+takes_left taken r q l m e f d = subst (λ x. Takes taken (after_refusal x l) (after_refusal q m)) (sym e) (subst (λ x. Takes taken l (after_refusal x m)) (sym f) d)
+
+-- the end, or what is no unit
+pub ended : (taken : Next) (table : Table) (uses room : ℕ) (l k start : Units) → expansion table uses room l ≡ start → ((u : Unit) → taken ≡ next.Unit u → ⊥) → Takes taken l k → Takes taken start (expansion table uses room k)
+ended (next.Unit u) table uses room l k start same apart d = absurd (apart u refl)
+ended (next.End place) table uses room l k start same apart (is, left) = (sym same ∙ ap (expansion table uses room) is ∙ expansion_end table uses room place, ap (expansion table uses room) left ∙ same)
+ended (next.Fault fault place) table uses room l k start same apart (is, left) = (sym same ∙ ap (expansion table uses room) is ∙ expansion_stop table uses room _, ap (expansion table uses room) left ∙ same)
+
+-- a unit that stands
+pub stood : (taken : Next) (table : Table) (uses room : ℕ) (u : Unit) (v : units.Unit) (l k start x : Units) → taken ≡ next.Unit u → expansion table uses room l ≡ start → l ≡ units.Next (unit_of u) k → unit_of u ≡ v
+    → turn table uses room v k ≡ Stays → x ≡ expansion table uses room k → Takes taken start x
+stood taken table uses room u v l k start x e same is v_is stays rest =
+    let on : expansion table uses room (units.Next v k) ≡ units.Next v (expansion table uses room k) = expansion_stays table uses room v k stays in
+    let whole : start ≡ units.Next (unit_of u) x =
+    sym same ∙ ap (expansion table uses room) (is ∙ ap (λ w. units.Next w k) v_is) ∙ on ∙ ap (λ w. units.Next w (expansion table uses room k)) (sym v_is) ∙ ap (units.Next (unit_of u)) (sym rest) in
+    subst (λ n. Takes n start x) (sym e) whole
+
+pub no_command : (table : Table) (uses room : ℕ) (u : Unit) (k : Units) → ((name : _) → u.piece ≡ piece.Command name → ⊥) → turn table uses room (unit_of u) k ≡ Stays
+no_command table uses room u k apart = ap (λ role. turn_of role table uses room (unit_of u) k) (stands u.piece apart)
+  where
+    stands : (p : Piece) → ((name : _) → p ≡ piece.Command name → ⊥) → role_of table (piece_of p) ≡ Stands
+    stands piece.Space apart = refl
+    stands piece.Open apart = refl
+    stands piece.Close apart = refl
+    stands (piece.Command name) apart = absurd (apart name refl)
+    stands (piece.Character c) apart = refl
+
+-- a unit that is replaced
+pub turned_on : (table new : Table) (uses room uses_left room_left : ℕ) (u v : units.Unit) (l k m start : Units) → expansion table uses room l ≡ start → l ≡ units.Next u k → u ≡ v
+    → (next : Table) × (turn table uses room v k ≡ Turns next uses_left room_left m) × SameMacros next new
+    → expansion new uses_left room_left m ≡ start
+turned_on table new uses room uses_left room_left u v l k m start same is v_is (next, turns, tables) =
+    sym (expansion_same next new uses_left room_left m tables) ∙ sym (expansion_turns table uses room v k next uses_left room_left m turns)
+    ∙ ap (expansion table uses room) (sym (is ∙ ap (λ w. units.Next w k) v_is)) ∙ same
+
+pub turned_smaller : (table new : Table) (uses room uses_left room_left : ℕ) (u v : units.Unit) (l k m : Units) → l ≡ units.Next u k
+    → (next : Table) × (turn table uses room v k ≡ Turns next uses_left room_left m) × SameMacros next new
+    → count m + room_left < count l + room
+turned_smaller table new uses room uses_left room_left u v l k m is (next, turns, tables) =
+    let less : count m + room_left ≤ count k + room = subst (Shrinks (count k + room)) turns (turn_shrinks (role_of table v.piece) table uses room v k) in
+    let more : count l ≡ suc (count k) = ap count is in
+    omega (arith, less, more)
+
+-- what is refused
+pub is_halted : (h : Halt) (old new : Expander) (table : Table) (uses room : ℕ) (u v : units.Unit) (l k start : Units) → expansion table uses room l ≡ start → l ≡ units.Next u k → u ≡ v
+    → Turned (Err h) (turn table uses room v k) old new → IsHalted h start
+is_halted (halt.Refused fault place) old new table uses room u v l k start same is v_is fails =
+    sym same ∙ ap (expansion table uses room) (is ∙ ap (λ w. units.Next w k) v_is) ∙ expansion_fails table uses room v k _ fails
+is_halted halt.OutOfMemory old new table uses room u v l k start same is v_is fails = tt
+
+pub halted_left : (h : Halt) (r : Option (Fault × ℕ)) (l : Units) → r ≡ None → IsHalted h l → IsHalted h (after_refusal r l)
+halted_left h r l e d = subst (λ x. IsHalted h (after_refusal x l)) (sym e) d

@@ -1,0 +1,46 @@
+use Rattle.latex2mathml_tex_grammar.specs.TextCommands.{text_commands}
+use Rattle.latex2mathml_tex_units.proofs.Names.{is_other}
+use Rattle.latex2mathml_tex_units.proofs.text_commands.text_character.Goals as goal
+
+pub returns-in_default : goal.returns-in_default
+unfolding text_commands
+returns-in_default c = rw (
+  is_other c.in_default.not-text,
+  is_other c.in_default.not-text-2,
+  is_other c.in_default.not-text-3,
+  is_other c.in_default.not-text-4,
+  is_other c.in_default.not-AA,
+  is_other c.in_default.not-AE,
+  is_other c.in_default.not-O,
+  is_other c.in_default.not-OE,
+  is_other c.in_default.not-text-5,
+  is_other c.in_default.not-aa,
+  is_other c.in_default.not-ae,
+  is_other c.in_default.not-i,
+  is_other c.in_default.not-j,
+  is_other c.in_default.not-o,
+  is_other c.in_default.not-oe,
+  is_other c.in_default.not-ss,
+  is_other c.in_default.not-textasciicircum,
+  is_other c.in_default.not-textasciitilde,
+  is_other c.in_default.not-textbackslash,
+  is_other c.in_default.not-textbar,
+  is_other c.in_default.not-textbraceleft,
+  is_other c.in_default.not-textbraceright,
+  is_other c.in_default.not-textdegree,
+  is_other c.in_default.not-textdollar,
+  is_other c.in_default.not-textellipsis,
+  is_other c.in_default.not-textemdash,
+  is_other c.in_default.not-textendash,
+  is_other c.in_default.not-textgreater,
+  is_other c.in_default.not-textless,
+  is_other c.in_default.not-textquotedblleft,
+  is_other c.in_default.not-textquotedblright,
+  is_other c.in_default.not-textquoteleft,
+  is_other c.in_default.not-textquoteright,
+  is_other c.in_default.not-textregistered,
+  is_other c.in_default.not-textsterling,
+  is_other c.in_default.not-textunderscore,
+  is_other c.in_default.not-text-6,
+  is_other c.in_default.not-text-7,
+)

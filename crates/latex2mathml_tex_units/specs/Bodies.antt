@@ -1,0 +1,27 @@
+-- The bodies of macros, and macros.
+use Rattle.std.specs.Prelude.{ℕ, List, map, Vec}
+use Rattle.std.specs.Global.{Global}
+use Rattle.latex2mathml_tex_grammar.specs.Macros as macros
+use Rattle.latex2mathml_tex_units.specs.{Taking.piece_of, declared.macros.part.Macro.Macro, declared.macros.part.Part.Part, declared.macros.usual.Usual.Usual}
+use Rattle.latex2mathml_tex_units.specs.declared.macros.part.Part.TheVariants as part
+
+abbrev pub part_of : Part → macros.Part
+part_of (part.Fixed piece) = macros.Fixed (piece_of piece)
+part_of (part.Argument k) = macros.Argument k
+
+abbrev pub parts_in : Vec Part Global → List macros.Part
+parts_in v = map part_of v.items
+
+abbrev pub macro_of : Macro → macros.Macro
+macro_of m = macros.macro m.arity (parts_in m.body)
+
+-- an entry of the table of usual macros
+abbrev pub entry_of : Usual → List ℕ × ℕ × List ℕ
+entry_of entry = (entry.name.now, entry.arity, entry.body.now)
+
+-- .. by its name
+abbrev pub by_name : List ℕ × ℕ × List ℕ → List ℕ × (ℕ × List ℕ)
+by_name entry = (entry.0, (entry.1, entry.2))
+
+abbrev pub named_entry : Usual → List ℕ × (ℕ × List ℕ)
+named_entry entry = by_name (entry_of entry)

@@ -1,0 +1,108 @@
+//! Braces around arguments, and delimiters that may stand in them.
+ghost use Rattle.std.specs.Prelude.{◌≡◌, ◌≤◌, ◌∷◌, ◌++◌, ℕ, [], MatchBool, MatchOption, None, Some};
+ghost use Rattle.latex2mathml_tex_grammar.specs.{Delimiters.delimiter_of, Next.next_are};
+ghost use Rattle.latex2mathml_tex_grammar.specs.Refusal.{MissingDelimiter, refusal_at};
+ghost use Rattle.latex2mathml_tex_grammar.specs.Rules.{a_left_brace, a_right_brace, an_outer_delimiter, empty_braces};
+ghost use Rattle.latex2mathml_tex_units.specs.{Delimiters.delimiter_text, Left.unit_count, Left.units_at};
+ghost use Rattle.latex2mathml_tex_units.specs.HandedOn.{HandsOn, Stops};
+
+use crate::input::Input;
+use crate::unit::{Next, Piece};
+
+impl<'a> Input<'a> {
+    /// Takes the delimiter that stands next, in braces or without. Empty braces are the empty one. Otherwise nothing is passed
+    /// over.
+    pub fn take_outer_delimiter(&mut self) -> Option<Option<char>>
+        ensures { MatchOption result
+            ((units_at self.new ≡ units_at self.old)
+            × ((place : ℕ) → Stops (an_outer_delimiter place) (units_at self.old)
+            (refusal_at MissingDelimiter place)))
+            (λ d. (unit_count (units_at self.new) ≤ unit_count (units_at self.old))
+            × ((place : ℕ) → HandsOn (an_outer_delimiter place) (units_at self.old)
+            (delimiter_text d) (units_at self.new))) }
+    {
+        if let Some(delimiter) = self.take_delimiter() {
+            return Some(delimiter);
+        }
+        if let Some(delimiter) = self.take_braced_delimiter() {
+            return Some(delimiter);
+        }
+        if self.take_empty_braces() {
+            return Some(None);
+        }
+        None
+    }
+
+    /// Takes the delimiter in braces that stands next, if one does.
+    fn take_braced_delimiter(&mut self) -> Option<Option<char>>
+        ensures { MatchOption result
+            ((next_are (a_left_brace ∷ delimiter_of ∷ a_right_brace ∷ []) (units_at self.old)
+            ≡ None)
+            × (units_at self.new ≡ units_at self.old))
+            (λ d. next_are (a_left_brace ∷ delimiter_of ∷ a_right_brace ∷ []) (units_at self.old)
+            ≡ Some (delimiter_text d ++ [], units_at self.new)) }
+    {
+        let mut ahead = *self;
+        if ahead.take_left_brace()
+            && let Some(delimiter) = ahead.take_delimiter()
+            && ahead.take_right_brace()
+        {
+            *self = ahead;
+            return Some(delimiter);
+        }
+        None
+    }
+
+    /// Takes the empty braces that stand next, if they do.
+    pub fn take_empty_braces(&mut self) -> bool
+        ensures { MatchBool result
+            (next_are empty_braces (units_at self.old) ≡ Some ([], units_at self.new))
+            ((next_are empty_braces (units_at self.old) ≡ None)
+            × (units_at self.new ≡ units_at self.old)) }
+    {
+        let mut ahead = *self;
+        if ahead.take_left_brace() && ahead.take_right_brace() {
+            *self = ahead;
+            return true;
+        }
+        false
+    }
+
+    /// Takes the opening brace that stands next, if one does.
+    fn take_left_brace(&mut self) -> bool
+        ensures { MatchBool result
+            (next_are (a_left_brace ∷ []) (units_at self.old) ≡ Some ([], units_at self.new))
+            ((next_are (a_left_brace ∷ []) (units_at self.old) ≡ None)
+            × (units_at self.new ≡ units_at self.old)) }
+    {
+        let mut ahead = *self;
+        ahead.skip_space();
+        if let Next::Unit(unit) = ahead.next
+            && let Piece::Open = unit.piece
+        {
+            ahead.advance();
+            *self = ahead;
+            return true;
+        }
+        false
+    }
+
+    /// Takes the closing brace that stands next, if one does.
+    fn take_right_brace(&mut self) -> bool
+        ensures { MatchBool result
+            (next_are (a_right_brace ∷ []) (units_at self.old) ≡ Some ([], units_at self.new))
+            ((next_are (a_right_brace ∷ []) (units_at self.old) ≡ None)
+            × (units_at self.new ≡ units_at self.old)) }
+    {
+        let mut ahead = *self;
+        ahead.skip_space();
+        if let Next::Unit(unit) = ahead.next
+            && let Piece::Close = unit.piece
+        {
+            ahead.advance();
+            *self = ahead;
+            return true;
+        }
+        false
+    }
+}

@@ -1,0 +1,58 @@
+//! Dots: where they stand in the middle of the line, and where on it.
+ghost use Rattle.std.specs.Prelude.{◌≡◌};
+ghost use Rattle.latex2mathml_tex_grammar.specs.Dots;
+ghost use Rattle.latex2mathml_tex_units.specs.{Meanings.class_of, Meanings.meaning_of, Meanings.symbol_of, Taking.piece_of};
+
+use crate::meaning::{Class, Meaning, Symbol};
+use crate::unit::Piece;
+use crate::{commands, signs};
+
+/// Dots on the line.
+pub const LOW_DOTS: Symbol = Symbol::Sign(Class::Inner, '…');
+
+/// Dots in the middle of the line.
+pub const CENTERED_DOTS: Symbol = Symbol::Sign(Class::Inner, '⋯');
+
+/// Whether dots before this piece stand in the middle of the line.
+pub fn centers_dots(piece: Piece) -> bool
+    ensures { result ≡ Dots.centers_dots (piece_of piece.entry) }
+{
+    match piece {
+        Piece::Character(c) => match signs::symbol_of(c) {
+            Some(symbol) => symbol_centers(symbol),
+            None => false,
+        },
+        Piece::Command(name) => match commands::look_up(name) {
+            Some(meaning) => meaning_centers(meaning),
+            None => false,
+        },
+        Piece::Space | Piece::Open | Piece::Close => false,
+    }
+}
+
+fn meaning_centers(meaning: Meaning) -> bool
+    ensures { result ≡ Dots.meaning_centers (meaning_of meaning) }
+{
+    match meaning {
+        Meaning::Shows(symbol) => symbol_centers(symbol),
+        Meaning::Classed(class) => class_centers(class),
+        Meaning::StackedRelation | Meaning::Negation => true,
+        _ => false,
+    }
+}
+
+fn symbol_centers(symbol: Symbol) -> bool
+    ensures { result ≡ Dots.symbol_centers (symbol_of symbol) }
+{
+    match symbol {
+        Symbol::Sign(class, _) => class_centers(class),
+        Symbol::BigOperator(_) | Symbol::Integral(_) => true,
+        Symbol::Letter(_) | Symbol::UprightLetter(_) => false,
+    }
+}
+
+fn class_centers(class: Class) -> bool
+    ensures { result ≡ Dots.class_centers (class_of class) }
+{
+    matches!(class, Class::Binary | Class::Relation)
+}

@@ -1,0 +1,138 @@
+//! The environments.
+ghost use Rattle.std.specs.Prelude.{◌≡◌, MatchOption, None, Some, map};
+ghost use Rattle.latex2mathml_tex_grammar.specs.Environments;
+ghost use Rattle.latex2mathml_tex_units.specs.Environments.{entry_of, environment_of, layout_of};
+ghost use Rattle.latex2mathml_builder.specs.Columns.{columns_of};
+
+use crate::meaning::Style;
+use crate::scanning::Argument;
+use latex2mathml_builder::columns::{Column, Columns};
+
+/// A kind of table that has a name.
+#[derive(Clone, Copy)]
+pub struct Environment {
+    pub name: &'static str,
+    /// The delimiters around it, if it has any. One without a character is none.
+    pub delimiters: Option<(Option<char>, Option<char>)>,
+    pub layout: Layout,
+    /// The style of its cells.
+    pub style: Style,
+    /// What may stand in brackets behind its name.
+    pub bracket: Bracket,
+    /// What stands in braces behind its name.
+    pub argument: Option<Argument>,
+}
+
+/// What may stand in brackets behind the name of an environment.
+#[derive(Clone, Copy)]
+pub enum Bracket {
+    Nothing,
+    /// A letter that says how it stands in its line.
+    Position,
+    /// A letter that says where cells stand in their columns.
+    Alignment,
+}
+
+/// How the cells of an environment stand in their columns, unless the author says it.
+#[derive(Clone, Copy)]
+pub enum Layout {
+    Centered,
+    LeftAligned,
+    /// In the middle, with little space around.
+    Dense,
+    InPairs,
+    /// The two sides of a relation, and the relation between them.
+    AroundRelation,
+}
+
+impl Layout {
+    /// The columns.
+    pub fn columns(self) -> Columns
+        ensures { columns_of result ≡ layout_of self }
+    {
+        match self {
+            Layout::Centered => Columns::alike(Column::Centered),
+            Layout::LeftAligned => Columns::alike(Column::LeftAligned),
+            Layout::Dense => Columns::alike(Column::Dense),
+            Layout::InPairs => Columns::in_pairs(),
+            Layout::AroundRelation => Columns::right_center_left(),
+        }
+    }
+}
+
+/// The environment of this name, if there is one.
+pub fn look_up(name: &str) -> Option<&'static Environment>
+    ensures { MatchOption result (Environments.environment_of name.now ≡ None)
+        (λ e. (Environments.environment_of name.now ≡ Some (environment_of e.now))
+        × (e.now.name.now ≡ name.now)) }
+{
+    search(environments(), name)
+}
+
+fn search(table: &'static [Environment], name: &str) -> Option<&'static Environment>
+    ensures { let found = Environments.entry_environment (map entry_of table.now) name.now
+        in MatchOption result (found ≡ None)
+        (λ e. (found ≡ Some (environment_of e.now)) × (e.now.name.now ≡ name.now)) }
+{
+    let mut entries = table;
+    'entries: while !entries.is_empty() {
+        let entry = &entries[0];
+        if entry.name == name {
+            return Some(entry);
+        }
+        entries = &entries[1..];
+    }
+    None
+}
+
+/// The environments, in the order of their names' bytes.
+#[tactic(auto, unfolding(latex2mathml_tex_grammar::specs::Environments::environments))]
+fn environments() -> &'static [Environment]
+    ensures { map entry_of result.now ≡ Environments.environments }
+{
+    &ENVIRONMENTS
+}
+
+#[rattlefmt::skip]
+static ENVIRONMENTS: [Environment; 40] = [
+    Environment { name: "Bmatrix", delimiters: Some((Some('{'), Some('}'))), layout: Layout::Centered, style: Style::InText, bracket: Bracket::Nothing, argument: None },
+    Environment { name: "Bmatrix*", delimiters: Some((Some('{'), Some('}'))), layout: Layout::Centered, style: Style::InText, bracket: Bracket::Alignment, argument: None },
+    Environment { name: "Vmatrix", delimiters: Some((Some('‖'), Some('‖'))), layout: Layout::Centered, style: Style::InText, bracket: Bracket::Nothing, argument: None },
+    Environment { name: "Vmatrix*", delimiters: Some((Some('‖'), Some('‖'))), layout: Layout::Centered, style: Style::InText, bracket: Bracket::Alignment, argument: None },
+    Environment { name: "align", delimiters: None, layout: Layout::InPairs, style: Style::InDisplay, bracket: Bracket::Nothing, argument: None },
+    Environment { name: "align*", delimiters: None, layout: Layout::InPairs, style: Style::InDisplay, bracket: Bracket::Nothing, argument: None },
+    Environment { name: "alignat", delimiters: None, layout: Layout::InPairs, style: Style::InDisplay, bracket: Bracket::Nothing, argument: Some(Argument::Number) },
+    Environment { name: "alignat*", delimiters: None, layout: Layout::InPairs, style: Style::InDisplay, bracket: Bracket::Nothing, argument: Some(Argument::Number) },
+    Environment { name: "aligned", delimiters: None, layout: Layout::InPairs, style: Style::InDisplay, bracket: Bracket::Position, argument: None },
+    Environment { name: "alignedat", delimiters: None, layout: Layout::InPairs, style: Style::InDisplay, bracket: Bracket::Position, argument: Some(Argument::Number) },
+    Environment { name: "array", delimiters: None, layout: Layout::Centered, style: Style::InText, bracket: Bracket::Position, argument: Some(Argument::ColumnList) },
+    Environment { name: "bmatrix", delimiters: Some((Some('['), Some(']'))), layout: Layout::Centered, style: Style::InText, bracket: Bracket::Nothing, argument: None },
+    Environment { name: "bmatrix*", delimiters: Some((Some('['), Some(']'))), layout: Layout::Centered, style: Style::InText, bracket: Bracket::Alignment, argument: None },
+    Environment { name: "cases", delimiters: Some((Some('{'), None)), layout: Layout::LeftAligned, style: Style::InText, bracket: Bracket::Nothing, argument: None },
+    Environment { name: "dcases", delimiters: Some((Some('{'), None)), layout: Layout::LeftAligned, style: Style::InDisplay, bracket: Bracket::Nothing, argument: None },
+    Environment { name: "displaymath", delimiters: None, layout: Layout::Centered, style: Style::InDisplay, bracket: Bracket::Nothing, argument: None },
+    Environment { name: "drcases", delimiters: Some((None, Some('}'))), layout: Layout::LeftAligned, style: Style::InDisplay, bracket: Bracket::Nothing, argument: None },
+    Environment { name: "eqnarray", delimiters: None, layout: Layout::AroundRelation, style: Style::InDisplay, bracket: Bracket::Nothing, argument: None },
+    Environment { name: "eqnarray*", delimiters: None, layout: Layout::AroundRelation, style: Style::InDisplay, bracket: Bracket::Nothing, argument: None },
+    Environment { name: "equation", delimiters: None, layout: Layout::Centered, style: Style::InDisplay, bracket: Bracket::Nothing, argument: None },
+    Environment { name: "equation*", delimiters: None, layout: Layout::Centered, style: Style::InDisplay, bracket: Bracket::Nothing, argument: None },
+    Environment { name: "flalign", delimiters: None, layout: Layout::InPairs, style: Style::InDisplay, bracket: Bracket::Nothing, argument: None },
+    Environment { name: "flalign*", delimiters: None, layout: Layout::InPairs, style: Style::InDisplay, bracket: Bracket::Nothing, argument: None },
+    Environment { name: "gather", delimiters: None, layout: Layout::Centered, style: Style::InDisplay, bracket: Bracket::Nothing, argument: None },
+    Environment { name: "gather*", delimiters: None, layout: Layout::Centered, style: Style::InDisplay, bracket: Bracket::Nothing, argument: None },
+    Environment { name: "gathered", delimiters: None, layout: Layout::Centered, style: Style::InDisplay, bracket: Bracket::Position, argument: None },
+    Environment { name: "math", delimiters: None, layout: Layout::Centered, style: Style::InText, bracket: Bracket::Nothing, argument: None },
+    Environment { name: "matrix", delimiters: None, layout: Layout::Centered, style: Style::InText, bracket: Bracket::Nothing, argument: None },
+    Environment { name: "matrix*", delimiters: None, layout: Layout::Centered, style: Style::InText, bracket: Bracket::Alignment, argument: None },
+    Environment { name: "multline", delimiters: None, layout: Layout::LeftAligned, style: Style::InDisplay, bracket: Bracket::Nothing, argument: None },
+    Environment { name: "multline*", delimiters: None, layout: Layout::LeftAligned, style: Style::InDisplay, bracket: Bracket::Nothing, argument: None },
+    Environment { name: "pmatrix", delimiters: Some((Some('('), Some(')'))), layout: Layout::Centered, style: Style::InText, bracket: Bracket::Nothing, argument: None },
+    Environment { name: "pmatrix*", delimiters: Some((Some('('), Some(')'))), layout: Layout::Centered, style: Style::InText, bracket: Bracket::Alignment, argument: None },
+    Environment { name: "rcases", delimiters: Some((None, Some('}'))), layout: Layout::LeftAligned, style: Style::InText, bracket: Bracket::Nothing, argument: None },
+    Environment { name: "smallmatrix", delimiters: None, layout: Layout::Dense, style: Style::InScript, bracket: Bracket::Nothing, argument: None },
+    Environment { name: "split", delimiters: None, layout: Layout::InPairs, style: Style::InDisplay, bracket: Bracket::Nothing, argument: None },
+    Environment { name: "subarray", delimiters: None, layout: Layout::Dense, style: Style::InScript, bracket: Bracket::Nothing, argument: Some(Argument::ColumnList) },
+    Environment { name: "substack", delimiters: None, layout: Layout::Dense, style: Style::InScript, bracket: Bracket::Nothing, argument: None },
+    Environment { name: "vmatrix", delimiters: Some((Some('|'), Some('|'))), layout: Layout::Centered, style: Style::InText, bracket: Bracket::Nothing, argument: None },
+    Environment { name: "vmatrix*", delimiters: Some((Some('|'), Some('|'))), layout: Layout::Centered, style: Style::InText, bracket: Bracket::Alignment, argument: None },
+];

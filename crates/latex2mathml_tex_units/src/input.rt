@@ -1,0 +1,239 @@
+//! The units that are left, of which the next one is in sight.
+ghost use Rattle.std.specs.Prelude.{◌≡◌, ◌∷◌, [], false, IsTrue, MatchBool, MatchOption, None, Some};
+ghost use Rattle.latex2mathml_tex_grammar.specs.Delimiters.{delimiter_of, negated_of};
+ghost use Rattle.latex2mathml_tex_grammar.specs.{Dots.centers_dots, Next.follows, Next.past_space};
+ghost use Rattle.latex2mathml_tex_grammar.specs.Rules.{a_character, a_digit, in_brackets};
+ghost use Rattle.latex2mathml_tex_units.specs.{Left.TakesNext, Left.TakesNone, Left.units_end, Left.put_back, Left.units_at, Left.units_behind, Whole.whole_units};
+ghost use Rattle.latex2mathml_tex_grammar.specs.Units as units;
+ghost use Rattle.latex2mathml_tex_units.specs.Delimiters.{delimiter_text};
+
+use crate::delimiters::{delimiter_of, negated_of};
+use crate::dots::centers_dots;
+use crate::macros::whole::{End, Whole};
+use crate::unit::{Next, Piece, Unit};
+
+#[derive(Clone, Copy)]
+pub struct Input<'a> {
+    units: &'a [Unit<'a>],
+    /// How many stand before those behind the one in sight.
+    passed: usize,
+    /// How they end.
+    end: End,
+    /// What stands next.
+    pub next: Next<'a>,
+}
+
+impl End {
+    /// What stands behind the last unit.
+    fn next<'a>(self) -> Next<'a>
+        ensures { (l : units.Units) → put_back result l ≡ units_end self }
+    {
+        match self {
+            End::Text(place) => Next::End(place),
+            End::Fault(fault, place) => Next::Fault(fault, place),
+        }
+    }
+}
+
+impl<'a> Input<'a> {
+    /// All of these units.
+    pub fn new(whole: &'a Whole<'a>) -> Input<'a>
+        ensures { units_at result ≡ whole_units whole.now }
+    {
+        let mut input = Input {
+            units: &whole.units,
+            passed: 0,
+            end: whole.end,
+            next: whole.end.next(),
+        };
+        input.look_ahead();
+        input
+    }
+
+    /// Passes over the unit that stands next, if one does.
+    pub fn advance(&mut self)
+        ensures { units_at self.old ≡ put_back self.old.next (units_at self.new) }
+    {
+        self.look_ahead();
+    }
+
+    /// Brings the first of the units behind the one in sight into sight.
+    fn look_ahead(&mut self)
+        ensures { units_at self.new ≡ units_behind self.old }
+    {
+        match self.units.get(self.passed) {
+            Some(unit) => {
+                self.next = Next::Unit(*unit);
+                self.passed += 1;
+            }
+            None => self.next = self.end.next(),
+        }
+    }
+
+    /// Passes over white space.
+    pub fn skip_space(&mut self)
+        ensures { units_at self.new ≡ past_space (units_at self.old) }
+    {
+        'space: while let Next::Unit(
+            Unit {
+                piece: Piece::Space,
+                ..
+            },
+        ) = self.next
+        {
+            self.advance();
+        }
+    }
+
+    /// Whether dots before what stands next stand in the middle of the line.
+    pub fn centers_dots(&self) -> bool
+        ensures { result ≡ follows centers_dots (units_at self.now) }
+    {
+        let mut ahead = *self;
+        ahead.skip_space();
+        match ahead.next {
+            Next::Unit(unit) => centers_dots(unit.piece),
+            Next::End(_) | Next::Fault(_, _) => false,
+        }
+    }
+
+    /// Takes the delimiter that stands next, if one does. Otherwise nothing is passed over.
+    pub fn take_delimiter(&mut self) -> Option<Option<char>>
+        ensures { MatchOption result
+            (TakesNone (delimiter_of ∷ []) self.old self.new)
+            (λ d. TakesNext (delimiter_of ∷ []) (delimiter_text d) self.old self.new) }
+    {
+        let mut ahead = *self;
+        ahead.skip_space();
+        if let Next::Unit(unit) = ahead.next
+            && let Some(delimiter) = delimiter_of(unit.piece)
+        {
+            ahead.advance();
+            *self = ahead;
+            return Some(delimiter);
+        }
+        None
+    }
+
+    /// Takes the unit that stands next, if it has a sign of its own when it is negated: that sign.
+    pub fn take_negated(&mut self) -> Option<char>
+        ensures { MatchOption result
+            (TakesNone (negated_of ∷ []) self.old self.new)
+            (λ c. TakesNext (negated_of ∷ []) (delimiter_text (Some c)) self.old self.new) }
+    {
+        let mut ahead = *self;
+        ahead.skip_space();
+        if let Next::Unit(unit) = ahead.next
+            && let Some(sign) = negated_of(unit.piece)
+        {
+            ahead.advance();
+            *self = ahead;
+            return Some(sign);
+        }
+        None
+    }
+
+    /// Takes this ASCII character, if it stands next.
+    pub fn take_character(&mut self, c: char) -> bool
+        ensures { MatchBool result
+            (TakesNext (a_character c ∷ []) (c ∷ []) self.old self.new)
+            (TakesNone (a_character c ∷ []) self.old self.new) }
+    {
+        if let Next::Unit(unit) = self.next
+            && let Piece::Character(d) = unit.piece
+        {
+            if c != d {
+                return false;
+            }
+            self.advance();
+            return true;
+        }
+        self.take_character_past_space(c)
+    }
+
+    /// The same, where white space may stand first.
+    fn take_character_past_space(&mut self, c: char) -> bool
+        ensures { MatchBool result
+            (TakesNext (a_character c ∷ []) (c ∷ []) self.old self.new)
+            (TakesNone (a_character c ∷ []) self.old self.new) }
+    {
+        let mut ahead = *self;
+        ahead.skip_space();
+        if let Next::Unit(unit) = ahead.next
+            && let Piece::Character(d) = unit.piece
+            && c == d
+        {
+            ahead.advance();
+            *self = ahead;
+            return true;
+        }
+        false
+    }
+
+    /// Takes this ASCII character in brackets, if it stands next.
+    pub fn take_in_brackets(&mut self, c: char) -> bool
+        ensures { MatchBool result
+            (TakesNext (in_brackets c) (91 ∷ c ∷ 93 ∷ []) self.old self.new)
+            (TakesNone (in_brackets c) self.old self.new) }
+    {
+        let mut ahead = *self;
+        if ahead.take_character('[') && ahead.take_character(c) && ahead.take_character(']') {
+            *self = ahead;
+            return true;
+        }
+        false
+    }
+
+    /// Takes the digit that stands next, if one does.
+    pub fn take_digit(&mut self) -> Option<char>
+        ensures { MatchOption result
+            (TakesNone (a_digit ∷ []) self.old self.new)
+            (λ c. TakesNext (a_digit ∷ []) (c ∷ []) self.old self.new) }
+    {
+        if let Next::Unit(unit) = self.next
+            && let Piece::Character(c) = unit.piece
+        {
+            if !c.is_ascii_digit() {
+                return None;
+            }
+            self.advance();
+            return Some(c);
+        }
+        self.take_digit_past_space()
+    }
+
+    /// The same, where white space may stand first.
+    fn take_digit_past_space(&mut self) -> Option<char>
+        ensures { MatchOption result
+            (TakesNone (a_digit ∷ []) self.old self.new)
+            (λ c. TakesNext (a_digit ∷ []) (c ∷ []) self.old self.new) }
+    {
+        let mut ahead = *self;
+        ahead.skip_space();
+        if let Next::Unit(unit) = ahead.next
+            && let Piece::Character(c) = unit.piece
+            && c.is_ascii_digit()
+        {
+            ahead.advance();
+            *self = ahead;
+            return Some(c);
+        }
+        None
+    }
+
+    /// Takes a point and the digit after it, if they stand next: the digit.
+    pub fn take_point(&mut self) -> Option<char>
+        ensures { MatchOption result
+            (TakesNone (a_character 46 ∷ a_digit ∷ []) self.old self.new)
+            (λ c. TakesNext (a_character 46 ∷ a_digit ∷ []) (46 ∷ c ∷ []) self.old self.new) }
+    {
+        let mut ahead = *self;
+        if ahead.take_character('.')
+            && let Some(digit) = ahead.take_digit()
+        {
+            *self = ahead;
+            return Some(digit);
+        }
+        None
+    }
+}

@@ -1,0 +1,14 @@
+//! Macros.
+
+mod arguments;
+mod definitions;
+pub mod expander;
+mod halt;
+mod part;
+mod pending;
+mod putting;
+mod scope;
+pub mod table;
+mod texts;
+mod usual;
+pub mod whole;

@@ -1,0 +1,236 @@
+//! Definitions of macros.
+ghost use Rattle.std.specs.Prelude.{◌≡◌, map, option_map};
+ghost use Rattle.latex2mathml_tex_grammar.specs.Definitions.{are_space, body, body_in_braces, command_definition, definition_of, is_delimited, name_in, name_of, number_of, operator_definition, parameters, plain_definition, word_named};
+ghost use Rattle.latex2mathml_tex_units.specs.{Bodies.parts_in, Defined.definition_in, Defined.word_of, Pending.Reads, Pending.pending_units, Taking.unit_of};
+
+use crate::macros::halt::Halt;
+use crate::macros::part::{Macro, Part, operator_parts, parts_of};
+use crate::macros::pending::Pending;
+use crate::unit::{Fault, Piece, Unit};
+use std::alloc::Global;
+
+/// The words that define.
+#[derive(Clone, Copy)]
+pub(crate) enum Word {
+    /// `\newcommand` and `\renewcommand`.
+    NewCommand,
+    /// `\providecommand`, which leaves a macro that is there.
+    ProvideCommand,
+    /// `\def`
+    Def,
+    /// `\DeclareMathOperator`
+    DeclareOperator,
+}
+
+/// The word of this name.
+pub(crate) fn word_named(name: &str) -> Option<Word>
+    ensures { option_map word_of result ≡ word_named name.now }
+{
+    if name == "newcommand" || name == "renewcommand" {
+        Some(Word::NewCommand)
+    } else if name == "providecommand" {
+        Some(Word::ProvideCommand)
+    } else if name == "def" {
+        Some(Word::Def)
+    } else if name == "DeclareMathOperator" {
+        Some(Word::DeclareOperator)
+    } else {
+        None
+    }
+}
+
+/// What is defined.
+#[derive(Drop)]
+pub(crate) struct Definition<'a> {
+    pub(crate) name: &'a str,
+    pub(crate) stands_for: Macro<'a>,
+}
+
+/// Whether the units are white space alone.
+fn are_space(units: &[Unit]) -> bool
+    ensures { result ≡ are_space (map unit_of units.now) }
+{
+    for unit in units {
+        let Piece::Space = unit.piece else {
+            return false;
+        };
+    }
+    true
+}
+
+/// The one command that these units are, white space aside: its name.
+fn name_in<'a>(units: &[Unit<'a>]) -> Option<&'a str>
+    ensures { option_map (λ name. name.now) result ≡ name_in (map unit_of units.now) }
+{
+    let mut passed = 0;
+    'units: while passed < units.len() {
+        match units[passed].piece {
+            Piece::Space => passed += 1,
+            Piece::Command(name) => {
+                if are_space(&units[passed + 1..]) {
+                    return Some(name);
+                }
+                return None;
+            }
+            _ => return None,
+        }
+    }
+    None
+}
+
+impl<'a> Pending<'a> {
+    /// Takes the name that a definition at this place defines.
+    fn take_name(&mut self, alloc: Global, place: usize) -> Result<&'a str, Halt>
+        ensures { Reads result (λ name. name.now) (name_of place) self.old self.new }
+    {
+        let units = self.take_argument(alloc, place)?;
+        match name_in(&units) {
+            Some(name) => Ok(name),
+            None => Err(Halt::Refused(Fault::MissingMacroName, place)),
+        }
+    }
+
+    /// Takes how many arguments there are, between brackets.
+    fn take_number(&mut self, place: usize) -> Result<usize, Halt>
+        ensures { Reads result (λ n. n) (number_of place) self.old self.new }
+    {
+        if !self.take_sign('[') {
+            return Ok(0);
+        }
+        let Some(number) = self.take_digit() else {
+            return Err(Halt::Refused(Fault::WrongParameters, place));
+        };
+        if !self.take_sign(']') {
+            return Err(Halt::Refused(Fault::WrongParameters, place));
+        }
+        if self.take_sign('[') {
+            return Err(Halt::Refused(Fault::OptionalArgument, place));
+        }
+        Ok(number)
+    }
+
+    /// Takes `#1`, `#2` and so on: how many there are.
+    fn take_parameters(&mut self, place: usize) -> Result<usize, Halt>
+        ensures { Reads result (λ n. n) (parameters place 9 0) self.old self.new }
+    {
+        let mut count: u8 = 0;
+        'count: while count < 9 {
+            if !self.take_sign('#') {
+                return Ok(usize::from(count));
+            }
+            if !self.take_sign(char::from(b'1' + count)) {
+                return Err(Halt::Refused(Fault::WrongParameters, place));
+            }
+            count += 1;
+        }
+        Ok(9)
+    }
+
+    /// Takes the body of a macro with so many arguments.
+    fn take_body(
+        &mut self,
+        alloc: Global,
+        place: usize,
+        arity: usize,
+    ) -> Result<Vec<Part<'a>>, Halt>
+        ensures { Reads result parts_in (body place arity) self.old self.new }
+    {
+        let units = self.take_argument(alloc, place)?;
+        match parts_of(alloc, arity, &units)? {
+            Some(parts) => Ok(parts),
+            None => Err(Halt::Refused(Fault::UnknownParameter, place)),
+        }
+    }
+
+    /// Whether another sign than a brace stands next.
+    fn is_delimited(&self) -> bool
+        ensures { result ≡ is_delimited (pending_units self.now) }
+    {
+        match self.peek() {
+            None | Some(Piece::Open) | Some(Piece::Close) => false,
+            _ => true,
+        }
+    }
+
+    /// Takes such a body, which is between braces.
+    fn take_body_in_braces(
+        &mut self,
+        alloc: Global,
+        place: usize,
+        arity: usize,
+    ) -> Result<Vec<Part<'a>>, Halt>
+        ensures { Reads result parts_in (body_in_braces place arity) self.old self.new }
+    {
+        self.skip_space();
+        if self.is_delimited() {
+            return Err(Halt::Refused(Fault::DelimitedArgument, place));
+        }
+        self.take_body(alloc, place, arity)
+    }
+
+    /// Takes what stands behind `\newcommand` and its like.
+    fn take_command_definition(
+        &mut self,
+        alloc: Global,
+        place: usize,
+    ) -> Result<Definition<'a>, Halt>
+        ensures { Reads result definition_in (command_definition place) self.old self.new }
+    {
+        self.take_sign('*');
+        let name = self.take_name(alloc, place)?;
+        let arity = self.take_number(place)?;
+        let body = self.take_body(alloc, place, arity)?;
+        Ok(Definition {
+            name,
+            stands_for: Macro { arity, body },
+        })
+    }
+
+    /// Takes what stands behind `\def`.
+    fn take_plain_definition(&mut self, alloc: Global, place: usize) -> Result<Definition<'a>, Halt>
+        ensures { Reads result definition_in (plain_definition place) self.old self.new }
+    {
+        let name = self.take_name(alloc, place)?;
+        let arity = self.take_parameters(place)?;
+        let body = self.take_body_in_braces(alloc, place, arity)?;
+        Ok(Definition {
+            name,
+            stands_for: Macro { arity, body },
+        })
+    }
+
+    /// Takes what stands behind `\DeclareMathOperator`.
+    fn take_operator_definition(
+        &mut self,
+        alloc: Global,
+        place: usize,
+    ) -> Result<Definition<'a>, Halt>
+        ensures { Reads result definition_in (operator_definition place) self.old self.new }
+    {
+        let star = self.take_sign('*');
+        let name = self.take_name(alloc, place)?;
+        let parts = self.take_body(alloc, place, 0)?;
+        let body = operator_parts(alloc, star, &parts)?;
+        Ok(Definition {
+            name,
+            stands_for: Macro { arity: 0, body },
+        })
+    }
+
+    /// Takes the definition behind a word at this place.
+    pub(crate) fn take_definition(
+        &mut self,
+        alloc: Global,
+        word: Word,
+        place: usize,
+    ) -> Result<Definition<'a>, Halt>
+        ensures { Reads result definition_in (definition_of (word_of word) place)
+            self.old self.new }
+    {
+        match word {
+            Word::NewCommand | Word::ProvideCommand => self.take_command_definition(alloc, place),
+            Word::Def => self.take_plain_definition(alloc, place),
+            Word::DeclareOperator => self.take_operator_definition(alloc, place),
+        }
+    }
+}

@@ -1,0 +1,119 @@
+//! The units of a text, with what they expand to in their place.
+ghost use Rattle.std.specs.Prelude.{◌≡◌, IfOk, None};
+ghost use Rattle.std.specs.Str.{chars};
+ghost use Rattle.latex2mathml_tex_grammar.specs.{Cutting.units_of, Expanding.expansion, Expansion.most_units, Expansion.most_uses};
+ghost use Rattle.latex2mathml_tex_grammar.specs.Units as units;
+ghost use Rattle.latex2mathml_tex_units.specs.{Expanded.IsHalted, Expanded.Turned, Expanded.expanded_left, Expanded.turn_of_name, MacroTables.macros_in, Taking.Takes};
+
+use crate::macros::definitions::word_named;
+use crate::macros::halt::Halt;
+use crate::macros::pending::Pending;
+use crate::macros::scope::Scope;
+use crate::macros::table::Macros;
+use crate::macros::usual::usual_macro;
+use crate::unit::{Fault, Next, Piece, Unit};
+use std::alloc::{AllocError, Global};
+
+/// How many macros a text can use.
+const MOST_USES: usize = 1000;
+
+/// How many units can be put in place of them.
+const MOST_UNITS: usize = 100_000;
+
+/// Units, with the macros that hold from here on.
+#[derive(Drop)]
+pub struct Expander<'m, 'a> {
+    pub(crate) alloc: Global,
+    pub(crate) pending: Pending<'a>,
+    pub(crate) macros: Scope<'m, 'a>,
+    /// How many more macros can be used.
+    pub(crate) uses: usize,
+    /// How many more units can be put.
+    pub(crate) room: usize,
+    /// What was refused, and where.
+    pub(crate) refused: Option<(Fault, usize)>,
+}
+
+impl<'m, 'a> Expander<'m, 'a> {
+    /// All units of a text, where these macros hold.
+    pub fn new(alloc: Global, macros: &'m Macros<'a>, text: &'a str) -> Expander<'m, 'a>
+        ensures { expanded_left result
+            ≡ expansion (macros_in macros.now) most_uses most_units
+            (units_of 0 (chars text.now)) }
+    {
+        Expander {
+            alloc,
+            pending: Pending::new(alloc, text),
+            macros: Scope::within(alloc, macros),
+            uses: MOST_USES,
+            room: MOST_UNITS,
+            refused: None,
+        }
+    }
+
+    /// Takes the expanded unit that stands next, if one does.
+    pub fn take(&mut self) -> Result<Next<'a>, AllocError>
+        ensures { IfOk result (λ next.
+            Takes next (expanded_left self.old) (expanded_left self.new)) }
+    {
+        if let Some((fault, place)) = self.refused {
+            return Ok(Next::Fault(fault, place));
+        }
+        'units: loop {
+            let next = self.pending.take();
+            let Next::Unit(unit) = next else {
+                return Ok(next);
+            };
+            let Piece::Command(name) = unit.piece else {
+                return Ok(next);
+            };
+            match self.turn(name, unit.place) {
+                Ok(turned) => {
+                    if !turned {
+                        return Ok(next);
+                    }
+                }
+                Err(halt) => return self.halted(halt),
+            }
+        }
+    }
+
+    /// Nothing but this refusal is left.
+    fn halted(&mut self, halt: Halt) -> Result<Next<'a>, AllocError>
+        ensures { (l : units.Units) → IsHalted halt l
+            → IfOk result (λ next. Takes next l (expanded_left self.new)) }
+    {
+        match halt {
+            Halt::Refused(fault, place) => {
+                self.refused = Some((fault, place));
+                Ok(Next::Fault(fault, place))
+            }
+            Halt::OutOfMemory => Err(AllocError),
+        }
+    }
+
+    /// Replaces the macro of this name, which was taken at this place, or takes the definition whose word the name is.
+    /// Returns whether it is one of the two.
+    fn turn(&mut self, name: &'a str, place: usize) -> Result<bool, Halt>
+        ensures turned { Turned result (turn_of_name self.old name.now place)
+            self.old self.new }
+        ensures refused { self.new.refused ≡ self.old.refused }
+    {
+        if let Some(found) = self.macros.defined(name) {
+            self.pending
+                .replace(self.alloc, found, place, &mut self.uses, &mut self.room)?;
+            return Ok(true);
+        }
+        if let Some(found) = usual_macro(self.alloc, name)? {
+            self.pending
+                .replace(self.alloc, &found, place, &mut self.uses, &mut self.room)?;
+            return Ok(true);
+        }
+        let Some(word) = word_named(name) else {
+            return Ok(false);
+        };
+        let definition = self.pending.take_definition(self.alloc, word, place)?;
+        self.macros.define(word, definition)?;
+        Ok(true)
+    }
+}

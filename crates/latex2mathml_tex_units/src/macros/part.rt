@@ -1,0 +1,107 @@
+//! The bodies of macros.
+ghost use Rattle.std.specs.Prelude.{◌≡◌, IfOk, map, option_map};
+ghost use Rattle.latex2mathml_tex_grammar.specs.Definitions.{digit_of, is_character, operator_parts, parameter_part, parts_of};
+ghost use Rattle.latex2mathml_tex_units.specs.{Bodies.part_of, Bodies.parts_in, Taking.piece_of, Taking.unit_of};
+
+use crate::unit::{Piece, Unit};
+use std::alloc::{AllocError, Global};
+
+/// A part of a body.
+#[derive(Clone, Copy)]
+pub(crate) enum Part<'a> {
+    /// A piece that stands there as it is.
+    Fixed(Piece<'a>),
+    /// An argument, by its number, which is counted from 0.
+    Argument(usize),
+}
+
+/// How many arguments a macro takes, and what takes its place.
+#[derive(Drop)]
+pub(crate) struct Macro<'a> {
+    pub(crate) arity: usize,
+    pub(crate) body: Vec<Part<'a>>,
+}
+
+/// Whether the piece is this character.
+pub(crate) fn is_character(wanted: char, piece: Piece) -> bool
+    ensures { result ≡ is_character wanted (piece_of piece.entry) }
+{
+    match piece {
+        Piece::Character(c) => c == wanted,
+        _ => false,
+    }
+}
+
+/// The number that the piece is, if it is a digit.
+pub(crate) fn digit_of(piece: Piece) -> Option<usize>
+    ensures { result ≡ digit_of (piece_of piece.entry) }
+{
+    match piece {
+        Piece::Character(c) if c.is_ascii_digit() => Some(u32::from(c) as usize - 48),
+        _ => None,
+    }
+}
+
+/// The part that a piece behind a number sign is, where there are so many arguments.
+fn parameter_part<'a>(arity: usize, piece: Piece<'a>) -> Option<Part<'a>>
+    ensures { option_map part_of result ≡ parameter_part arity (piece_of piece.entry) }
+{
+    if is_character('#', piece) {
+        return Some(Part::Fixed(piece));
+    }
+    let number = digit_of(piece)?;
+    if number == 0 || arity < number {
+        return None;
+    }
+    Some(Part::Argument(number - 1))
+}
+
+/// The parts that the units of a body are, where there are so many arguments.
+pub(crate) fn parts_of<'a>(
+    alloc: Global,
+    arity: usize,
+    units: &[Unit<'a>],
+) -> Result<Option<Vec<Part<'a>>>, AllocError>
+    ensures { IfOk result (λ parts.
+        option_map parts_in parts ≡ parts_of arity (map unit_of units.now)) }
+{
+    let mut parts = Vec::new(alloc);
+    let mut behind_sign = false;
+    for unit in units {
+        if behind_sign {
+            let Some(part) = parameter_part(arity, unit.piece) else {
+                return Ok(None);
+            };
+            parts.push(part)?;
+            behind_sign = false;
+        } else if is_character('#', unit.piece) {
+            behind_sign = true;
+        } else {
+            parts.push(Part::Fixed(unit.piece))?;
+        }
+    }
+    if behind_sign {
+        return Ok(None);
+    }
+    Ok(Some(parts))
+}
+
+/// The body of an operator's name, which has limits where it has a star.
+pub(crate) fn operator_parts<'a>(
+    alloc: Global,
+    star: bool,
+    name: &[Part<'a>],
+) -> Result<Vec<Part<'a>>, AllocError>
+    ensures { IfOk result (λ parts.
+        parts_in parts ≡ operator_parts star (map part_of name.now)) }
+{
+    let mut parts = Vec::new(alloc);
+    parts.push(Part::Fixed(Piece::Command("operatorname")))?;
+    if star {
+        parts.push(Part::Fixed(Piece::Character('*')))?;
+    }
+    parts.push(Part::Fixed(Piece::Open))?;
+    parts.extend_from_slice(name)?;
+    parts.push(Part::Fixed(Piece::Close))?;
+    Ok(parts)
+}

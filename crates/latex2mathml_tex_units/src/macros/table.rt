@@ -1,0 +1,68 @@
+//! Macros for formulas.
+ghost use Rattle.std.specs.Prelude.{◌≡◌, IfOk, option_map};
+ghost use Rattle.std.specs.Str.{chars};
+ghost use Rattle.latex2mathml_tex_grammar.specs.{DefinitionTexts.AreRefused, DefinitionTexts.Defines, Macros.SameMacros, Macros.Table, UsualMacros.usual_macros};
+ghost use Rattle.latex2mathml_tex_units.specs.{Bodies.macro_of, Errors.IfRefused, MacroTables.AreDefined, MacroTables.defined_by, MacroTables.macros_in};
+
+use crate::error::{TexError, TexErrorKind};
+use crate::macros::halt::Halt;
+use crate::macros::part::Macro;
+use crate::macros::scope::Scope;
+use std::alloc::Global;
+use std::collections::BTreeMap;
+
+/// The macros that a formula may use: the usual ones of LaTeX, such as `\pmod` and `\bra`, and those of a text of definitions.
+///
+/// A formula may define more, which hold from there to its end.
+#[derive(Drop)]
+pub struct Macros<'a> {
+    pub(crate) defined: BTreeMap<&'a str, Macro<'a>>,
+}
+
+impl<'a> Macros<'a> {
+    /// The usual macros alone.
+    pub fn new(alloc: Global) -> Macros<'a>
+        ensures usual { SameMacros usual_macros (macros_in result) }
+        ensures defined { AreDefined result }
+    {
+        Macros {
+            defined: BTreeMap::new(alloc),
+        }
+    }
+
+    /// The usual macros, and those of a text of definitions. A definition takes the place of what its name stood for before.
+    ///
+    /// The text consists of `\newcommand`, `\renewcommand`, `\providecommand`, `\def` and `\DeclareMathOperator`, each with
+    /// what it defines, white space and comments.
+    ///
+    /// # Errors
+    ///
+    /// [`TexError::kind`] says why a definition is refused, and [`TexError::place`] the byte of `definitions` where what is
+    /// refused begins. The first one is told. If memory runs out, the kind is [`TexErrorKind::OutOfMemory`] and the place is 0.
+    ///
+    /// `\newcommand{\R}{\mathbb{R}} \def\norm#1{\lVert #1 \rVert}` defines two macros.
+    pub fn read(alloc: Global, definitions: &'a str) -> Result<Macros<'a>, TexError>
+        ensures answer { IfOk result (λ macros. (table : Table)
+            × Defines (chars definitions.now) table × SameMacros table (macros_in macros)) }
+        ensures defined { IfOk result AreDefined }
+        ensures refusal { IfRefused result (AreRefused (chars definitions.now)) }
+    {
+        match Scope::read(alloc, definitions) {
+            Ok(scope) => Ok(Macros {
+                defined: scope.inner,
+            }),
+            Err(Halt::Refused(fault, place)) => Err(TexError {
+                kind: TexErrorKind::of_fault(fault),
+                place,
+            }),
+            Err(Halt::OutOfMemory) => Err(TexError::out_of_memory()),
+        }
+    }
+
+    /// The macro of this name that was defined.
+    pub(crate) fn defined(&self, name: &str) -> Option<&Macro<'a>>
+        ensures { option_map (λ m. macro_of m.now) result ≡ defined_by self.now name.now }
+    {
+        self.defined.get(name)
+    }
+}

@@ -1,0 +1,47 @@
+//! Texts of definitions.
+ghost use Rattle.std.specs.Prelude.{◌≡◌, option_map};
+ghost use Rattle.std.specs.Str.{chars};
+ghost use Rattle.latex2mathml_tex_grammar.specs.{Cutting.units_of, Definitions.word_of};
+ghost use Rattle.latex2mathml_tex_units.specs.Defined;
+ghost use Rattle.latex2mathml_tex_units.specs.{Taking.piece_of, Texts.ReadsTo};
+
+use crate::macros::definitions::{Word, word_named};
+use crate::macros::halt::Halt;
+use crate::macros::pending::Pending;
+use crate::macros::scope::Scope;
+use crate::unit::{Fault, Next, Piece};
+use std::alloc::Global;
+
+/// The word that the piece is, if it begins a definition.
+fn word_of(piece: Piece) -> Option<Word>
+    ensures { option_map Defined.word_of result ≡ word_of (piece_of piece.entry) }
+{
+    match piece {
+        Piece::Command(name) => word_named(name),
+        _ => None,
+    }
+}
+
+impl<'m, 'a> Scope<'m, 'a> {
+    /// The macros that hold behind a text of definitions, in which nothing else stands but white space.
+    pub(crate) fn read(alloc: Global, text: &'a str) -> Result<Scope<'m, 'a>, Halt>
+        ensures { ReadsTo result (units_of 0 (chars text.now)) }
+    {
+        let mut scope = Scope::new(alloc);
+        let mut pending = Pending::new(alloc, text);
+        'definitions: loop {
+            pending.skip_space();
+            match pending.take() {
+                Next::End(_) => return Ok(scope),
+                Next::Fault(fault, at) => return Err(Halt::Refused(fault, at)),
+                Next::Unit(unit) => {
+                    let Some(word) = word_of(unit.piece) else {
+                        return Err(Halt::Refused(Fault::NoDefinition, unit.place));
+                    };
+                    let definition = pending.take_definition(alloc, word, unit.place)?;
+                    scope.define(word, definition)?;
+                }
+            }
+        }
+    }
+}

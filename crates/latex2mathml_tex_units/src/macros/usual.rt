@@ -1,0 +1,170 @@
+//! The usual macros.
+ghost use Rattle.std.specs.Prelude.{◌≡◌, ◌<◌, IfOk, IsTrue, [], length, map, option_map};
+ghost use Rattle.std.specs.Option.{is_some, unwrap_or};
+ghost use Rattle.std.specs.Str.{chars};
+ghost use Rattle.latex2mathml_tex_grammar.specs.{Cutting.units_of, Definitions.parts_of, Sorted.ascending, UsualMacros.entry_macro, UsualMacros.listed, UsualMacros.macro_with, UsualMacros.usual_entries, UsualMacros.usual_macros};
+ghost use Rattle.latex2mathml_tex_units.specs.{Bodies.entry_of, Bodies.macro_of, Bodies.named_entry, Bodies.parts_in, Taking.unit_of};
+
+use crate::commands::order;
+use crate::macros::part::{Macro, Part, parts_of};
+use crate::reader::Reader;
+use crate::unit::{Next, Unit};
+use std::alloc::{AllocError, Global};
+use std::cmp::Ordering;
+
+/// A usual macro: its name, how many arguments it takes, and the text of its body.
+#[derive(Clone, Copy)]
+struct Usual {
+    name: &'static str,
+    arity: usize,
+    body: &'static str,
+}
+
+/// The entries.
+#[tactic(auto, unfolding(latex2mathml_tex_grammar::specs::UsualMacros::usual_entries))]
+fn entries() -> &'static [Usual]
+    ensures { map entry_of result.now ≡ usual_entries }
+{
+    &ENTRIES
+}
+
+/// An entry for each macro, in the order of their names' bytes.
+#[rattlefmt::skip]
+static ENTRIES: [Usual; 68] = [
+    Usual { name: "-", arity: 0, body: "" },
+    Usual { name: "/", arity: 0, body: "" },
+    Usual { name: "Bbbk", arity: 0, body: "\\mathbb{k}" },
+    Usual { name: "Huge", arity: 0, body: "" },
+    Usual { name: "LARGE", arity: 0, body: "" },
+    Usual { name: "LaTeX", arity: 0, body: "\\text{LaTeX}" },
+    Usual { name: "Large", arity: 0, body: "" },
+    Usual { name: "TeX", arity: 0, body: "\\text{TeX}" },
+    Usual { name: "allowbreak", arity: 0, body: "" },
+    Usual { name: "bfseries", arity: 0, body: "\\bf" },
+    Usual { name: "bmod", arity: 0, body: "\\mathbin{\\operatorname{mod}}" },
+    Usual { name: "bra", arity: 1, body: "\\langle #1|" },
+    Usual { name: "braket", arity: 1, body: "\\langle #1\\rangle" },
+    Usual { name: "centering", arity: 0, body: "" },
+    Usual { name: "clap", arity: 1, body: "\\mathclap{\\text{#1}}" },
+    Usual { name: "coloneq", arity: 0, body: "\\mathrel{:=}" },
+    Usual { name: "coloneqq", arity: 0, body: "\\mathrel{:=}" },
+    Usual { name: "colorbox", arity: 2, body: "\\mathcolorbox{#1}{\\text{#2}}" },
+    Usual { name: "dotsb", arity: 0, body: "\\cdots" },
+    Usual { name: "dotsc", arity: 0, body: "\\ldots" },
+    Usual { name: "dotsi", arity: 0, body: "\\cdots" },
+    Usual { name: "dotsm", arity: 0, body: "\\cdots" },
+    Usual { name: "dotso", arity: 0, body: "\\ldots" },
+    Usual { name: "em", arity: 0, body: "\\it" },
+    Usual { name: "ensuremath", arity: 1, body: "#1" },
+    Usual { name: "fbox", arity: 1, body: "\\boxed{\\text{#1}}" },
+    Usual { name: "footnotesize", arity: 0, body: "" },
+    Usual { name: "hdots", arity: 0, body: "\\ldots" },
+    Usual { name: "huge", arity: 0, body: "" },
+    Usual { name: "iff", arity: 0, body: "\\;\\Longleftrightarrow\\;" },
+    Usual { name: "impliedby", arity: 0, body: "\\;\\Longleftarrow\\;" },
+    Usual { name: "implies", arity: 0, body: "\\;\\Longrightarrow\\;" },
+    Usual { name: "itshape", arity: 0, body: "\\it" },
+    Usual { name: "ket", arity: 1, body: "|#1\\rangle" },
+    Usual { name: "label", arity: 1, body: "" },
+    Usual { name: "large", arity: 0, body: "" },
+    Usual { name: "llap", arity: 1, body: "\\mathllap{\\text{#1}}" },
+    Usual { name: "mathchoice", arity: 4, body: "#2" },
+    Usual { name: "mathstrut", arity: 0, body: "\\vphantom{(}" },
+    Usual { name: "mdseries", arity: 0, body: "" },
+    Usual { name: "mod", arity: 1, body: "\\quad\\operatorname{mod}\\;#1" },
+    Usual { name: "nobreak", arity: 0, body: "" },
+    Usual { name: "nonumber", arity: 0, body: "" },
+    Usual { name: "normalfont", arity: 0, body: "" },
+    Usual { name: "normalsize", arity: 0, body: "" },
+    Usual { name: "notag", arity: 0, body: "" },
+    Usual { name: "pmod", arity: 1, body: "\\quad(\\operatorname{mod}\\;#1)" },
+    Usual { name: "pod", arity: 1, body: "\\quad(#1)" },
+    Usual { name: "qed", arity: 0, body: "\\square" },
+    Usual { name: "raisebox", arity: 2, body: "\\raisemath{#1}{\\text{#2}}" },
+    Usual { name: "relax", arity: 0, body: "" },
+    Usual { name: "rlap", arity: 1, body: "\\mathrlap{\\text{#1}}" },
+    Usual { name: "rmfamily", arity: 0, body: "\\rm" },
+    Usual { name: "scriptsize", arity: 0, body: "" },
+    Usual { name: "scshape", arity: 0, body: "" },
+    Usual { name: "sffamily", arity: 0, body: "\\sf" },
+    Usual { name: "sfrac", arity: 2, body: "#1/#2" },
+    Usual { name: "slshape", arity: 0, body: "\\it" },
+    Usual { name: "small", arity: 0, body: "" },
+    Usual { name: "strut", arity: 0, body: "\\vphantom{(}" },
+    Usual { name: "tag", arity: 1, body: "\\qquad\\text{(#1)}" },
+    Usual { name: "tiny", arity: 0, body: "" },
+    Usual { name: "ttfamily", arity: 0, body: "\\tt" },
+    Usual { name: "upshape", arity: 0, body: "" },
+    Usual { name: "varDelta", arity: 0, body: "\\mathit{\\Delta}" },
+    Usual { name: "varGamma", arity: 0, body: "\\mathit{\\Gamma}" },
+    Usual { name: "varOmega", arity: 0, body: "\\mathit{\\Omega}" },
+    Usual { name: "varSigma", arity: 0, body: "\\mathit{\\Sigma}" },
+];
+
+/// The entry of this name, if there is one among sorted entries. Each comparison halves the entries that are left.
+fn find(table: &[Usual], name: &str) -> Option<Usual>
+    requires ordered { IsTrue (ascending (map named_entry table.now)) }
+    requires few { length table.now < 512 }
+    ensures { option_map (λ entry. macro_with entry.arity entry.body.now) result
+        ≡ entry_macro (map entry_of table.now) name.now }
+{
+    let mut entries = table;
+    while !entries.is_empty() {
+        let middle = entries.len() / 2;
+        let entry = entries[middle];
+        match order(name, entry.name) {
+            Ordering::Equal => return Some(entry),
+            Ordering::Less => entries = &entries[..middle],
+            Ordering::Greater => entries = &entries[middle + 1..],
+        }
+    }
+    None
+}
+
+/// Whether a usual macro has this name.
+pub(crate) fn is_usual(name: &str) -> bool
+    ensures { result ≡ is_some (usual_macros name.now) }
+{
+    find(entries(), name).is_some()
+}
+
+/// The usual macro of this name, if there is one.
+pub(crate) fn usual_macro<'a>(alloc: Global, name: &str) -> Result<Option<Macro<'a>>, AllocError>
+    ensures { IfOk result (λ found. option_map macro_of found ≡ usual_macros name.now) }
+{
+    let Some(entry) = find(entries(), name) else {
+        return Ok(None);
+    };
+    let body = body_of(alloc, entry.arity, entry.body)?;
+    Ok(Some(Macro {
+        arity: entry.arity,
+        body,
+    }))
+}
+
+/// The body that has this text, where there are so many arguments.
+fn body_of<'a>(alloc: Global, arity: usize, text: &'a str) -> Result<Vec<Part<'a>>, AllocError>
+    ensures { IfOk result (λ parts. parts_in parts
+        ≡ unwrap_or (parts_of arity (listed (units_of 0 (chars text.now)))) []) }
+{
+    let units = units_of(alloc, text)?;
+    match parts_of(alloc, arity, &units)? {
+        Some(parts) => Ok(parts),
+        None => Ok(Vec::new(alloc)),
+    }
+}
+
+/// The units of a text.
+fn units_of<'a>(alloc: Global, text: &'a str) -> Result<Vec<Unit<'a>>, AllocError>
+    ensures { IfOk result (λ units.
+        map unit_of units.items ≡ listed (units_of 0 (chars text.now))) }
+{
+    let mut reader = Reader::new(text);
+    let mut units = Vec::new(alloc);
+    'units: loop {
+        match reader.take() {
+            Next::Unit(unit) => units.push(unit)?,
+            Next::End(_) | Next::Fault(_, _) => return Ok(units),
+        }
+    }
+}

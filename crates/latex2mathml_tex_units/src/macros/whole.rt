@@ -1,0 +1,50 @@
+//! All units that a text expands to.
+ghost use Rattle.std.specs.Prelude.{◌≡◌, IfOk};
+ghost use Rattle.latex2mathml_tex_units.specs.{Expanded.expanded_left, Whole.whole_units};
+
+use crate::macros::expander::Expander;
+use crate::unit::{Fault, Next, Unit};
+use std::alloc::AllocError;
+
+/// How units end.
+#[derive(Clone, Copy)]
+pub enum End {
+    /// With the text, at this byte.
+    Text(usize),
+    /// With what is refused at this byte.
+    Fault(Fault, usize),
+}
+
+/// Units, and how they end.
+#[derive(Drop)]
+pub struct Whole<'a> {
+    pub units: Vec<Unit<'a>>,
+    pub end: End,
+}
+
+impl<'m, 'a> Expander<'m, 'a> {
+    /// Takes all expanded units that are left, in a list whose room is used again.
+    pub fn take_all(&mut self, room: Vec<Unit<'a>>) -> Result<Whole<'a>, AllocError>
+        ensures { IfOk result (λ whole. whole_units whole ≡ expanded_left self.old) }
+    {
+        let mut units = room;
+        units.clear();
+        'units: loop {
+            match self.take()? {
+                Next::Unit(unit) => units.push(unit)?,
+                Next::End(place) => {
+                    return Ok(Whole {
+                        units,
+                        end: End::Text(place),
+                    });
+                }
+                Next::Fault(fault, place) => {
+                    return Ok(Whole {
+                        units,
+                        end: End::Fault(fault, place),
+                    });
+                }
+            }
+        }
+    }
+}

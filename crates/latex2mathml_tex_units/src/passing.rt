@@ -1,0 +1,84 @@
+//! What is found among the units that are left, and is taken or passed over: names, columns and lengths.
+ghost use Rattle.std.specs.Prelude.{◌≡◌, IfOk, OnOk, string_bytes};
+ghost use Rattle.latex2mathml_tex_grammar.specs.Scanning.{past, past_break, scan};
+ghost use Rattle.latex2mathml_tex_units.specs.{Left.units_at, Scans.IsFound, Scans.behind_text, Scans.spot_of};
+
+use crate::error::{TexError, TexErrorKind};
+use crate::input::Input;
+use crate::scanning::{Deed, Spot};
+use crate::unit::Next;
+use std::alloc::{AllocError, Global};
+
+impl<'a> Input<'a> {
+    /// Takes what is found from this spot on, and puts its text behind this one. Returns why it is refused, where it does not
+    /// stand here: then units before that may have been passed over. The place is of what takes it.
+    pub fn scan(
+        &mut self,
+        place: usize,
+        spot: Spot,
+        text: &mut String,
+    ) -> Result<Option<TexError>, AllocError>
+        ensures { IfOk result (λ error. IsFound error (string_bytes text.new) (units_at self.new)
+            (behind_text (string_bytes text.old)
+            (scan place (units_at self.old) (spot_of spot)))) }
+    {
+        let mut spot = spot;
+        'units: loop {
+            match self.next {
+                Next::Fault(fault, at) => return Ok(spot.fault(fault, at)),
+                Next::End(_) => return Ok(spot.end(place)),
+                Next::Unit(unit) => match spot.deed(unit.piece) {
+                    Deed::Passes(next) => {
+                        self.advance();
+                        spot = next;
+                    }
+                    Deed::Adds(c, next) => {
+                        text.push(c)?;
+                        self.advance();
+                        spot = next;
+                    }
+                    Deed::Ends => {
+                        self.advance();
+                        return Ok(None);
+                    }
+                    Deed::Leaves => return Ok(None),
+                    Deed::Misses => {
+                        return Ok(Some(TexError {
+                            kind: spot.missing(),
+                            place,
+                        }));
+                    }
+                    Deed::Refuses => {
+                        return Ok(Some(TexError {
+                            kind: TexErrorKind::UnknownColumn,
+                            place: unit.place,
+                        }));
+                    }
+                },
+            }
+        }
+    }
+
+    /// Passes over what is found from this spot on, if it stands here.
+    pub fn pass(&mut self, alloc: Global, spot: Spot) -> Result<(), AllocError>
+        ensures { OnOk result (units_at self.new ≡ past (spot_of spot) (units_at self.old)) }
+    {
+        let mut ahead = *self;
+        let mut text = String::new(alloc);
+        if ahead.scan(0, spot, &mut text)?.is_none() {
+            *self = ahead;
+        }
+        Ok(())
+    }
+
+    /// Passes over what stands behind the sign that ends a row and is nothing: its star, a length, the lines before the next
+    /// row.
+    pub fn pass_break(&mut self, alloc: Global) -> Result<(), AllocError>
+        ensures { OnOk result (units_at self.new ≡ past_break (units_at self.old)) }
+    {
+        self.pass(alloc, Spot::BeforeStar)?;
+        self.pass(alloc, Spot::BeforeLength)?;
+        self.pass(alloc, Spot::BeforeRow)?;
+        Ok(())
+    }
+}

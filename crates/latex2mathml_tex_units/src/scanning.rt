@@ -1,0 +1,449 @@
+//! What each unit does where the name of an environment, its columns, a color or a length is taken unit by unit. A spot says where it
+//! stands. White space is nothing.
+ghost use Rattle.std.specs.Prelude.{◌≡◌, ℕ, [], Some};
+ghost use Rattle.latex2mathml_tex_grammar.specs.Refusal.{refusal_at};
+ghost use Rattle.latex2mathml_tex_grammar.specs.{Commands.meaning_of, Meaning.takes_words};
+ghost use Rattle.latex2mathml_tex_grammar.specs.Scanning;
+ghost use Rattle.latex2mathml_tex_grammar.specs.Scanning.{scan};
+ghost use Rattle.latex2mathml_tex_grammar.specs.Units.{End, Stop};
+ghost use Rattle.latex2mathml_tex_units.specs.{Errors.kind_of_error, Taking.kind_of, Taking.piece_of};
+ghost use Rattle.latex2mathml_tex_units.specs.Scans.{IsFound, argument_of, deed_of, length_end_of, spot_of};
+
+use crate::commands;
+use crate::error::{TexError, TexErrorKind};
+use crate::meaning::Meaning;
+use crate::unit::{Fault, Piece};
+
+/// What stands in braces behind `\begin` and its like.
+#[derive(Clone, Copy)]
+pub enum Argument {
+    /// The name of an environment.
+    Name,
+    /// The columns of a table.
+    ColumnList,
+    /// A number.
+    Number,
+    /// The name of a color.
+    ColorName,
+}
+
+/// What ends a length.
+#[derive(Clone, Copy)]
+pub enum LengthEnd {
+    AtBracket,
+    AtBrace,
+    /// Its unit.
+    AtUnit,
+}
+
+/// Where a unit stands.
+#[derive(Clone, Copy)]
+pub enum Spot {
+    BeforeArgument(Argument),
+    InArgument(Argument),
+    /// In columns: what stands between two, or the width of one, within so many braces.
+    BeforeGap,
+    InGap(u8),
+    /// Before a brace that is all.
+    BeforeBrace,
+    /// A letter in brackets, which says how a table stands in its line.
+    BeforePosition,
+    InPosition,
+    BehindPosition,
+    /// Behind the sign that ends a row.
+    BeforeStar,
+    BehindStar,
+    /// Before a length in brackets, or in braces.
+    BeforeLength,
+    BeforeLengthInBraces,
+    InLength(LengthEnd),
+    BehindSign(LengthEnd),
+    InNumber(LengthEnd),
+    /// Behind so many decimals.
+    InDecimals(LengthEnd, u8),
+    /// Behind the first letter of a unit of length.
+    BehindLetter(LengthEnd, char),
+    BehindLength(LengthEnd),
+    /// Before a row, where lines may be drawn.
+    BeforeRow,
+}
+
+/// What a unit does.
+#[derive(Clone, Copy)]
+pub enum Deed {
+    /// It is nothing, and the next unit stands there.
+    Passes(Spot),
+    /// It adds this character, and the next unit stands there.
+    Adds(char, Spot),
+    /// It is the last one.
+    Ends,
+    /// The unit before it is the last one.
+    Leaves,
+    /// What was to be taken does not stand here.
+    Misses,
+    /// It is refused among columns.
+    Refuses,
+}
+
+fn passes_if(test: bool, spot: Spot) -> Deed
+    ensures { deed_of result ≡ Scanning.passes_if test (spot_of spot) }
+{
+    if test {
+        Deed::Passes(spot)
+    } else {
+        Deed::Misses
+    }
+}
+
+fn column_deed(c: char) -> Deed
+    ensures { deed_of result ≡ Scanning.column_deed c }
+{
+    match c {
+        'l' | 'c' | 'r' => Deed::Adds(c, Spot::InArgument(Argument::ColumnList)),
+        '|' => Deed::Passes(Spot::InArgument(Argument::ColumnList)),
+        'p' | 'm' | 'b' => Deed::Adds('l', Spot::BeforeGap),
+        '@' => Deed::Passes(Spot::BeforeGap),
+        _ => Deed::Refuses,
+    }
+}
+
+fn character_deed(argument: Argument, c: char) -> Deed
+    ensures { deed_of result ≡ Scanning.character_deed (argument_of argument) c }
+{
+    match argument {
+        Argument::Name if c == '$' => Deed::Misses,
+        Argument::Name => Deed::Adds(c, Spot::InArgument(Argument::Name)),
+        Argument::ColumnList => column_deed(c),
+        Argument::Number => adds_if(c.is_ascii_digit(), c, Spot::InArgument(Argument::Number)),
+        Argument::ColorName if c.is_ascii_alphanumeric() || c == '#' => {
+            Deed::Adds(c, Spot::InArgument(Argument::ColorName))
+        }
+        Argument::ColorName => Deed::Misses,
+    }
+}
+
+fn argument_deed(argument: Argument, piece: Piece) -> Deed
+    ensures { deed_of result
+        ≡ Scanning.argument_deed (argument_of argument) (piece_of piece.entry) }
+{
+    match piece {
+        Piece::Character(c) => character_deed(argument, c),
+        Piece::Close => Deed::Ends,
+        Piece::Open | Piece::Space | Piece::Command(_) => match argument {
+            Argument::ColumnList => Deed::Refuses,
+            Argument::Name | Argument::Number | Argument::ColorName => Deed::Misses,
+        },
+    }
+}
+
+fn takes_words(name: &str) -> bool
+    ensures { result ≡ takes_words (meaning_of name.now) }
+{
+    matches!(commands::look_up(name), Some(Meaning::Words(_)))
+}
+
+/// Behind the brace that ends the innermost of so many, or else what stands in braces among columns.
+fn behind_brace(depth: u8) -> Spot
+    ensures { spot_of result ≡ Scanning.behind_brace depth }
+{
+    if depth == 0 {
+        return Spot::InArgument(Argument::ColumnList);
+    }
+    Spot::InGap(depth - 1)
+}
+
+/// In braces among columns, within so many more. More than a hundred are refused.
+fn gap_deed(depth: u8, piece: Piece) -> Deed
+    ensures { deed_of result ≡ Scanning.gap_deed depth (piece_of piece.entry) }
+{
+    match piece {
+        Piece::Open if depth < 100 => Deed::Passes(Spot::InGap(depth + 1)),
+        Piece::Open | Piece::Character('$') => Deed::Refuses,
+        Piece::Close => Deed::Passes(behind_brace(depth)),
+        Piece::Command(name) if takes_words(name) => Deed::Refuses,
+        Piece::Command(_) | Piece::Character(_) | Piece::Space => Deed::Passes(Spot::InGap(depth)),
+    }
+}
+
+fn brace_deed(opened: Deed, otherwise: Deed, piece: Piece) -> Deed
+    ensures { deed_of result
+        ≡ Scanning.brace_deed (deed_of opened) (deed_of otherwise) (piece_of piece.entry) }
+{
+    match piece {
+        Piece::Open => opened,
+        _ => otherwise,
+    }
+}
+
+fn is_unit_of_length(c: char, d: char) -> bool
+    ensures { result ≡ Scanning.is_unit_of_length c d }
+{
+    (d == 'c' && (c == 'c' || c == 'p'))
+        || (d == 'd' && c == 'd')
+        || (d == 'm' && (c == 'c' || c == 'e' || c == 'm'))
+        || (d == 'n' && c == 'i')
+        || (d == 'p' && (c == 'b' || c == 's'))
+        || (d == 't' && c == 'p')
+        || (d == 'u' && c == 'm')
+        || (d == 'x' && (c == 'e' || c == 'p'))
+}
+
+fn begins_unit_of_length(c: char) -> bool
+    ensures { result ≡ Scanning.begins_unit_of_length c }
+{
+    c == 'b' || c == 'c' || c == 'd' || c == 'e' || c == 'i' || c == 'm' || c == 'p' || c == 's'
+}
+
+fn adds_if(test: bool, c: char, spot: Spot) -> Deed
+    ensures { deed_of result ≡ Scanning.adds_if test c (spot_of spot) }
+{
+    if test {
+        Deed::Adds(c, spot)
+    } else {
+        Deed::Misses
+    }
+}
+
+fn number_deed(end: LengthEnd, c: char) -> Deed
+    ensures { deed_of result ≡ Scanning.number_deed (length_end_of end) c }
+{
+    if c.is_ascii_digit() {
+        return Deed::Adds(c, Spot::InNumber(end));
+    }
+    adds_if(c == '.', c, Spot::InDecimals(end, 0))
+}
+
+fn sign_deed(end: LengthEnd, c: char) -> Deed
+    ensures { deed_of result ≡ Scanning.sign_deed (length_end_of end) c }
+{
+    if c == '-' {
+        return Deed::Adds(c, Spot::BehindSign(end));
+    }
+    if c == '+' {
+        return Deed::Passes(Spot::BehindSign(end));
+    }
+    number_deed(end, c)
+}
+
+fn unit_deed(end: LengthEnd, c: char) -> Deed
+    ensures { deed_of result ≡ Scanning.unit_deed (length_end_of end) c }
+{
+    adds_if(begins_unit_of_length(c), c, Spot::BehindLetter(end, c))
+}
+
+fn digit_or_unit_deed(end: LengthEnd, c: char) -> Deed
+    ensures { deed_of result ≡ Scanning.length_deed (Scanning.InNumber (length_end_of end)) c }
+{
+    if c.is_ascii_digit() {
+        return Deed::Adds(c, Spot::InNumber(end));
+    }
+    if c == '.' {
+        return Deed::Adds(c, Spot::InDecimals(end, 0));
+    }
+    unit_deed(end, c)
+}
+
+/// Behind so many decimals. More than five make no difference.
+fn decimal_deed(end: LengthEnd, count: u8, c: char) -> Deed
+    ensures { deed_of result ≡ Scanning.decimal_deed (length_end_of end) count c }
+{
+    if !c.is_ascii_digit() {
+        return unit_deed(end, c);
+    }
+    if count < 5 {
+        return Deed::Adds(c, Spot::InDecimals(end, count + 1));
+    }
+    Deed::Passes(Spot::InDecimals(end, count))
+}
+
+fn length_deed(spot: Spot, c: char) -> Deed
+    ensures { deed_of result ≡ Scanning.length_deed (spot_of spot) c }
+{
+    match spot {
+        Spot::InLength(end) => sign_deed(end, c),
+        Spot::BehindSign(end) => number_deed(end, c),
+        Spot::InNumber(end) => digit_or_unit_deed(end, c),
+        Spot::InDecimals(end, count) => decimal_deed(end, count, c),
+        Spot::BehindLetter(end, first) => {
+            adds_if(is_unit_of_length(first, c), c, Spot::BehindLength(end))
+        }
+        _ => Deed::Misses,
+    }
+}
+
+fn in_length(spot: Spot, piece: Piece) -> Deed
+    ensures { deed_of result ≡ Scanning.in_length (spot_of spot) (piece_of piece.entry) }
+{
+    match piece {
+        Piece::Character(c) => length_deed(spot, c),
+        _ => Deed::Misses,
+    }
+}
+
+/// What a unit does behind a length.
+fn ending_deed(end: LengthEnd, piece: Piece) -> Deed
+    ensures { deed_of result ≡ Scanning.ending_deed (length_end_of end) (piece_of piece.entry) }
+{
+    match end {
+        LengthEnd::AtBracket => match piece {
+            Piece::Character(c) => ends_if(c == ']'),
+            _ => Deed::Misses,
+        },
+        LengthEnd::AtBrace => match piece {
+            Piece::Close => Deed::Ends,
+            _ => Deed::Misses,
+        },
+        LengthEnd::AtUnit => Deed::Leaves,
+    }
+}
+
+fn ends_if(test: bool) -> Deed
+    ensures { deed_of result ≡ Scanning.ends_if test }
+{
+    if test { Deed::Ends } else { Deed::Misses }
+}
+
+fn bracket_deed(spot: Spot, c: char) -> Deed
+    ensures { deed_of result ≡ Scanning.bracket_deed (spot_of spot) c }
+{
+    match spot {
+        Spot::BeforePosition => passes_if(c == '[', Spot::InPosition),
+        Spot::InPosition => passes_if(c == 't' || c == 'b' || c == 'c', Spot::BehindPosition),
+        Spot::BehindPosition => ends_if(c == ']'),
+        Spot::BeforeLength => passes_if(c == '[', Spot::InLength(LengthEnd::AtBracket)),
+        _ => Deed::Misses,
+    }
+}
+
+fn in_brackets(spot: Spot, piece: Piece) -> Deed
+    ensures { deed_of result ≡ Scanning.in_brackets (spot_of spot) (piece_of piece.entry) }
+{
+    match piece {
+        Piece::Character(c) => bracket_deed(spot, c),
+        _ => Deed::Misses,
+    }
+}
+
+fn star_deed(piece: Piece) -> Deed
+    ensures { deed_of result ≡ Scanning.star_deed (piece_of piece.entry) }
+{
+    match piece {
+        Piece::Character('*') => Deed::Passes(Spot::BehindStar),
+        _ => Deed::Leaves,
+    }
+}
+
+fn row_deed(piece: Piece) -> Deed
+    ensures { deed_of result ≡ Scanning.row_deed (piece_of piece.entry) }
+{
+    match piece {
+        Piece::Command("hline" | "hdashline" | "toprule" | "midrule" | "bottomrule") => {
+            Deed::Passes(Spot::BeforeRow)
+        }
+        _ => Deed::Leaves,
+    }
+}
+
+impl Spot {
+    fn deed_there(self, piece: Piece) -> Deed
+        ensures { deed_of result ≡ Scanning.deed_there (spot_of self) (piece_of piece.entry) }
+    {
+        match self {
+            Spot::BeforeArgument(argument) => {
+                brace_deed(
+                    Deed::Passes(Spot::InArgument(argument)),
+                    Deed::Misses,
+                    piece,
+                )
+            }
+            Spot::InArgument(argument) => argument_deed(argument, piece),
+            Spot::BeforeGap => brace_deed(Deed::Passes(Spot::InGap(0)), Deed::Refuses, piece),
+            Spot::InGap(depth) => gap_deed(depth, piece),
+            Spot::BeforeBrace => brace_deed(Deed::Ends, Deed::Misses, piece),
+            Spot::BeforeStar => star_deed(piece),
+            Spot::BehindStar => Deed::Leaves,
+            Spot::BeforeRow => row_deed(piece),
+            Spot::BeforeLengthInBraces => brace_deed(
+                Deed::Passes(Spot::InLength(LengthEnd::AtBrace)),
+                Deed::Misses,
+                piece,
+            ),
+            Spot::InLength(_)
+            | Spot::BehindSign(_)
+            | Spot::InNumber(_)
+            | Spot::InDecimals(_, _)
+            | Spot::BehindLetter(_, _) => in_length(self, piece),
+            Spot::BehindLength(end) => ending_deed(end, piece),
+            spot => in_brackets(spot, piece),
+        }
+    }
+
+    /// What the unit does that stands there.
+    pub fn deed(self, piece: Piece) -> Deed
+        ensures { deed_of result ≡ Scanning.deed (spot_of self) (piece_of piece.entry) }
+    {
+        match piece {
+            Piece::Space => Deed::Passes(self),
+            piece => self.deed_there(piece),
+        }
+    }
+
+    /// Whether nothing has to follow.
+    fn may_end(self) -> bool
+        ensures { result ≡ Scanning.may_end (spot_of self) }
+    {
+        matches!(
+            self,
+            Spot::BeforeStar
+                | Spot::BehindStar
+                | Spot::BeforeRow
+                | Spot::BehindLength(LengthEnd::AtUnit)
+        )
+    }
+
+    /// Why the end of the text is refused, unless nothing has to follow.
+    pub fn end(self, place: usize) -> Option<TexError>
+        ensures { (at : ℕ) → IsFound result [] (End at) (scan place (End at) (spot_of self)) }
+    {
+        if self.may_end() {
+            return None;
+        }
+        Some(TexError {
+            kind: self.missing(),
+            place,
+        })
+    }
+
+    /// Why what is no unit is refused, unless nothing has to follow.
+    pub fn fault(self, fault: Fault, at: usize) -> Option<TexError>
+        ensures { (place : ℕ) → IsFound result [] (Stop (refusal_at (kind_of fault) at))
+            (scan place (Stop (refusal_at (kind_of fault) at)) (spot_of self)) }
+    {
+        if self.may_end() {
+            return None;
+        }
+        Some(TexError {
+            kind: TexErrorKind::of_fault(fault),
+            place: at,
+        })
+    }
+
+    /// Why it is refused that what was to be taken does not stand there.
+    pub fn missing(self) -> TexErrorKind
+        ensures { kind_of_error result ≡ Some (Scanning.missing (spot_of self)) }
+    {
+        match self {
+            Spot::BeforeArgument(Argument::Name) | Spot::InArgument(Argument::Name) => {
+                TexErrorKind::MissingName
+            }
+            Spot::BeforeLengthInBraces
+            | Spot::InLength(_)
+            | Spot::BehindSign(_)
+            | Spot::InNumber(_)
+            | Spot::InDecimals(_, _)
+            | Spot::BehindLetter(_, _)
+            | Spot::BehindLength(_) => TexErrorKind::MissingLength,
+            _ => TexErrorKind::MissingArgument,
+        }
+    }
+}
