@@ -1,18 +1,41 @@
 """Reads the files of the folder `cases/`. Its README.md says how they are written."""
+import collections
+import itertools
 import os.path
 import pathlib
 import re
 import unicodedata
 from dataclasses import dataclass
 
-from tests.support import ROOT
-from tests.texts import math
+from tests.support import ROOT, case_name
+from tests.texts import ERROR, math
 
 CASES = ROOT / "cases"
 
-ESCAPE = re.compile(r'\[(?:U\+(?P<code>[0-9A-F]{4,6})|byte (?P<byte>[0-9A-F]{2})|(?P<empty>empty)|(?P<count>\d+) times "(?P<text>.*?)")\]')
+ESCAPE = re.compile(r'\[(?:U\+(?P<code>[0-9A-F]{4,6})|byte (?P<byte>[0-9A-F]{2})|(?P<feed>LF)|(?P<empty>empty)'
+                    r'|(?P<count>\d+|N) times "(?P<text>.*?)")\]')
 PLACE = "[place]"
 COLUMNS = re.compile(r" {2,}")
+
+# The files that are tables, and how many columns each has.
+TABLES = {"commands.txt": 3, "growth.txt": 4, "requests.txt": 4}
+
+# The files that other modules read: the class of tests, which has a test for each heading, or for each line of a table.
+ELSEWHERE = {
+    "calls.txt": "test_memory.Library",
+    "commands.txt": "test_commands.Entries",
+    "growth.txt": "test_growth.Instructions",
+    "macros.txt": "test_python_package.Macros",
+    "markdown.txt": "test_markdown.Formulas",
+    "nested.txt": "test_depth.Printed",
+    **{f"program/{word}.txt": "test_program.Answers" for word in ("block", "document", "inline")},
+    "requests.txt": "test_growth.Requests",
+    "site/elements.txt": "test_site.Elements",
+    "site/formulas.txt": "test_site.Formulas",
+    "sphinx_rows.txt": "test_sphinx.Markup",
+    "tex_definition_refusals.txt": "test_tex_program.Definitions",
+    "tex_nested.txt": "test_tex_depth.Deep",
+}
 
 TAGS = {f"<{display}>".encode(): math("", display).removesuffix(b"</math>") for display in ("inline", "block")}
 
@@ -42,10 +65,13 @@ class Line:
 
 @dataclass(frozen=True)
 class Case:
-    """An input and the expected result, as in the file, and the heading above them."""
+    """The lines of an input and of the expected result, and the heading above them. A result that has no line is the input."""
     heading: str
-    first: Line
-    second: Line
+    lines: tuple
+
+    @property
+    def first(self):
+        return self.lines[0]
 
     @property
     def place(self):
@@ -57,12 +83,12 @@ class Case:
 
     @property
     def answer(self):
-        return self.second.expand()
+        return self.lines[-1].expand()
 
     @property
     def document_answer(self):
         """The result, with whole tags in place of the short ones."""
-        return re.sub(rb"</?(?:inline|block)>", lambda tag: TAGS.get(tag[0], b"</math>"), self.answer)
+        return with_tags(self.answer)
 
     def with_space(self, number, space):
         """The formula of white_space.txt with this space at the place of this number, and at no other."""
@@ -89,27 +115,41 @@ class Command:
         return f"\\{self.name}".encode()
 
 
-def expand(text):
-    """The bytes that a text of a case stands for.
+def expand(text, n=None):
+    """The bytes that a text of a case means, where `N` is this number.
 
-    >>> expand('a[U+000A]b[byte FF][3 times "<"]')
-    b'a\\nb\\xff<<<'
+    >>> expand('a[LF]b[byte FF][3 times "<"][N times "[LF]"]', 2)
+    b'a\\nb\\xff<<<\\n\\n'
     >>> expand('[empty]')
     b''
     """
     parts, done = [], 0
     for escape in ESCAPE.finditer(text):
-        parts += [text[done:escape.start()].encode(), bytes_of(escape)]
+        parts += [text[done:escape.start()].encode(), bytes_of(escape, n)]
         done = escape.end()
     return b"".join(parts) + text[done:].encode()
 
 
-def bytes_of(escape):
+def bytes_of(escape, n):
     if escape["code"]:
         return chr(int(escape["code"], 16)).encode()
     if escape["byte"]:
         return bytes.fromhex(escape["byte"])
-    return b"" if escape["empty"] else int(escape["count"]) * expand(escape["text"])
+    if escape["feed"]:
+        return b"\n"
+    if escape["empty"]:
+        return b""
+    return (n if escape["count"] == "N" else int(escape["count"])) * expand(escape["text"])
+
+
+def with_tags(text):
+    return re.sub(rb"</?(?:inline|block)>", lambda tag: TAGS.get(tag[0], b"</math>"), text)
+
+
+def of_size(text):
+    """A function of a size: it repeats what `N` repeats in the text until that has about this many bytes."""
+    each = len(expand(text, 2)) - len(expand(text, 1))
+    return lambda size: expand(text, size // each)
 
 
 def fault_of(text):
@@ -136,31 +176,46 @@ def lines_of(path):
             yield heading, line
 
 
-def read(name):
-    """The cases of a file of two lines each, such as `formulas/numbers.txt`.
+def blocks(name):
+    """The blocks of lines that blank lines part: pairs of the heading above a block, and its lines."""
+    for has_text, pairs in itertools.groupby(lines_of(CASES / name), key=lambda pair: bool(pair[1].text)):
+        if has_text:
+            headings, lines = zip(*pairs)
+            yield headings[0], lines
+
+
+def read(name, counts=(2,)):
+    """The cases of a file of two lines each, such as `formulas/numbers.txt`, or of one of these counts of lines.
 
     Raises `WrongCase` where the file is not written so, or holds an input twice.
     """
-    cases, lines, inputs = [], [], {}
-    for heading, line in lines_of(CASES / name):
-        if line.text:
-            lines.append(line)
-        elif lines:
-            cases.append(Case(heading, *two_of(lines)))
-            lines = []
-    if lines:
-        cases.append(Case(heading, *two_of(lines)))
-    for case in cases:
+    inputs = {}
+    for heading, lines in blocks(name):
+        if len(lines) not in counts:
+            due = " or ".join(map(str, counts))
+            raise WrongCase(f"{lines[0].place}: a case has {due} lines, and a blank line after it; this has {len(lines)}")
+        case = Case(heading, lines)
         before = inputs.setdefault(case.first.text, case)
         if before is not case:
             raise WrongCase(f"{case.place}: the input stands in line {before.first.number} as well")
-    return cases
+    return list(inputs.values())
 
 
-def two_of(lines):
-    if len(lines) != 2:
-        raise WrongCase(f"{lines[0].place}: a case has two lines, and a blank line after it; this has {len(lines)}")
-    return lines
+def key_of(heading):
+    return heading[:1].lower() + heading[1:]
+
+
+def by_heading(name):
+    """The cases of a file as rows for `each_row`: of each heading a list of its cases."""
+    rows = collections.defaultdict(list)
+    for case in read(name, (1, 2) if name.startswith("site/") else (2,)):
+        rows[key_of(case.heading)].append(case)
+    return {heading: (cases,) for heading, cases in rows.items()}
+
+
+def listed(path):
+    """The texts that a file lists under headings, one a line."""
+    return {line.expand().decode() for _, line in lines_of(path) if line.text}
 
 
 def files(pattern):
@@ -170,22 +225,31 @@ def files(pattern):
 
 def commands():
     """The entries of the command table, in their order."""
-    return [Command(*row) for row in rows("commands.txt")]
+    return [Command(line, *(line.expand(it).decode() for it in columns)) for line, *columns in rows("commands.txt")]
 
 
 def rows(name):
-    """The lines of a table: each line, and what its three columns stand for."""
+    """The lines of a table: each line, and its columns, in which short forms are left as they are."""
     for _, line in lines_of(CASES / name):
-        if not line.text:
-            continue
         columns = COLUMNS.split(line.text)
-        if len(columns) != 3:
-            raise WrongCase(f"{line.place}: an entry has three columns, and two spaces or more between them")
-        yield line, *(line.expand(column).decode() for column in columns)
+        if len(columns) == TABLES[name]:
+            yield line, *columns
+        elif line.text:
+            raise WrongCase(f"{line.place}: an entry has {TABLES[name]} columns, and two spaces or more between them")
 
 
-# The files that are tables: the class of tests that has a test for each line, and the reader.
-TABLES = {"commands.txt": ("test_commands.Entries", commands)}
+def runs():
+    """What the program does with an input: its first argument, the input, its status, and what it writes to both streams."""
+    rows = {}
+    for word in ("inline", "block", "document"):
+        for case in read(f"program/{word}.txt"):
+            answer = case.document_answer
+            if answer.startswith(ERROR):
+                due = (1, b"", answer + b"\n")
+            else:
+                due = (0, answer if word == "document" else answer + b"\n", b"")
+            rows[f"{word} {case.first.number}"] = (word, case.input, *due)
+    return rows
 
 
 def every_rule():
@@ -204,25 +268,34 @@ def test_name(word):
     'tests.test_cases.refusals.test_13'
     >>> test_name("cases/commands.txt:12")
     'tests.test_commands.Entries.test_12'
-    >>> test_name("cases/commands.txt")
-    'tests.test_commands.Entries'
+    >>> test_name("cases/site/elements.txt:4")
+    'tests.test_site.Elements.test_pandoc'
     """
     name, _, line = word.removeprefix("cases/").partition(":")
     if name not in files("**/*.txt"):
         raise WrongCase(f"{word}: cases/ has no such file")
-    tests = TABLES[name][0] if name in TABLES else f"test_cases.{class_name(name)}"
-    return f"tests.{tests}" + (f".test_{first_line(word, name, line)}" if line else "")
-
-
-def first_line(word, name, line):
-    """The number of the first line of the case that has this line."""
-    if name in TABLES:
-        starts = {str(entry.line.number): entry.line.number for entry in TABLES[name][1]()}
-    else:
-        starts = {str(its.number): case.first.number for case in read(name) for its in (case.first, case.second)}
-    if line not in starts:
+    tests = ELSEWHERE.get(name, f"test_cases.{class_name(name)}")
+    if not line:
+        return f"tests.{tests}"
+    found = {str(number): key for number, key in tests_of_lines(name)}
+    if line not in found:
         raise WrongCase(f"{word}: no case has this line")
-    return starts[line]
+    return f"tests.{tests}.{case_name(found[line])}"
+
+
+def tests_of_lines(name):
+    """The number of each line of a file, and the key of the test that has it: the line in which its case begins, its heading, or the
+    name of a row."""
+    if name == "commands.txt":
+        yield from ((entry.line.number, str(entry.line.number)) for entry in commands())
+    elif name.startswith("program/"):
+        yield from ((line.number, f"{case.heading} {case.first.number}".lower()) for case in read(name) for line in case.lines)
+    elif name in TABLES:
+        yield from ((line.number, key) for line, key, *_ in rows(name))
+    elif name in ELSEWHERE:
+        yield from ((line.number, key_of(heading)) for heading, lines in blocks(name) for line in lines)
+    else:
+        yield from ((line.number, str(case.first.number)) for case in read(name) for line in case.lines)
 
 
 def class_name(name):

@@ -1,5 +1,6 @@
 """Virtual environments of Python with the package of integrations/python, as users have them."""
 import functools
+import importlib
 import json
 import os
 import shutil
@@ -7,7 +8,7 @@ import subprocess
 import sys
 import unittest
 
-from tests.support import ROOT, c_library, once, run, run_folder
+from tests.support import ROOT, c_library, made_once, once, run, run_folder
 
 
 @functools.cache
@@ -31,15 +32,16 @@ def requires_python(*modules):
 @functools.cache
 def wheel():
     """The path of the wheel, which is made once per run."""
-    library, folder = c_library(), run_folder() / "wheel"
-    with once("wheel"):
-        if not folder.exists():
-            making = run_folder() / "wheel-in-the-making"
-            subprocess.run([ROOT / "tools/make-wheel", library, making], stdin=subprocess.DEVNULL, stdout=subprocess.DEVNULL,
-                           check=True, timeout=300)
-            making.rename(folder)
-    [made] = folder.glob("*.whl")
+    [made] = made_once("wheel", ROOT / "tools/make-wheel", c_library()).glob("*.whl")
     return made
+
+
+def proved(module=""):
+    """A module of the package, as its wheel has it: imported here, where nothing of the checkout is on the path."""
+    folder = str(made_once("package", sys.executable, "-m", "zipfile", "-e", wheel()))
+    if folder not in sys.path:
+        sys.path.append(folder)
+    return importlib.import_module(f"latex2mathml_proved{module}")
 
 
 @functools.cache

@@ -1,13 +1,13 @@
 """The command `latex2mathml-site`, run as people run it, for the tests of it."""
 import os
 
-from tests.environments import ask, environment, run_python
+from tests.environments import environment, proved, run_python
 from tests.support import run_folder
 
 
 def tex(*formulas):
     """The markup of each formula, which is a text, or a list of the arguments of `latex2mathml_proved.tex`."""
-    answers = ask(environment(), "from latex2mathml_proved import tex as answer", *formulas)
+    answers = [proved().tex(*([it] if isinstance(it, str) else it)) for it in formulas]
     assert all(it.startswith("<math ") for it in answers), f"a formula has no markup: {answers}"
     return answers
 

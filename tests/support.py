@@ -69,10 +69,24 @@ def build(crate):
 def c_library():
     """The folder with the library for C, its header and its examples, which `tools/make-c-library` makes once per run."""
     build("latex2mathml_c")
-    folder = run_folder() / "c"
-    with once("c"):
+    return made_once("c", ROOT / "tools/make-c-library")
+
+
+@functools.cache
+def dist():
+    """The folder for people without Rattle, which `tools/make-dist` makes once per run. Nothing may write into it: tests use copies."""
+    temporary = run_folder() / "temporary"
+    temporary.mkdir(exist_ok=True)
+    return made_once("dist", ROOT / "tools/make-dist", env={**os.environ, "TMPDIR": str(temporary)})
+
+
+def made_once(name, *words, **more):
+    """The folder of this name that all processes of a run share, which the first of them makes by a command: it is its last argument."""
+    folder, making = (run_folder() / it for it in (name, f"{name} in the making"))
+    with once(name):
         if not folder.exists():
-            subprocess.run([ROOT / "tools/make-c-library", folder], stdin=subprocess.DEVNULL, check=True)
+            subprocess.run([*words, making], stdin=subprocess.DEVNULL, stdout=subprocess.DEVNULL, check=True, timeout=900, **more)
+            making.rename(folder)
     return folder
 
 
@@ -206,6 +220,11 @@ def each_row(table):
     return mark
 
 
+def case_name(key):
+    """The name of the case of a row."""
+    return "test_" + re.sub("[ ,]+", "_", key)
+
+
 @dataclasses.dataclass(eq=False)
 class Has:
     """Stands for any stream in which this part is found."""
@@ -221,7 +240,7 @@ class Case(unittest.TestCase):
     def __init_subclass__(cls):
         for method in list(vars(cls).values()):
             for key, row in getattr(method, "rows", {}).items():
-                name = "test_" + re.sub("[ ,]+", "_", key)
+                name = case_name(key)
                 if hasattr(cls, name):
                     raise NameError(f"{cls.__name__} has two cases {name}")
                 setattr(cls, name, functools.wraps(method)(lambda self, method=method, row=row: method(self, *row)))

@@ -1,6 +1,6 @@
 """What is built is taken only as long as it is newer than its sources, and a building says how far it is.
 
-`rt` is another program here: it makes what the toolchain would make, and prints what that prints.
+`rt` is another program here, `tests/fakes/building/rt`.
 """
 import os
 import pathlib
@@ -14,46 +14,8 @@ import unittest
 
 from tests.support import BUILD_NOTHING, Case, Has, ROOT, hear_signals, put, read_terminal, run
 
-CRATES_TXT = """# a remark
-low:
-middle: low
-high: low middle  # two
-tool staticlib: middle
-other: low
-left: low
-right: low
-both: left right
-"""
-
+FAKES = ROOT / "tests/fakes/building"
 CRATES = ("low", "middle", "high", "tool", "other", "left", "right", "both")
-
-# A crate is built over what was built of those below it. In a crate that $MEETS names, `rt` waits for the other of the two.
-RT = r"""#!/bin/sh
-crate=${PWD##*/}
-echo "$crate $*" >>"$CALLS"
-echo 'so far: 0 of 7 functions checked; the verdict comes last'
-echo "checked $crate::f, 3 of 7"
-echo 'so far: 5 of 7 functions checked'
-for below in $(sed -n "s/^$crate[^:]*://p" ../../crates.txt); do
-    [ -f "../$below/out/rlib/made" ] || { echo "$below is not built"; exit 1; }
-done
-case " $MEETS " in *" $crate "*)
-    echo "$crate" >>"$MET"
-    for turn in $(seq 100); do [ "$(wc -l <"$MET")" -lt 2 ] || break; sleep 0.05; done
-    [ "$(wc -l <"$MET")" = 2 ] || { echo 'the other did not begin'; exit 1; }
-esac
-[ "$FAILS" != "$crate" ] || { echo 'fn f: not proved'; exit 1; }
-[ "$LASTS" != "$crate" ] || { echo $$ >"$PROCESS"; exec sleep 60; }
-echo 'logic=proved functions=6 sum=1'
-[ -z "$EDITS" ] || { sleep 0.02; touch "$EDITS"; sleep 0.02; }
-mkdir -p out/rlib
-echo made >out/rlib/made
-echo "$crate" >>out/kept
-case $crate in
-tool) echo made >out/libtool.a ;;
-high | both) printf '#!/bin/sh\necho "the program ran"\n' >out/$crate && chmod +x out/$crate && out/$crate ;;
-esac
-"""
 
 
 class House(Case):
@@ -66,13 +28,13 @@ class House(Case):
         self.memory.write_text("MemTotal: 64000000 kB\nMemAvailable: 32000000 kB\n")
         self.assertIn('"/proc/meminfo"', tools["tools/build"])
         tools["tools/build"] = tools["tools/build"].replace("/proc/meminfo", str(self.memory))
-        put(self.house, {**tools, "crates.txt": CRATES_TXT})
+        put(self.house, {**tools, "crates.txt": (FAKES / "crates").read_text()})
         sources = ("src/lib.rt", "src/inner/part.rt", "specs/Lib.antt", *(f"proofs/{it}/Answers.antt" for it in "fg"))
         for crate in CRATES:
             put(self.house / "crates" / crate, {**dict.fromkeys(sources, ""), "args": "inline\n"})
         self.in_the_past(3600)
         self.calls = self.folder / "calls"
-        put(self.folder, {"calls": "", "bin/rt": RT})
+        put(self.folder, {"calls": "", "bin/rt": (FAKES / "rt").read_text()})
 
     def in_the_past(self, seconds):
         """Makes everything there older by this much."""

@@ -6,8 +6,8 @@ import shlex
 import shutil
 
 from tests.cases import every_rule
+from tests.nesting import kinds_of
 from tests.support import Case, ROOT, c_library, each_row, requires, run, scratch
-from tests.test_tex_depth import CONSTRUCTS
 from tests.texts import LESS, LESS_BLOCK, UNCLOSED
 
 CC = shlex.split(os.environ.get("CC", "cc"))
@@ -122,8 +122,7 @@ class Calls(Built):
         "answers": ("answers",),
         "memory": ("memory",),
         "every rule with memory refused": ("rules", [formula for formula, _ in every_rule()]),
-        "each construct of tex with memory refused": (
-            "tex_rules", [f"{it.before}x{it.behind}" for it in CONSTRUCTS.values()]),
+        "each construct of tex with memory refused": ("tex_rules", [it.nest(1, "x") for it in kinds_of("tex_nested.txt").values()]),
         "threads": ("threads",),
     })
     def are_passed(self, word, lines=()):

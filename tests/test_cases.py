@@ -122,8 +122,8 @@ class Reader(Case):
 
     def test_wrong_cases(self):
         for text, told in [
-            ("a\nb\nc\n", "1: a case has two lines"),
-            ("\n\na\n\nb\nc\n", "3: a case has two lines"),
+            ("a\nb\nc\n", "1: a case has 2 lines"),
+            ("\n\na\n\nb\nc\n", "3: a case has 2 lines"),
             ("a\nb\n\na\nc\n", "4: the input stands in line 1 as well"),
             ("a\n b\n", "2: a space at an end of a line is [U+0020]"),
             ("a\tb\nc\n", "1: a character that cannot be seen is [U+0009]"),
@@ -141,5 +141,5 @@ class Reader(Case):
             self.assertTrue(formula and contents.startswith("<"), formula)
 
     def test_all_files_are_read(self):
-        read = {file for pattern, _ in KINDS for file in cases.files(pattern)} | set(cases.TABLES)
+        read = {file for pattern, _ in KINDS for file in cases.files(pattern)} | set(cases.ELSEWHERE)
         self.assertEqual(sorted(read), cases.files("**/*.txt"))

@@ -68,14 +68,14 @@ class TablesOfTheCode(unittest.TestCase):
         self.assertEqual(table.spaces(), table.spaces_in_the_code())
 
     def test_delimiters(self):
-        self.assertEqual(table.commands_drawn(table.behind("Delimiters")), table.arms("delimiter_command"))
+        self.assertEqual(table.commands_drawn(table.behind("Delimiters")), table.named("DELIMITERS", table.SOURCES / "delimiters.rt"))
         self.assertEqual(table.characters_drawn(table.behind("Delimiters")), table.arms("delimiter_character"))
 
     def test_words(self):
-        self.assertEqual(table.commands_drawn(table.behind("Words")), table.arms("text_character", "text_commands.rt"))
+        self.assertEqual(table.commands_drawn(table.behind("Words")), table.named("TEXT_COMMANDS", table.TABLES / "text_commands.rt"))
 
     def test_strokes(self):
-        self.assertEqual(table.commands_drawn(table.behind("Strokes")), table.arms("negated_command"))
+        self.assertEqual(table.commands_drawn(table.behind("Strokes")), table.named("NEGATED", table.SOURCES / "delimiters.rt"))
         self.assertEqual(table.characters_drawn(table.behind("Strokes")), table.arms("negated_character"))
 
     def test_characters(self):

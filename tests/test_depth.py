@@ -1,12 +1,14 @@
 """Formulas that are a million nodes deep, or as wide, on a stack of 8 MiB: printed. Formulas a quarter as deep, on a quarter of that
 stack: in a style, cut off, and dropped after a refusal or a refused request for memory. Both leave 8 bytes of stack for a node.
 
-Each kind of node and each place in it is tried, nested in itself; `productions.py` has them.
+Each kind of node and each place in it is tried, nested in itself; `cases/nested.txt` has them.
 """
+import re
+
 import pytest
 
 from tests import faulty, support
-from tests.productions import MISSING, PRODUCTIONS, WIDE, count_tokens
+from tests.nesting import kinds_of
 from tests.texts import NO_MEMORY, OPEN, error, math
 
 pytestmark = [pytest.mark.long, pytest.mark.timeout(1800)]
@@ -21,7 +23,19 @@ OWN_BYTES = 64 << 10
 NO_STRETCH = 'There must be a parenthesis after "Middle", but not found. Insted, "Middle" is found.'
 
 
-KINDS = {kind.name: (kind,) for kind in PRODUCTIONS + WIDE}
+# the end of a text, where it is read as an error
+MISSING = '<mtext>[PARSE ERROR: Undefined("EOF")]</mtext>'
+
+# A token. The name of an environment counts as one: its letters are kept as a text.
+TOKEN = re.compile(r"\\(?:[A-Za-z]+|.)|(?<=\\begin)\{\w+\}|(?<=\\end)\{\w+\}|\d+|\S")
+
+KINDS = {name: (kind,) for name, kind in kinds_of("nested.txt").items()}
+
+
+def count_tokens(make, levels):
+    """The number of tokens of a formula with these levels. Each level but the first has as many."""
+    one, two = (len(TOKEN.findall(make(times))) for times in (1, 2))
+    return one + (levels - 1) * (two - one)
 
 
 def room_of(text):
@@ -96,8 +110,8 @@ class Cut(Shallow):
     @support.each_row(KINDS)
     def judge(self, kind):
         levels = kind.levels(self.nodes)
-        if kind.waits:
-            self.is_refused(kind.cut(levels), OPEN.format(kind.waits))
+        if kind.refused:
+            self.is_refused(kind.cut(levels), kind.refused)
         else:
             self.answers(kind.cut(levels), kind.contents(levels, MISSING), count_tokens(kind.cut, levels))
 

@@ -1,10 +1,9 @@
-"""The folder for people without Rattle, used as they would use it, without anything of the checkout."""
+"""The folder for people without Rattle: how it is made, and what is in it. `test_readmes` uses it as its READMEs say."""
 import os
 import re
 import shutil
 
-from tests.environments import interpreter, requires_python
-from tests.support import Case, Has, ROOT, newest_version, program, put, requires, run, scratch, tex_program
+from tests.support import Case, ROOT, dist, newest_version, program, put, requires, run, run_folder, tex_program
 from tests.texts import LESS, LESS_BLOCK, math
 
 CRATE = "crates/latex2mathml_c"
@@ -40,10 +39,7 @@ INLINE, BLOCK = LESS.decode(), LESS_BLOCK.decode()
 class Dist(Case):
     @classmethod
     def setUpClass(cls):
-        folder = cls.enterClassContext(scratch())
-        cls.dist, cls.temporary = folder / "the dist", folder / "temporary"  # a path may have spaces
-        cls.temporary.mkdir()
-        cls.made = run([ROOT / "tools/make-dist", cls.dist], env={**os.environ, "TMPDIR": str(cls.temporary)}, timeout=300)
+        cls.dist = dist()
 
     def house(self):
         """What make-dist needs of a checkout, in a folder whose path has a space, with a copy of the tools."""
@@ -62,9 +58,8 @@ class Dist(Case):
         """Runs a program of the folder, without an environment."""
         return run([self.dist / words[0], *words[1:]], cwd=self.dist, env={}, **more)
 
-    def test_it_is_made(self):
-        self.expect(self.made, stderr=None)
-        self.assertEqual(list(self.temporary.iterdir()), [], "left in the folder of temporary files")
+    def test_nothing_is_left_in_the_folder_of_temporary_files(self):
+        self.assertEqual(list((run_folder() / "temporary").iterdir()), [])
 
     def test_the_version(self):
         """That of the README is the one of the library for C that is there, and the newest of the changes."""
@@ -139,36 +134,6 @@ class Dist(Case):
             self.expect(refused, 1, b"", None)
             self.assertEqual(refused.stderr.count(b"\n"), 1)
 
-    def test_a_folder_of_pages(self):
-        put(self.folder, {"a.html": "a $x<y$ $$x<y$$"})
-        self.expect(self.run_there("latex2mathml", "html", self.folder))
-        self.assertEqual((self.folder / "a.html").read_text(), f"a {INLINE} {BLOCK}")
-
-    def test_the_library_from_c(self):
-        self.expect(run([self.dist / "c/examples/build"]))
-        self.expect(self.run_there("c/examples/formula", "x<y"), stdout=f"{INLINE}\n".encode())
-
-    @requires_python()
-    def test_the_package_for_python(self):
-        """The README's lines install it and call it."""
-        environment = self.folder / "environment"
-        self.expect(run([interpreter("ensurepip"), "-m", "venv", environment], timeout=300))
-        text = (self.dist / "README.md").read_text(encoding="utf-8")
-        install, call = re.findall(r"^    (python3 -.*)$", text, re.MULTILINE)
-        path = f"{environment}/bin:{os.environ['PATH']}"
-        self.expect(run(["sh", "-c", install], cwd=self.dist, env={"PATH": path}, timeout=300), stdout=None, stderr=None)
-        self.expect(run(["sh", "-c", call], cwd=self.dist, env={"PATH": path}), stdout=f"{INLINE}\n".encode())
-
-    @requires("python3")
-    def test_the_library_from_python(self):
-        self.expect(run(["python3", "c/examples/latex2mathml.py", "x<y"], cwd=self.dist), stdout=f"{INLINE}\n".encode())
-
-    @requires("node")
-    def test_the_package_for_node(self):
-        package = self.dist / "integrations/node"
-        self.expect(run([package / "make-addon"]))
-        self.expect(run(["node", "-p", f"require('{package}').formula('x<y')"]), stdout=f"{INLINE}\n".encode())
-
     def test_links(self):
         """Each link of a document leads to a file that the folder has."""
         broken = []
@@ -177,10 +142,3 @@ class Dist(Case):
                 if not re.match(r"[a-z]+:", target) and not (document.parent / target).exists():
                     broken.append(f"{document.relative_to(self.dist)}: {target}")
         self.assertEqual(broken, [])
-
-    @requires("cargo")
-    def test_the_crate_for_rust(self):
-        environment = {**os.environ, "CARGO_HOME": str(self.folder)}
-        done = run(["cargo", "run", "--quiet", "--offline", "--example", "page"], stdin=b"$x<y$", cwd=self.dist / "integrations/rust",
-                   env=environment, timeout=300)
-        self.expect(done, stdout=Has(INLINE.encode()))

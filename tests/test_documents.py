@@ -185,40 +185,32 @@ def sentences(text):
 class Readme(Case):
     text = (ROOT / "README.md").read_text()
 
+    def run_shown(self, command):
+        """Runs a command that is shown, in a folder with the programs."""
+        for name, built in (("latex2mathml", program()), ("tex2mathml", tex_program())):
+            if not (self.folder / name).exists():
+                (self.folder / name).symlink_to(built)
+        return run(["sh", "-c", command], cwd=self.folder)
+
     def test_is_short(self):
         self.assertLessEqual(self.text.count("\n"), README_LINES)
 
-    def test_its_formula_prints_what_it_shows(self):
-        shown = re.search(r"^    (printf '(.*)' \| \./latex2mathml (\w+))\n\nprints\n\n    (.*)\n", self.text, re.M)
-        self.assertIsNotNone(shown)
-        self.expect(run([program(), shown[3]], stdin=shown[2].encode()), stdout=f"{shown[4]}\n".encode())
-
-    def test_its_refusal_is_the_one_that_it_shows(self):
-        shown = re.search(r"^    \$ printf '(.*)' \| \./latex2mathml (\w+)\n    (.*)\n", self.text, re.M)
-        self.assertIsNotNone(shown)
-        done = run([program(), shown[2]], stdin=shown[1].encode())
-        self.expect(done, status=1, stdout=b"", stderr=f"{shown[3]}\n".encode())
-
-    def test_its_second_formula_and_refusal_are_those_that_it_shows(self):
-        shown = re.search(r"^    printf '(.*)' \| \./tex2mathml\n\nprints\n\n    (.*)\n", self.text, re.M)
-        self.expect(run([tex_program()], stdin=shown[1].encode()), stdout=f"{shown[2]}\n".encode())
-        for text in (self.text, (ROOT / "docs/TEX.md").read_text()):
-            shown = re.search(r"^    \$ (printf '.*') \| \./tex2mathml\n    (.*)\n", text, re.M)
-            refused = run(["sh", "-c", f"{shown[1]} | {tex_program()}"])
-            self.expect(refused, status=1, stdout=b"", stderr=f"{shown[2]}\n".encode())
-
-    def test_refused_definitions_are_those_that_are_shown(self):
-        text = (ROOT / "docs/TEX.md").read_text()
-        shown = re.findall(r"^    \$ (printf '.* \| )\./tex2mathml( --definitions .*)\n    (.*)\n", text, re.M)
-        self.assertEqual(len(shown), 2)
-        for before, behind, line in shown:
-            self.expect(run(["sh", "-c", f"{before}{tex_program()}{behind}"], cwd=self.folder), 1, b"", f"{line}\n".encode())
+    def test_its_commands_print_what_is_shown(self):
+        """So do those of TEX.md. What begins with the name of a program is a refusal, on standard error."""
+        for document, refused in (("README.md", [0, 0, 1, 1]), ("docs/TEX.md", [0, 1, 1, 1])):
+            text = (ROOT / document).read_text()
+            shown = re.findall(r"^    (?:\$ )?(printf .*)\n(?:\nprints\n\n)?    (.*)\n", text, re.M)
+            self.assertEqual(sorted(not line.startswith("<math ") for _, line in shown), refused)
+            for command, line in shown:
+                with self.subTest(command):
+                    printed = (0, f"{line}\n".encode(), b"") if line.startswith("<math ") else (1, b"", f"{line}\n".encode())
+                    self.expect(self.run_shown(command), *printed)
 
     def test_the_file_of_definitions_that_is_shown_is_read(self):
         text = (ROOT / "docs/TEX.md").read_text()
         shown = re.search(r"^    % macros\.tex\n((?:    .*\n)+)", text, re.M)[0]
         put(self.folder, {"macros.tex": shown})
-        done = run([tex_program(), "--definitions", "macros.tex"], stdin=b"\\R", cwd=self.folder)
+        done = self.run_shown("printf '\\\\R' | ./tex2mathml --definitions macros.tex")
         self.assertEqual((done.returncode, done.stdout.count("<mi>ℝ</mi>".encode())), (0, 1), done)
 
     def test_its_words_are_all_that_there_are(self):
@@ -242,17 +234,14 @@ class Readme(Case):
         self.assertIn("<mi>x</mi>", (self.folder / "b.html").read_text())
 
     def test_its_site_is_converted_over_a_copy(self):
-        command = re.search(r"^    (rm -rf site\.new site\.old && .*)\n", self.text, re.M)
-        self.assertIsNotNone(command)
-        folder = self.folder
-        put(folder, {"site/a.html": "<p>$x$</p>"})
-        (folder / "latex2mathml").symlink_to(program())
-        self.expect(run(["sh", "-c", command[1]], cwd=folder), stdout=b"")
-        self.assertEqual((folder / "site.old/a.html").read_text(), "<p>$x$</p>")
-        self.assertIn("<mi>x</mi>", (folder / "site/a.html").read_text())
+        [command] = re.findall(r"^    (rm -rf site\.new site\.old && .*)\n", self.text, re.M)
+        put(self.folder, {"site/a.html": "<p>$x$</p>"})
+        self.expect(self.run_shown(command), stdout=b"")
+        self.assertEqual((self.folder / "site.old/a.html").read_text(), "<p>$x$</p>")
+        self.assertIn("<mi>x</mi>", (self.folder / "site/a.html").read_text())
         # and again, over what the first run left
-        self.expect(run(["sh", "-c", command[1]], cwd=folder), stdout=b"")
-        self.assertEqual(sorted(path.name for path in folder.iterdir()), ["latex2mathml", "site", "site.old"])
+        self.expect(self.run_shown(command), stdout=b"")
+        self.assertEqual(sorted(path.name for path in self.folder.glob("site*")), ["site", "site.old"])
 
 
 class Language(Case):

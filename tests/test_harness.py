@@ -1,6 +1,6 @@
 """`./test` counts each case, shows what failed, ends cases that do not end, and tries nothing over what is not proved.
 
-The house here has a few cases of its own, and other programs in place of `rt` and of the compiler.
+The house here has a few cases of its own, and the programs of `tests/fakes/harness` in place of `rt` and of the compiler.
 """
 import os
 import signal
@@ -13,6 +13,8 @@ from tests import cases
 from tests.__main__ import NO_TOOLCHAIN, name_of
 from tests.support import ROOT, SKIP_NOTHING, Case, hear_signals, processors, put, run
 from tools.progress import clock
+
+FAKES = ROOT / "tests/fakes/harness"
 
 SAMPLES = {
     "test_sample.py": '''
@@ -121,28 +123,6 @@ class Long(unittest.TestCase):
 ''',
 }
 
-# `rt fmt` and `rt ci`: it builds a program while a source is edited.
-RT = """#!/bin/sh
-if [ "$1" = fmt ]; then $FMT; exit; fi
-if [ "$1" = doc ]; then echo "$(dirname "$0")/../kit/page"; exit; fi
-[ "$*" = ci ] || exit 2
-[ -z "$BUILDS" ] || { mkdir -p crates/one/out && echo made >crates/one/out/one && sleep 0.05 && touch crates/one/src/lib.rt; }
-echo 'rt: one proved'
-for n in $(seq 100); do echo "line $n"; done
-echo "${SAYS:-3 passed, 0 failed (1 proved)}"
-exit ${STATUS:-0}
-"""
-
-
-# It builds the library for C over all libraries below it.
-RATTLE = """#!/bin/sh
-case "$*" in *dependency=*/one/out/rlib*dependency=*/low/out/rlib*--toolchain*) ;; *) exit 2 ;; esac
-for archive; do :; done
-[ ${LIBRARY:-0} != 0 ] || echo made >"$archive"
-exit ${LIBRARY:-0}
-"""
-
-
 class Harness(Case):
     def setUp(self):
         self.house = self.folder / "house"
@@ -151,7 +131,7 @@ class Harness(Case):
         put(self.house, {name: (ROOT / name).read_text() for name in names})
         put(self.house, {"crates.txt": "low:\none: low\nlatex2mathml_c staticlib: one\n", "HANDLES": "",
                          "crates/one/src/lib.rt": "\n", "crates/latex2mathml_c/src/lib.rt": "\n"})
-        put(self.folder, {"bin/rt": RT, "kit/bin/rattle": RATTLE})
+        put(self.folder, {"bin/rt": (FAKES / "rt").read_text(), "kit/bin/rattle": (FAKES / "rattle").read_text()})
 
     def add(self, *names):
         put(self.house / "tests", {name: SAMPLES[name] for name in names})

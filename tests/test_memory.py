@@ -4,65 +4,23 @@ it, until a run makes fewer allocations. At the end of each run all memory is fr
 import itertools
 
 from tests import cases, faulty, support
-from tests.texts import ERROR, LESS, LESS_BLOCK, NO_MEMORY, UNCLOSED, UNPAIRED, USAGE, X, error, math
+from tests.texts import ERROR, NO_MEMORY, USAGE, X, error, math
 from tests.walks import Folder
-
-# formulas and documents, and their results
-ERROR_FUNCTION = r"\erf ( x ) = \frac{ 2 }{ \sqrt{ \pi } } \int_0^x e^{- t^2} \, dt"
-OF_ERROR_FUNCTION = (
-    "<mi>erf</mi><mo>(</mo><mi>x</mi><mo>)</mo><mo>=</mo><mfrac><mn>2</mn><msqrt><mi>π</mi></msqrt></mfrac>"
-    "<msubsup><mo>∫</mo><mn>0</mn><mi>x</mi></msubsup><msup><mi>e</mi><mrow><mo>-</mo><msup><mi>t</mi><mn>2</mn></msup></mrow></msup>"
-    '<mspace width="0.167em"/><mi>d</mi><mi>t</mi>')
-OF_FOO = r'<mtext>[PARSE ERROR: Undefined("Command(\"foo\")")]</mtext>'
-ENERGY = "$E = m c^2$ is"
-OF_ENERGY = math("<mi>E</mi><mo>=</mo><mi>m</mi><msup><mi>c</mi><mn>2</mn></msup>") + b" is"
-PROSE = r"Let $x$ be é, and $$\sum_a^b \frac12$$ its sum."
-OF_SUM = "<munderover><mo>∑</mo><mi>a</mi><mi>b</mi></munderover><mfrac><mn>1</mn><mn>2</mn></mfrac>"
-OF_PROSE = b"Let " + X + " be é, and ".encode() + math(OF_SUM, "block") + b" its sum."
-TEX = r"\left(\frac{x_i'^2}{\hat y}\right) \text{if $a$}"
-OF_TEX = (
-    '<mrow><mo form="prefix" stretchy="true">(</mo><mfrac><msubsup><mi>x</mi><mi>i</mi>'
-    '<mrow><mo lspace="0" rspace="0">′</mo><mn>2</mn></mrow></msubsup><mover accent="true"><mi>y</mi><mo stretchy="false">ˆ</mo></mover>'
-    '</mfrac><mo form="postfix" stretchy="true">)</mo></mrow><mrow><mtext>if\u00a0</mtext><mi>a</mi></mrow>')
-OF_GROUP = "<mrow><mi>a</mi><msup><mi>b</mi><mn>2</mn></msup></mrow>"
-
 
 # each rule of the grammar once, as one formula
 RULES = " ".join(formula for formula, _ in cases.every_rule())
 OF_RULES = "".join(contents for _, contents in cases.every_rule())
 
-
-def answer_of(contents):
-    return b"answer: " + math(contents)
-
-
-# the arguments of a call, its result, and its result if memory runs out
+# the refusal of each call if memory runs out
 NO_ROOM = "out of memory"
 NOT_COPIED = "memory allocation failed"
-CALLS = {
-    "a formula": ("latex_to_mathml", ERROR_FUNCTION, answer_of(OF_ERROR_FUNCTION), NO_MEMORY),
-    "an unknown command": ("latex_to_mathml", r"\foo", answer_of(OF_FOO), NO_MEMORY),
-    "each rule": ("latex_to_mathml", RULES, answer_of(OF_RULES), NO_MEMORY),
-    "an unknown environment": ("latex_to_mathml", r"\begin{foo}\foo\end{foo}",
-                               b'refusal: An unknown environment "foo" is found', NO_MEMORY),
-    "a counted formula": ("latex_to_mathml_counted", "{{a}b^2}",
-                          b"answer: " + math(OF_GROUP, "block") + b"\n8 tokens, 2 frames", NO_MEMORY),
-    "a formula of tex_to_mathml": ("tex_to_mathml", TEX, answer_of(OF_TEX), NO_ROOM),
-    "an unknown command of tex_to_mathml": (
-        "tex_to_mathml", r"x \foo", b"refusal: unknown command \\foo at 2", NO_ROOM),
-    "an open group of tex_to_mathml": ("tex_to_mathml", r"\frac{x_i", b"refusal: { is not closed at 5", NO_ROOM),
-    "a document": ("replace", ENERGY, b"answer: " + OF_ENERGY, NO_MEMORY),
-    "a document of two formulas": ("replace", PROSE, b"answer: " + OF_PROSE, NO_MEMORY),
-    "a document with an open group": ("replace", r"$\foo$ ${$", f"refusal: {UNCLOSED}".encode(), NO_MEMORY),
-    "a document that is read": ("read_document", ENERGY, b"changed: " + OF_ENERGY, NO_MEMORY),
-    "a document of two formulas that is read": ("read_document", PROSE, b"changed: " + OF_PROSE, NO_MEMORY),
-    "a document without formulas that is read": ("read_document", "no sign", b"unchanged: no sign", NO_MEMORY),
-    "a document with a lone sign that is read": (
-        "read_document", "a $x$ $", f"refusal: {UNPAIRED}".encode(), NO_MEMORY),
-    "a copy of a node": ("clone", "node", b"answer: equal", NOT_COPIED),
-    "a copy of a token": ("clone", "token", b"answer: equal", NOT_COPIED),
-    "a copy of a refusal": ("clone", "refusal", b"answer: equal", NOT_COPIED),
-}
+WANTING = {"tex_to_mathml": NO_ROOM, "clone": NOT_COPIED}
+
+# the calls, their arguments, and their results
+CALLS = {cases.key_of(heading): (name.text, text.expand().decode(), cases.with_tags(answer.expand()))
+         for heading, (name, text, answer) in cases.blocks("calls.txt")}
+CALLS["each rule"] = ("latex_to_mathml", RULES, b"answer: " + math(OF_RULES))
+_, TEX, OF_TEX = CALLS["a formula of tex_to_mathml"]
 
 # How many allocations a copy needs: those of what is copied. In the node these are 27 nodes, each a box and a text, six other texts,
 # and seven lists, of which the four with more than four members grow once.
@@ -70,9 +28,9 @@ COPIES = {"node": 71, "token": 1, "refusal": 2}
 
 # Two formulas that a converter is given, the second one twice, and its answers with enough memory.
 CONVERTED = {
-    "a converter that has done little": ("x", TEX, b"answer: " + X, answer_of(OF_TEX)),
-    "a converter that has done the same": (TEX, TEX, answer_of(OF_TEX), answer_of(OF_TEX)),
-    "a converter that has refused": (r"x_i \foo", TEX, b"refusal: unknown command \\foo at 4", answer_of(OF_TEX)),
+    "a converter that has done little": ("x", TEX, b"answer: " + X, OF_TEX),
+    "a converter that has done the same": (TEX, TEX, OF_TEX, OF_TEX),
+    "a converter that has refused": (r"x_i \foo", TEX, b"refusal: unknown command \\foo at 4", OF_TEX),
     "a converter that is to refuse": (
         "x", r"\frac{x_i}{y \foo}", b"answer: " + X, b"refusal: unknown command \\foo at 13"),
 }
@@ -81,19 +39,9 @@ CONVERTED = {
 FOR_THE_ANSWER = 4
 
 # an argument of the program, its input, and its status and streams
-RUNS = {
-    "inline": ("inline", ERROR_FUNCTION, 0, math(OF_ERROR_FUNCTION) + b"\n", b""),
-    "inline, three leaves": ("inline", "x<y", 0, LESS + b"\n", b""),
-    "block, three leaves": ("block", "x<y", 0, LESS_BLOCK + b"\n", b""),
-    "block": ("block", RULES, 0, math(OF_RULES, "block") + b"\n", b""),
-    "block, an unknown command": ("block", r"\foo", 0, math(OF_FOO, "block") + b"\n", b""),
-    "inline, an open group": ("inline", "{x", 1, b"", error(UNCLOSED)),
-    "document": ("document", ENERGY, 0, OF_ENERGY, b""),
-    "document, two formulas": ("document", PROSE, 0, OF_PROSE, b""),
-    "document, no formula": ("document", "no sign", 0, b"no sign", b""),
-    "document, an open group": ("document", r"$\foo$ ${$", 1, b"", error(UNCLOSED)),
-    "document, a lone sign": ("document", "$$$", 1, b"", error(UNPAIRED)),
-    "a wrong word": ("inlines", "x", 2, b"", USAGE),
+RUNS = cases.runs() | {
+    "each rule": ("block", RULES.encode(), 0, math(OF_RULES, "block") + b"\n", b""),
+    "a wrong word": ("inlines", b"x", 2, b"", USAGE),
 }
 
 # the definitions of its own run
@@ -167,8 +115,8 @@ class Library(Refused):
         return self.in_turn([support.build("latex2mathml_single_calls"), *words], way, judge, marked=True)
 
     @support.each_row(in_each_way(CALLS))
-    def call(self, name, text, answer, wanting, way):
-        refused = self.comes_to([name, text], way, answer + b"\n", f"refusal: {wanting}\n".encode())
+    def call(self, name, text, answer, way):
+        refused = self.comes_to([name, text], way, answer + b"\n", f"refusal: {WANTING.get(name, NO_MEMORY)}\n".encode())
         if name == "clone":
             self.assertLessEqual(refused, COPIES[text], "a copy asks for memory more often than it has parts")
 
@@ -226,8 +174,8 @@ class Served(Refused):
 
 class Program(Served):
     @support.each_row(in_each_way(RUNS))
-    def run_in_turn(self, word, text, status, out, errors, way):
-        self.serve([support.program(), word], text.encode(), way, (status, out, errors), {error(NO_MEMORY)})
+    def run_in_turn(self, word, given, status, out, errors, way):
+        self.serve([support.program(), word], given, way, (status, out, errors), {error(NO_MEMORY)})
 
     @support.each_row(in_each_way({"html": ()}))
     def walk(self, way):

@@ -11,7 +11,7 @@ import pytest
 
 from tests.environments import interpreter, requires_python
 from tests.sites import tex
-from tests.support import ROOT, Case, Has, newest_version, put, requires, run, scratch
+from tests.support import ROOT, Case, Has, dist, newest_version, put, requires, run
 
 pytestmark = pytest.mark.long
 
@@ -32,9 +32,7 @@ def about():
 class Packages(Case):
     @classmethod
     def setUpClass(cls):
-        cls.dist = cls.enterClassContext(scratch()) / "dist"
-        cls.made = run([ROOT / "tools/make-dist", cls.dist], timeout=900)
-        cls.version = newest_version()
+        cls.dist, cls.version = dist(), newest_version()
         cls.package = cls.dist / f"latex2mathml_{cls.version}_amd64.deb"
 
     def root(self):
@@ -43,8 +41,7 @@ class Packages(Case):
         return self.folder / "root"
 
     def test_it_is_made(self):
-        self.expect(self.made, stdout=None, stderr=None)
-        self.assertTrue(self.package.exists(), self.made.stderr.decode())
+        self.assertTrue(self.package.exists())
 
     @requires("lintian")
     def test_lintian(self):
@@ -202,17 +199,8 @@ class Metadata(Case):
         self.assertEqual(package["author"], "{MAINTAINER} <{EMAIL}>".format(**about()))
         self.assertEqual((package["homepage"], package["repository"]["url"]), (about()["URL"], f"git+{about()['URL']}.git"))
         self.assertTrue(package["keywords"])
-        self.assertTrue((ROOT / "integrations/node/LICENSE").exists())
 
     def test_rust(self):
         package = tomllib.loads((ROOT / "integrations/rust/Cargo.toml").read_text(encoding="utf-8"))["package"]
         self.assertEqual((package["authors"], package["repository"]), (["{MAINTAINER} <{EMAIL}>".format(**about())], about()["URL"]))
         self.assertTrue(package["documentation"].startswith(about()["URL"]))
-
-    def test_versions(self):
-        """All packages have the version of the library, as far as they name one."""
-        python = tomllib.loads((ROOT / "integrations/python/pyproject.toml").read_text(encoding="utf-8"))["project"]["version"]
-        node = json.loads((ROOT / "integrations/node/package.json").read_text(encoding="utf-8"))["version"]
-        rust = tomllib.loads((ROOT / "integrations/rust/Cargo.toml").read_text(encoding="utf-8"))["package"]["version"]
-        header = re.search(r'LATEX2MATHML_VERSION "(.*)"', (ROOT / "crates/latex2mathml_c/include/latex2mathml.h").read_text())[1]
-        self.assertEqual([python, node, rust.partition("+")[2], header], [newest_version()] * 4)

@@ -3,12 +3,9 @@ import os
 import shutil
 import subprocess
 
-from tests import faulty
-from tests.support import BUILD_NOTHING, Case, ROOT, as_nobody, limit, program, put, run
-from tests.texts import (
-    BAD_ENTRY, LESS, LESS_BLOCK, NOT_CREATED, NO_TEXT, STOPPED, UNCLOSED, UNLISTED, UNPAIRED, UNREAD, USAGE, X, error,
-    math,
-)
+from tests import cases, faulty
+from tests.support import BUILD_NOTHING, Case, ROOT, as_nobody, each_row, limit, program, put, run
+from tests.texts import BAD_ENTRY, LESS, NOT_CREATED, NO_TEXT, STOPPED, UNCLOSED, UNLISTED, UNPAIRED, UNREAD, USAGE, X, error, math
 
 LAUNCHER = ROOT / "latex2mathml"
 
@@ -56,35 +53,18 @@ class Launcher(Case):
         self.assertEqual(list(temporary.iterdir()), [])
 
 
-class Formulas(Case):
-    def test_answered(self):
-        for name, given, word, markup in [
-            ("a line", b"x<y", "inline", LESS),
-            ("a block", b"x<y", "block", LESS_BLOCK),
-            ("a line feed behind the formula", b"x<y\n", "inline", LESS),
-            ("scripts", b"x_{a}^{b}\n", "inline", math("<msub><mi>x</mi><msup><mi>a</mi><mi>b</mi></msup></msub>")),
-            ("nothing", b"", "inline", math("")),
-        ]:
-            with self.subTest(name):
-                self.expect(run([LAUNCHER, word], stdin=given), stdout=markup + b"\n")
-
-    def test_refused(self):
-        for name, given, word, line in [
-            ("a brace that does not close", b"{x", "inline", error(UNCLOSED)),
-            ("a group that does not close", b"{a b", "block", error(UNCLOSED)),
-            ("an input that is no text", b"x\xff", "inline", error(NO_TEXT)),
-            ("a character that is cut off", b"x\xc3", "block", error(NO_TEXT)),
-        ]:
-            with self.subTest(name):
-                self.expect(run([LAUNCHER, word], stdin=given), 1, b"", line)
+class Answers(Case):
+    @each_row(cases.runs())
+    def are_written(self, word, given, *due):
+        self.expect(run([LAUNCHER, word], stdin=given), *due)
 
     def test_sizes(self):
         """Sizes around that of one read, and far above it."""
         for size in SIZES:
-            with self.subTest(size):
-                digits = b"7" * size
-                answer = math(f"<mn>{digits.decode()}</mn>", "block") + b"\n"
-                self.expect(run([LAUNCHER, "block"], stdin=digits), stdout=answer)
+            digits = b"7" * size
+            for word, answer in (("block", math(b"<mn>%s</mn>" % digits, "block") + b"\n"), ("document", digits)):
+                with self.subTest(word, size=size):
+                    self.expect(run([LAUNCHER, word], stdin=digits), stdout=answer)
 
     def test_a_million_braces(self):
         """They are read with a stack of 8 MiB, and one that is not closed is refused."""
@@ -93,38 +73,6 @@ class Formulas(Case):
                                     ("one does not close", opened + b"x" + closed[1:], (1, b"", error(UNCLOSED)))]:
             with self.subTest(name):
                 self.expect(run([LAUNCHER, "inline"], stdin=given, preexec_fn=limit(STACK=8 << 20)), *wanted)
-
-
-class Documents(Case):
-    def test_answered(self):
-        for name, given, answer in [
-            ("a formula in prose", b"a $x<y$, b", b"a " + LESS + b", b"),
-            ("a formula in a block", b"$$x<y$$", LESS_BLOCK),
-            ("a line feed at the end", b"$x<y$\n", LESS + b"\n"),
-            ("prose behind a formula", b"$E = m c^2$ is", math("<mi>E</mi><mo>=</mo><mi>m</mi><msup><mi>c</mi><mn>2</mn></msup>") + b" is"),
-            ("no formula", b"no sign", b"no sign"),
-            ("a line", b"x<y\n", b"x<y\n"),
-            ("nothing", b"", b""),
-            ("a dollar sign behind a backslash", b"\\$5, $x<y$", b"&#x24;5, " + LESS),
-            ("prose outside ASCII", "é $x<y$ é\r\n\0".encode(), "é ".encode() + LESS + " é\r\n\0".encode()),
-        ]:
-            with self.subTest(name):
-                self.expect(run([LAUNCHER, "document"], stdin=given), stdout=answer)
-
-    def test_sizes(self):
-        for size in SIZES:
-            with self.subTest(size):
-                digits = b"7" * size
-                self.expect(run([LAUNCHER, "document"], stdin=digits), stdout=digits)
-
-    def test_refused(self):
-        for name, given, line in [
-            ("dollar signs that do not pair", b"$$$", error(UNPAIRED)),
-            ("a refused formula behind another", b"a $x$ ${x$", error(UNCLOSED)),
-            ("no text", b"a $x$ \xff", error(NO_TEXT)),
-        ]:
-            with self.subTest(name):
-                self.expect(run([LAUNCHER, "document"], stdin=given), 1, b"", line)
 
 
 class Words(Case):

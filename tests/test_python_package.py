@@ -1,12 +1,20 @@
 """The Python package: its wheel in a fresh virtual environment, its calls, and the option `macros` of its extensions."""
+import collections
+import concurrent.futures
+import functools
+import json
+import pickle
 import re
+import shutil
 import tomllib
 import unittest
+import unittest.mock
 import zipfile
 
 from tests import texts
-from tests.environments import ask, environment, requires_python, run_python, wheel
-from tests.support import ROOT, Case, c_library, requires, run
+from tests.cases import blocks, key_of
+from tests.environments import ask, environment, proved, requires_python, run_python, wheel
+from tests.support import ROOT, Case, c_library, each_row, requires, run
 from tests.texts import UNCLOSED, UNPAIRED
 
 PACKAGE = ROOT / "integrations/python"
@@ -23,61 +31,6 @@ def math(contents, display="inline"):
 
 # The type of what is wrong with a formula.
 FAULT = "latex2mathml_proved.rendering.Fault"
-
-# Calls a function with arguments, the last of which are those with names, and answers the result, or the error's name and
-# text.
-CALLS = """
-import latex2mathml_proved
-
-def answer(function, *words):
-    *words, named = words
-    try:
-        return getattr(latex2mathml_proved, function)(*words, **named)
-    except Exception as error:
-        return [type(error).__qualname__, isinstance(error, ValueError), str(error)]
-"""
-
-# Converts in many threads at once.
-THREADS = """
-import concurrent.futures
-import latex2mathml_proved
-
-def answer_one(text):
-    try:
-        return latex2mathml_proved.formula(text)
-    except latex2mathml_proved.Refused as refused:
-        return str(refused)
-
-def answer(*texts):
-    with concurrent.futures.ThreadPoolExecutor(8) as pool:
-        return list(pool.map(answer_one, texts)) == [answer_one(text) for text in texts]
-"""
-
-# Answers what is known of each refusal of `tex`, of each list of arguments, also behind a copy of it.
-TEX_REFUSALS = """
-import pickle
-import latex2mathml_proved
-
-def answer(*words):
-    try:
-        return latex2mathml_proved.tex(*words)
-    except latex2mathml_proved.TexRefused as refused:
-        copy = pickle.loads(pickle.dumps(refused))
-        return [str(copy), copy.reason, copy.place, copy.is_definition, copy.line, copy.column, isinstance(copy, latex2mathml_proved.Refused)]
-"""
-
-# Renders a formula with each of the options, and answers the reason where the option is refused.
-MACROS = """
-from latex2mathml_proved.macros import MacroError, definitions_of
-from latex2mathml_proved.rendering import Renderer
-
-def answer(macros, formula):
-    try:
-        rendering = Renderer(definitions=definitions_of(macros)).render(formula)
-    except MacroError as error:
-        return str(error)
-    return [rendering.markup, rendering.fault and str(rendering.fault)]
-"""
 
 # Converts a text whose markup has no room in the memory that is left, and then one whose markup has.
 LITTLE_MEMORY = """
@@ -115,27 +68,32 @@ def answer(other):
         return str(error)
 """
 
-# Copies the page files, where those of the package may only be read, and says which of the copies may be written.
-READ_ONLY = """
-import pathlib, shutil
-import latex2mathml_proved.rendering as it
 
-def answer(folder):
-    it.PAGE = shutil.copytree(it.PAGE, pathlib.Path(folder, "page"))
-    for path in (*it.PAGE.iterdir(), it.PAGE):
-        path.chmod(0o555)
-    site = pathlib.Path(folder, "a/site")
-    it.copy_page(site)
-    return [bool(path.stat().st_mode & 0o200) for path in (site, *site.iterdir())]
-"""
+def call(function, *words, **named):
+    """What a function of the package returns, or its error."""
+    try:
+        return getattr(proved(), function)(*words, **named)
+    except Exception as error:
+        return type(error).__qualname__, isinstance(error, ValueError), str(error)
 
-RENDER = """
-from latex2mathml_proved.rendering import Renderer
 
-def answer(*words):
-    markup, fault = Renderer().render(*words)
-    return [markup, fault and str(fault)]
-"""
+def refused(reason):
+    return "Refused", True, reason
+
+
+def call_tex(*words):
+    """What `tex` returns, or what is known of a refusal, also behind a copy of it."""
+    try:
+        return proved().tex(*words)
+    except proved().TexRefused as error:
+        copy = pickle.loads(pickle.dumps(error))
+        return str(copy), copy.reason, copy.place, copy.is_definition, copy.line, copy.column, isinstance(copy, proved().Refused)
+
+
+def render(*words):
+    """The markup of a formula, and its fault as a text."""
+    markup, fault = proved(".rendering").Renderer().render(*words)
+    return markup, fault and str(fault)
 
 
 @requires_python()
@@ -213,7 +171,13 @@ class Wheel(Case):
 
     def test_page_files_that_may_only_be_read(self):
         """Their copies may be written, so that the next build can copy them again."""
-        self.assertEqual(ask(environment(), READ_ONLY, str(self.folder)), [[True, True, True]])
+        rendering, site = proved(".rendering"), self.folder / "a/site"
+        page = shutil.copytree(rendering.PAGE, self.folder / "page")
+        for path in (*page.iterdir(), page):
+            path.chmod(0o555)
+        with unittest.mock.patch.object(rendering, "PAGE", page):
+            rendering.copy_page(site)
+        self.assertEqual([bool(path.stat().st_mode & 0o200) for path in (site, *site.iterdir())], [True] * 3)
 
     def test_other_systems(self):
         """Where the library does not run, the error of the import says what it needs."""
@@ -224,9 +188,6 @@ class Wheel(Case):
 
 @requires_python()
 class Calls(Case):
-    def answers(self, *calls):
-        return ask(environment(), CALLS, *calls)
-
     def test_what_the_texts_show(self):
         """The examples of the README and of the package give the results that they show."""
         self.expect(run_python(environment(), "-m", "doctest", ROOT / "integrations/python/README.md"), 0, b"", b"")
@@ -234,40 +195,36 @@ class Calls(Case):
         self.expect(run_python(environment(), "-c", own), 0, b"TestResults(failed=0, attempted=3)\n", b"")
 
     def test_markup(self):
-        self.assertEqual(
-            self.answers(["formula", "x<y", {}], ["formula", "x<y", True, {}], ["formula", "x<y", {"block": True}],
-                         ["formula", "x<y", {"block": False}], ["document", "é $x<y$, $$x<y$$ \\$", {}]),
-            [LESS_INLINE, LESS_BLOCK, LESS_BLOCK, LESS_INLINE, f"é {LESS_INLINE}, {LESS_BLOCK} &#x24;"])
+        for block, markup in ((False, LESS_INLINE), (True, LESS_BLOCK)):
+            self.assertEqual((call("formula", "x<y", block), call("formula", "x<y", block=block)), (markup, markup))
+        self.assertEqual(call("formula", "x<y"), LESS_INLINE)
+        self.assertEqual(call("document", "é $x<y$, $$x<y$$ \\$"), f"é {LESS_INLINE}, {LESS_BLOCK} &#x24;")
 
     def test_refusals(self):
-        self.assertEqual(
-            self.answers(["formula", "{x", {}], ["document", "a $x", {}], ["document", "a ${x$", {}]),
-            [["Refused", True, UNCLOSED], ["Refused", True, UNPAIRED], ["Refused", True, UNCLOSED]])
+        self.assertEqual(call("formula", "{x"), refused(UNCLOSED))
+        self.assertEqual(call("document", "a $x"), refused(UNPAIRED))
+        self.assertEqual(call("document", "a ${x$"), refused(UNCLOSED))
 
     def test_marked_errors(self):
         """Where none may be, all of them are named, and a formula without any is as it was."""
         le, less = 'marked as an error: Undefined("Command(\\"le\\")")', 'marked as an error: Undefined("Command(\\"<\\")")'
-        self.assertEqual(
-            self.answers(["formula", "x \\le y", {"strict": True}], ["formula", "\\<", True, True, {}], ["formula", "x<y", {"strict": True}],
-                         ["document", "$\\le$ $x$ $\\foo$", True, {}], ["document", "$x<y$", {"strict": True}]),
-            [["Refused", True, le], ["Refused", True, less], LESS_INLINE, ["Refused", True, f'{le}, Undefined("Command(\\"foo\\")")'],
-             LESS_INLINE])
-        [marked] = self.answers(["formula", "x \\le y", {}])
-        self.assertIn("[PARSE ERROR: ", marked)
+        self.assertEqual(call("formula", "x \\le y", strict=True), refused(le))
+        self.assertEqual(call("formula", "\\<", True, True), refused(less))
+        self.assertEqual(call("formula", "x<y", strict=True), LESS_INLINE)
+        self.assertEqual(call("document", "$\\le$ $x$ $\\foo$", True), refused(f'{le}, Undefined("Command(\\"foo\\")")'))
+        self.assertEqual(call("document", "$x<y$", strict=True), LESS_INLINE)
+        self.assertIn("[PARSE ERROR: ", call("formula", "x \\le y"))
 
     def test_texts_of_any_kind(self):
-        letters = math("<mi>x</mi>" * 100_000)
-        undefined = math('<mtext>[PARSE ERROR: Undefined("Illegal(\'\0\')")]</mtext><mi>x</mi>')
-        empty, long, zero, astral, lone = self.answers(
-            ["formula", "", {}], ["formula", "x" * 100_000, {}], ["formula", "\0x", {}], ["formula", "𝟙", {}], ["formula", "\ud800", {}])
-        self.assertEqual([empty, long, astral], [math(""), letters, math('<mi mathvariant="normal">𝟙</mi>')])
-        self.assertEqual(zero, undefined)
-        self.assertEqual(lone[:2], ["UnicodeEncodeError", True])
+        for text, contents in (("", ""), ("x" * 100_000, "<mi>x</mi>" * 100_000), ("𝟙", '<mi mathvariant="normal">𝟙</mi>'),
+                               ("\0x", '<mtext>[PARSE ERROR: Undefined("Illegal(\'\0\')")]</mtext><mi>x</mi>')):
+            self.assertEqual(call("formula", text), math(contents))
+        self.assertEqual(call("formula", "\ud800")[:2], ("UnicodeEncodeError", True))
 
     def test_an_answer_larger_than_the_first_room(self):
-        calls = [["formula", "x<y", {}], ["formula", "{x", {}], ["document", "$x<y$", {}]]
-        little_room = "import latex2mathml_proved._library as it\nit.ROOM, it.ROOM_PER_BYTE = 1, 0\n"
-        self.assertEqual(ask(environment(), little_room + CALLS, *calls), [LESS_INLINE, ["Refused", True, UNCLOSED], LESS_INLINE])
+        with unittest.mock.patch.multiple(proved("._library"), ROOM=1, ROOM_PER_BYTE=0):
+            self.assertEqual((call("formula", "x<y"), call("document", "$x<y$")), (LESS_INLINE, LESS_INLINE))
+            self.assertEqual(call("formula", "{x"), refused(UNCLOSED))
 
     def test_little_memory(self):
         [answers] = ask(environment(), LITTLE_MEMORY, ["x" * 4_000_000, "x<y"])
@@ -275,87 +232,70 @@ class Calls(Case):
 
     def test_threads(self):
         formulas = [f"{{x_{number}" + "}" * (number % 2) for number in range(400)]
-        self.assertEqual(ask(environment(), THREADS, formulas), [True])
+        alone = [call("formula", it) for it in formulas]
+        with concurrent.futures.ThreadPoolExecutor(8) as pool:
+            self.assertEqual(list(pool.map(functools.partial(call, "formula"), formulas)), alone)
 
 
 @requires_python()
 class Tex(unittest.TestCase):
-    def refusals(self, *calls):
-        return ask(environment(), TEX_REFUSALS, *calls)
-
     def test_markup(self):
         power = "<msubsup><mi>x</mi><mi>i</mi><mn>2</mn></msubsup>"
-        self.assertEqual(
-            self.refusals(["x_i^2"], ["x_i^2", True], ["\\p", False, "\\newcommand{\\p}{x_i^2}"]),
-            [math(power), math(power, "block"), math(power)])
+        self.assertEqual(call_tex("x_i^2"), math(power))
+        self.assertEqual(call_tex("x_i^2", True), math(power, "block"))
+        self.assertEqual(call_tex("\\p", False, "\\newcommand{\\p}{x_i^2}"), math(power))
 
     def test_annotation(self):
         """It is the formula as it was given, also where a macro takes the place of a part of it."""
-        self.assertEqual(
-            self.refusals(["x<y", False, "", True], ["\\p", True, "\\def\\p{x}", True], ["\\foo", False, "", True]),
-            [ANNOTATED.format("inline", "<mrow><mi>x</mi><mo>&lt;</mo><mi>y</mi></mrow>", "x&lt;y"),
-             ANNOTATED.format("block", "<mi>x</mi>", "\\p"),
-             ["unknown command \\foo at 0", "unknown command \\foo", 0, False, 1, 1, True]])
+        self.assertEqual(call_tex("x<y", False, "", True),
+                         ANNOTATED.format("inline", "<mrow><mi>x</mi><mo>&lt;</mo><mi>y</mi></mrow>", "x&lt;y"))
+        self.assertEqual(call_tex("\\p", True, "\\def\\p{x}", True), ANNOTATED.format("block", "<mi>x</mi>", "\\p"))
+        self.assertEqual(call_tex("\\foo", False, "", True), ("unknown command \\foo at 0", "unknown command \\foo", 0, False, 1, 1, True))
 
     def test_refusals(self):
         """A place is that of a character, wherever characters of several bytes stand before it."""
-        self.assertEqual(
-            self.refusals(["x + \\foo"], ["é𝟙\\foo"], ["x", False, "% é\nx"], ["x\né\n 𝟙\\foo"]),
-            [["unknown command \\foo at 4", "unknown command \\foo", 4, False, 1, 5, True],
-             ["unknown command \\foo at 2", "unknown command \\foo", 2, False, 1, 3, True],
-             ["not a definition at 4", "not a definition", 4, True, 2, 1, True],
-             ["unknown command \\foo at 6", "unknown command \\foo", 6, False, 3, 3, True]])
+        for words, place, is_definition, line, column in (
+                (["x + \\foo"], 4, False, 1, 5), (["é𝟙\\foo"], 2, False, 1, 3), (["x", False, "% é\nx"], 4, True, 2, 1),
+                (["x\né\n 𝟙\\foo"], 6, False, 3, 3)):
+            reason = "not a definition" if is_definition else "unknown command \\foo"
+            self.assertEqual(call_tex(*words), (f"{reason} at {place}", reason, place, is_definition, line, column, True))
 
     def test_brackets_behind_commands(self):
         """An optional argument is no part of what is drawn."""
-        bracketed, plain = (self.refusals([latex])[0] for latex in ("\\smash[b]{x}", "\\smash{x}"))
-        self.assertEqual(re.sub("<[^>]*>", "", bracketed), re.sub("<[^>]*>", "", plain))
+        bracketed, plain = (re.sub("<[^>]*>", "", call_tex(latex)) for latex in ("\\smash[b]{x}", "\\smash{x}"))
+        self.assertEqual(bracketed, plain)
+
+
+def render_with(macros, formula):
+    """The markup of a formula and its fault, or why this value of the option is refused."""
+    option = proved(".macros")
+    try:
+        return tuple(proved(".rendering").Renderer(definitions=option.definitions_of(macros)).render(formula))
+    except option.MacroError as error:
+        return str(error)
+
+
+def rows_of_macros():
+    """The cases of macros.txt under each heading: the option, a formula, and its markup or a reason."""
+    found = collections.defaultdict(list)
+    for heading, (option, formula, wanted) in blocks("macros.txt"):
+        markup = math(wanted.text) if wanted.text.startswith("<") else wanted.text
+        found[key_of(heading)].append((json.loads(option.text), formula.text, markup))
+    return found
 
 
 @requires_python()
 class Macros(Case):
     X = texts.X.decode()
-    NORM = math("<mi>a</mi><mo>+</mo><mi>b</mi>")
 
     def check(self, *cases):
-        answers = ask(environment(), MACROS, *(list(it[:2]) for it in cases))
-        for (macros, formula, wanted), answer in zip(cases, answers, strict=True):
+        for macros, formula, wanted in cases:
             with self.subTest(macros):
-                self.assertEqual(answer, wanted if isinstance(wanted, str) and not wanted.startswith("<") else [wanted, None])
+                self.assertEqual(render_with(macros, formula), (wanted, None) if wanted.startswith("<") else wanted)
 
-    def test_forms(self):
-        """A body alone takes as many arguments as it names, as in KaTeX, or as many as are said, as in MathJax."""
-        self.check(
-            ({"x": "x"}, "\\x", self.X),
-            ({"\\xx": "x"}, "\\xx", self.X),
-            ({"xx": ["x"]}, "\\xx", self.X),
-            ({"xx": ["x", 0]}, "\\xx", self.X),
-            ({"xx": ["x", 1]}, "\\xx{y}", self.X),
-            ({",": "x"}, "\\,", self.X),
-            ({"sum": "x"}, "\\sum", self.X),
-            ({"add": "#1+#2"}, "\\add ab", self.NORM),
-            ({"add": ["#1+#2", 2]}, "\\add{a}{b}", self.NORM),
-            ({"add": "\\plus{#2}{#1}", "plus": "#2+#1"}, "\\add ab", self.NORM),
-            ({"inner": r"\def\y##1{##1}\y{x}"}, "\\inner", self.X),
-        )
-
-    def test_what_is_no_macro(self):
-        """It is refused by its name."""
-        default = "has an argument with a default, which is not read"
-        self.check(
-            ({"R2": "x"}, "x", "macros: 'R2' is no name of a command: letters, or one other character"),
-            ({"": "x"}, "x", "macros: '' is no name of a command: letters, or one other character"),
-            ({"\\": "x"}, "x", "macros: '\\\\' is no name of a command: letters, or one other character"),
-            ({"a": ["#1", 1, "x"]}, "x", f"macros: \\a {default}: ['#1', 1, 'x']"),
-            ({"a": 1}, "x", "macros: \\a is neither a text nor a list of a text and a number of arguments: 1"),
-            ([], "x", "macros: neither a mapping nor the path of a file: []"),
-            ({"a": []}, "x", "macros: \\a is neither a text nor a list of a text and a number of arguments: []"),
-            ({"a": ["x", 10]}, "x", "macros: \\a has a number of arguments that is not from 0 to 9: 10"),
-            ({"a": ["x", "1"]}, "x", "macros: \\a has a number of arguments that is not from 0 to 9: '1'"),
-            ({"b": "x", "a": ["#2", 1]}, "x", "macros: \\a: a body has no such argument: #2"),
-            ({"a": "{x"}, "x", "macros: \\a: { is not closed: {x"),
-            ({"a": "x}"}, "x", "macros: \\a: not a definition: x}"),
-        )
+    @each_row(rows_of_macros())
+    def are_read(self, *cases):
+        self.check(*cases)
 
     def test_a_file(self):
         file = self.folder / "macros.tex"
@@ -367,53 +307,33 @@ class Macros(Case):
         self.check((str(file), "x", f"{file}: not UTF-8"))
 
     def test_no_file(self):
-        with self.assertRaisesRegex(AssertionError, "FileNotFoundError: .*none.tex"):
-            ask(environment(), MACROS, ["none.tex", "x"])
-
-
-# Renders formulas, and answers how often the library was called for each.
-COUNTED = """
-import latex2mathml_proved.rendering as it
-
-calls = 0
-
-def count_call(*words, **more):
-    global calls
-    calls += 1
-    return convert(*words, **more)
-
-convert, it.tex = it.tex, count_call
-
-def answer(formula):
-    global calls
-    calls = 0
-    it.Renderer().render(formula)
-    return calls
-"""
+        with self.assertRaisesRegex(FileNotFoundError, "none.tex"):
+            render_with("none.tex", "x")
 
 
 @requires_python()
 class Renderings(unittest.TestCase):
     def test_each_formula_is_converted_once(self):
-        self.assertEqual(ask(environment(), COUNTED, "x", "{x", "\\foo"), [1, 1, 1])
+        rendering = proved(".rendering")
+        for formula in ("x", "{x", "\\foo"):
+            with unittest.mock.patch.object(rendering, "tex", wraps=rendering.tex) as calls:
+                rendering.Renderer().render(formula)
+            self.assertEqual(calls.call_count, 1)
 
     def test_faults(self):
         """A refused formula is shown as it was written, with no mark in it. The reason says what is refused first, and where."""
-        refused, twice, dollar, rows, long = ask(
-            environment(), RENDER, "{\\le<\"\\&", "a \\foo b \\bar", "{\\$", " a &= b \\\\\n &= \\foo", "{" + "x " * 40)
-        self.assertEqual(refused, [
-            '<code class="latex2mathml-refused" title="{ is not closed at column 1">{\\le&lt;&quot;\\&amp;</code>',
-            '{\\le<"\\&: { is not closed at column 1'])
-        self.assertEqual(twice, [
-            '<code class="latex2mathml-refused" title="unknown command \\foo at column 3">a \\foo b \\bar</code>',
-            "a \\foo b \\bar: unknown command \\foo at column 3"])
-        self.assertEqual(dollar[0], '<code class="latex2mathml-refused" title="{ is not closed at column 1">{\\&#x24;</code>')
-        self.assertIn('title="unknown command \\foo at line 2, column 5"', rows[0])
-        self.assertEqual(rows[1], "a &= b \\\\ &= \\foo: unknown command \\foo at line 2, column 5")
-        self.assertEqual(long[1], "{" + "x " * 29 + "x...: { is not closed at column 1")
+        code = '<code class="latex2mathml-refused" title="{}">{}</code>'
+        for formula, shown, fault, place in (
+                ("{\\le<\"\\&", "{\\le&lt;&quot;\\&amp;", "{ is not closed", "column 1"),
+                ("a \\foo b \\bar", "a \\foo b \\bar", "unknown command \\foo", "column 3"),
+                ("{\\$", "{\\&#x24;", "{ is not closed", "column 1"),
+                (" a &= b \\\\\n &= \\foo", " a &amp;= b \\\\\n &amp;= \\foo", "unknown command \\foo", "line 2, column 5")):
+            with self.subTest(formula):
+                self.assertEqual(render(formula), (code.format(f"{fault} at {place}", shown), f"{' '.join(formula.split())}: {fault} at {place}"))
+        self.assertEqual(render("{" + "x " * 40)[1], "{" + "x " * 29 + "x...: { is not closed at column 1")
 
     def test_another_source(self):
         """Code and faults have what the author wrote, in place of what is converted."""
-        [[markup, fault]] = ask(environment(), RENDER, ["a\\\\\\foo", True, "a\n\n\\foo"])
-        self.assertEqual(markup, '<code class="latex2mathml-refused" title="unknown command \\foo at line 3, column 1">a\n\n\\foo</code>')
-        self.assertEqual(fault, "a \\foo: unknown command \\foo at line 3, column 1")
+        self.assertEqual(render("a\\\\\\foo", True, "a\n\n\\foo"), (
+            '<code class="latex2mathml-refused" title="unknown command \\foo at line 3, column 1">a\n\n\\foo</code>',
+            "a \\foo: unknown command \\foo at line 3, column 1"))

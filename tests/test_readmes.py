@@ -7,7 +7,7 @@ import shutil
 
 from tests.environments import interpreter, requires_python
 from tests.integration import answer_of, tex_answer_of
-from tests.support import ROOT, Case, put, requires, run, scratch
+from tests.support import Case, dist, put, requires, run, scratch
 
 PACKAGES = pathlib.Path("/usr/share/nodejs")  # Debian's
 
@@ -63,8 +63,6 @@ class Readme(Case):
     @classmethod
     def setUpClass(cls):
         folder = cls.enterClassContext(scratch())
-        cls.made = folder / "dist"
-        run([ROOT / "tools/make-dist", cls.made], timeout=300, check=True)
         toolchain = folder / "toolchain"
         put(toolchain, {"rt": TOOLCHAIN, "rattle": TOOLCHAIN})
         kept = {name: value for name, value in os.environ.items() if not name.startswith(("LATEX2MATHML", "PYTHON", "NODE_", "npm_"))}
@@ -73,8 +71,9 @@ class Readme(Case):
                            "npm_config_cache": str(folder / "npm"), "CARGO_NET_OFFLINE": "true", "CARGO_HOME": str(folder / "cargo")}
 
     def setUp(self):
-        self.dist, self.project = self.folder / "dist", self.folder / "project"
-        shutil.copytree(self.made, self.dist)
+        self.house = self.folder / "a house"  # a path may have spaces
+        self.dist, self.project = self.house / "dist", self.house / "project"
+        shutil.copytree(dist(), self.dist)
         self.project.mkdir()
 
     def readme(self, part):
@@ -113,7 +112,7 @@ class OfThePackageForPython(Readme):
     def test_its_commands(self):
         """From the folder of the wheel on, they install it and build the examples, with the tools that the system has."""
         readme = self.readme("integrations/python")
-        folder = self.folder / readme.partition("    cd ")[2].partition("\n")[0]
+        folder = self.house / readme.partition("    cd ")[2].partition("\n")[0]
         said = re.findall(r"^    ((?:python3|venv/bin/\w+) .*)$", readme.partition("    cd ")[2], re.MULTILINE)
         # as it says of tools that Debian has as packages
         python = interpreter("ensurepip", "sphinx", "markdown", "mkdocs")
@@ -159,7 +158,7 @@ class OfTheFilterForPandoc(Readme):
 
     def page_of(self, document):
         """What pandoc makes of a document, without a warning."""
-        done = self.follow("pandoc --wrap=preserve --lua-filter dist/integrations/pandoc/latex2mathml.lua", self.folder, self.dist,
+        done = self.follow("pandoc --wrap=preserve --lua-filter dist/integrations/pandoc/latex2mathml.lua", self.house, self.dist,
                            stdin=document.encode())
         self.expect(done)
         return done.stdout.decode()

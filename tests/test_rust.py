@@ -8,7 +8,7 @@ from tests.texts import UNCLOSED, UNPAIRED, math
 CRATE = ROOT / "integrations/rust"
 MEGABYTE = 1 << 20
 
-# A program that was written for the crate.
+# how a program that was written for the crate asks for it
 MANIFEST = """[package]
 name = "site"
 version = "0.1.0"
@@ -18,26 +18,6 @@ edition = "2018"
 """
 DEPENDENCY = 'latex2mathml = { path = "CRATE" }\n'
 PATCH = 'latex2mathml = "0.2"\n\n[patch.crates-io]\n' + DEPENDENCY
-CALLER = r"""
-use latex2mathml::{latex_to_mathml, replace, DisplayStyle, LatexError};
-
-fn page(document: &str) -> Result<String, Box<dyn std::error::Error>> {
-    Ok(format!("<p>{}</p>", replace(document)?))
-}
-
-fn show(latex: &str, display: DisplayStyle) -> Result<String, LatexError> {
-    latex_to_mathml(latex, display)
-}
-
-fn main() {
-    println!("{}", latex_to_mathml(r"E = m c^2", DisplayStyle::Block).unwrap());
-    println!("{}", page("Let $r$ be.").unwrap());
-    for fault in [show("{x", DisplayStyle::Inline).unwrap_err().clone(), replace("$").unwrap_err()].iter() {
-        println!("{}", fault);
-        assert!(!format!("{:?}", fault).is_empty());
-    }
-}
-"""
 SENTENCE = "Let $x$ be. "
 
 
@@ -77,7 +57,7 @@ class Crate(Case):
             with self.subTest(name):
                 caller = self.folder / name
                 manifest = MANIFEST + dependencies.replace("CRATE", str(self.crate))
-                put(caller, {"src/main.rs": CALLER, "Cargo.toml": manifest})
+                put(caller, {"src/main.rs": (ROOT / "tests/rust/caller.rs").read_text(), "Cargo.toml": manifest})
                 self.expect(self.cargo("run", folder=caller), stdout=printed)
 
     def test_where_the_library_is_found(self):

@@ -4,163 +4,58 @@ import pathlib
 import re
 import subprocess
 
-from tests.environments import ask, environment, requires_python, run_python
+from tests.cases import by_heading
+from tests.environments import environment, proved, requires_python, run_python
 from tests.sites import keep_caches_here, site, tex
-from tests.support import Case, put, scratch
+from tests.support import Case, each_row, put, scratch
 
-# Converts pages, and answers the results with their faults.
-CONVERT = """
-from latex2mathml_proved.site.pages import Options, convert
-
-def answer(text, options={}):
-    page = convert(text.encode(), Options(**options))
-    return [page.content.decode(), page.formulas, [list(it) for it in page.faults]]
-"""
-
-# Answers the definitions that the settings in scripts come to, and what is refused in them.
-SETTINGS = """
-from latex2mathml_proved.site.settings import macros_of
-
-def answer(script):
-    macros = macros_of(script)
-    return [macros.definitions, [list(it) for it in macros.refused]]
-"""
+# a formula in a case, and how it is displayed
+FORMULA = re.compile(r"<(inline|block)>(.*?)</\1>", re.DOTALL)
 
 
-def converted(*pages, **options):
-    """Each page after its conversion."""
-    return [made for made, _, _ in ask(environment(), CONVERT, *([page, options] for page in pages))]
+def convert(text, **options):
+    """A page after its conversion, the number of its formulas, and its faults."""
+    pages = proved(".site.pages")
+    page = pages.convert(text.encode(), pages.Options(**options))
+    return page.content.decode(), page.formulas, [tuple(it) for it in page.faults]
+
+
+def settings(script):
+    """The definitions that the settings in a script come to, and what is refused in them."""
+    macros = proved(".site.settings").macros_of(script)
+    return macros.definitions, [tuple(it) for it in macros.refused]
+
+
+def due(case):
+    """The page that a case comes to: with its markup in place of each formula between `<inline>` or `<block>`."""
+    return FORMULA.sub(lambda found: tex([found[2], found[1] == "block"])[0], case.answer.decode())
+
+
+class Pages(Case):
+    def check(self, cases):
+        for case in cases:
+            with self.subTest(case.place):
+                self.assertEqual(convert(case.input.decode())[0], due(case))
 
 
 @requires_python()
-class Pages(Case):
-    def same(self, before, formulas, after, **options):
-        """Checks that a page becomes the text `after`, in which `{}` stands for the markup of each formula in turn."""
-        [made] = converted(before, **options)
-        self.assertEqual(made, after.format(*tex(*formulas)))
-
-    def unchanged(self, *pages, **options):
-        for page, made in zip(pages, converted(*pages, **options), strict=True):
-            with self.subTest(page):
-                self.assertEqual(made, page)
-
-
 class Formulas(Pages):
-    def test_delimiters(self):
-        self.same(r"<p>a \(x\) b \[ y \] c $z$ d $$w$$ e</p>", ["x", [" y ", True], "z", ["w", True]], "<p>a {} b {} c {} d {} e</p>")
-
-    def test_without_tags(self):
-        self.same(r"\(x\)", ["x"], "{}")
-
-    def test_references(self):
-        """What HTML writes as a reference, TeX reads as the character."""
-        self.same(r"\(a &lt; b &#x3e; c &gt d\) &lt; &eacute;", ["a < b > c > d"], "{} &lt; &eacute;")
-        self.same(r"\[a &amp;= b \\ &amp;= c\]", [["a &= b \\\\ &= c", True]], "{}")
-        self.same("$a < b$ and a < b", ["a < b"], "{} and a < b")
-
-    def test_lines(self):
-        self.same("<p>$a\nb$ \\[a\n\n\tb\\]</p>\r\n", ["a\nb", ["a\n\n\tb", True]], "<p>{} {}</p>\r\n")
-        self.unchanged("<p>$a\n\nb$</p>", "<p>$$a\n \r\nb$$</p>")
-
-    def test_prices(self):
-        self.unchanged("It costs $5 and $6.", "$5-$6", "a $ x $ b", "$ x$", "$x $", "$x$5", "$$", "$$$$", "$ $", "<p>$5</p><p>$6</p>")
-
-    def test_signs_that_a_backslash_escapes(self):
-        self.unchanged(r"\$x$", r"\\(x\\)", r"\\[x\\]", r"\\\\(x)", r"\$5 and \$6", r"$x\$")
-        self.same(r"$a \$ b$ \(a \\) b\)", [r"a \$ b", r"a \\) b"], "{} {}")
-
-    def test_signs_that_nothing_closes(self):
-        self.unchanged(r"\(x", r"\[x", "$x", r"x\)", r"\(x\]", r"\(a<b>b</b>\)", r"\(a<!-- -->b\)", r"\(<br>\)")
-        self.same(r"\(x \(y\) z\)", ["y"], r"\(x {} z\)")
+    @each_row(by_heading("site/formulas.txt"))
+    def are_converted(self, cases):
+        self.check(cases)
 
     def test_dollars_off(self):
-        self.same(r"$x$ \(y\) $$z$$ \[w\]", ["y", ["w", True]], r"$x$ {} $$z$$ {}", dollars=False)
+        self.assertEqual(convert(r"$x$ \(y\) $$z$$ \[w\]", dollars=False)[0], "$x$ {} $$z$$ {}".format(*tex("y", ["w", True])))
 
     def test_annotation(self):
-        self.same("$x$", [["x", False, "", True]], "{}", annotation=True)
-
-    def test_where_no_formulas_are(self):
-        inside = r"\(x\) $y$ $$z$$ \[w\]"
-        self.unchanged(
-            f'<p title="{inside}" data-a=\'{inside}\' x={inside}>a</p>', f"<!-- {inside} -->", f"<!DOCTYPE {inside}>", f"<? {inside}>",
-            f"<![CDATA[ {inside} ]]>", f"</p {inside}>", f"<p {inside}", f"<!-- {inside}", f"<p a='{inside}", f"a </ {inside} >",
-            *(f"<{tag}>{inside}</{tag}>" for tag in ("script", "style", "pre", "code", "textarea", "title", "svg", "math", "option", "select",
-                                                      "iframe", "noscript", "xmp", "template", "SCRIPT", "Pre")),
-            f"<script>if (a <b) '{inside}' </script>", f"<script>{inside}", f"<pre><b>a</b> {inside}</pre>",
-            f"<pre><code>{inside}</pre>", f"<svg><text>{inside}</text></svg>", f"<textarea><p>{inside}</textarea>",
-            f'<p "{inside}">a</p>', f'<img alt="{inside}">', f"<code 'a\">{inside}</code>",
-            f"<title><b>{inside}</b></title>", f"<math><mtext>{inside}</mtext></math>")
-
-    def test_behind_where_no_formulas_are(self):
-        """Each of these ends where browsers end it."""
-        for before in (
-                "<script>a</script>", "<!-- a -->", "<!-- <script> -->", "<pre>a</pre>", "<pre><b>a</pre>", "<code>a</code></code>",
-                "<svg/>", "<math/>", "<svg><path/><g><path/></g></svg>", '<a title="<pre>">a</a>', "<style>pre > a</style>", "a < b ",
-                "<![if a]>", "<![CDATA[ <pre> ", "<svg><![CDATA[ <pre> > ]]></svg>", "<textarea><pre></textarea>", "<title><b>a</title>",
-                "<p>a</b></i></p>", "<br>", "<img src=a>", "</>", "</3>", "<p a=b'c>", "&", "&#", "&lt", "<", "<><", "a <3 ", "&lt;pre> ", "&lt;!-- ", "<p>&#60;b", "<b>&lt;/"):
-            with self.subTest(before):
-                ends = "> " if before == "<![CDATA[ <pre> " else ""
-                self.same(f"{before}{ends}$x$", ["x"], f"{before}{ends}{{}}")
-
-    def test_xml(self):
-        """There an element may end itself. In HTML only those of another language may."""
-        self.same('<?xml version="1.0"?>\n<p><code/>$x$</p>', ["x"], '<?xml version="1.0"?>\n<p><code/>{}</p>')
-        self.unchanged("<p><code/>$x$</p>")
-
-    def test_classes(self):
-        for word in ("tex2jax_ignore", "mathjax_ignore"):
-            self.same(f"<div class='a {word}'>$x$<div>$y$</div>$z$</div>$w$", ["w"], f"<div class='a {word}'>$x$<div>$y$</div>$z$</div>{{}}")
-        for word in ("tex2jax_process", "mathjax_process", "math"):
-            self.same(f"<div class=tex2jax_ignore>$x$<p class={word}>$y$</div>$z$", ["y", "z"],
-                      f"<div class=tex2jax_ignore>$x$<p class={word}>{{}}</div>{{}}")
-
-    def test_elements_that_nothing_closes(self):
-        for before in ("<p class=tex2jax_ignore>$x$<p>", "<ul><li class=tex2jax_ignore>$x$<li>", "<dl><dt class=tex2jax_ignore>$x$<dd>",
-                       "<table><tr><td class=tex2jax_ignore>$x$<td>", "<table><tr class=tex2jax_ignore><td>$x$<tr><td>",
-                       "<p class=tex2jax_ignore>$x$<h1>", "<div><p class=tex2jax_ignore>$x$</div>"):
-            with self.subTest(before):
-                self.same(f"{before}$y$", ["y"], f"{before}{{}}")
+        self.assertEqual([convert("$x$", annotation=True)[0]], tex(["x", False, "", True]))
 
 
+@requires_python()
 class Elements(Pages):
-    """Elements that are formulas as a whole, as site builders leave them."""
-
-    def test_pandoc(self):
-        for inner in ("x", r"\(x\)", " x\n", "$x$"):
-            self.same(f'<span class="math inline">{inner}</span>', ["x"], '<span class="math inline">{}</span>')
-        for inner in ("x", r"\[x\]", "$$x$$"):
-            self.same(f'<p><span class="math display">{inner}</span>', [["x", True]], '<p><span class="math display">{}</span>')
-
-    def test_what_pandoc_has_converted(self):
-        self.unchanged('<span class="math inline"><em>x</em><sup>2</sup></span>', '<span class="math inline"></span>')
-        self.same('<span class="math inline">$x$<em>y</em></span>', ["x"], '<span class="math inline">{}<em>y</em></span>')
-
-    def test_kramdown(self):
-        self.same('<span class="kdmath">$a &lt; b$</span>', ["a < b"], '<span class="kdmath">{}</span>')
-        self.same('<div class="kdmath">$$\na\n$$</div>', [["\na\n", True]], '<div class="kdmath">{}</div>')
-
-    def test_scripts(self):
-        self.same('a<script type="math/tex">a < b</script>c', ["a < b"], "a{}c")
-        self.same('<script type="math/tex; mode=display">a</script>', [["a", True]], "{}")
-        self.same('<script type="math/tex; mode=display">% <![CDATA[\na &lt b %]]></script>', [["a &lt b", True]], "{}")
-        self.unchanged("<pre><script type='math/tex'>x</script></pre>", "<script type='math/tex'></script>")
-
-    def test_code(self):
-        """mdBook, Hugo, Docusaurus and remark have code in the language `math`."""
-        self.same('<pre><code class="language-math">a &amp;= b\n</code></pre>', [["a &= b", True]], "{}")
-        self.same('<PRE tabindex="0">\n<code class="language-math" data-lang="math">a</code>\n</PRE>', [["a", True]], "{}")
-        self.same('<code class="language-math math-inline">a</code>', ["a"], "{}")
-        self.same('<pre><code class="language-math math-display">a</code></pre>', [["a", True]], "{}")
-        self.same('<span class="math math-inline">a</span><div class="math math-display">b</div>', ["a", ["b", True]],
-                  '<span class="math math-inline">{}</span><div class="math math-display">{}</div>')
-        self.unchanged('<pre><b></b><code class="language-math">a</code></pre>', '<pre>a <code class="language-math">a</code></pre>',
-                       '<pre><code class="language-math">a</code> b</pre>', '<pre><code class="language-math">a<b>c</b></code></pre>',
-                       '<pre><code class="language-mathematica">a</code></pre>', '<div class="tex2jax_ignore"><code class="language-math">a</code></div>')
-
-    def test_sphinx(self):
-        self.same('<div class="math notranslate nohighlight">\n<span class="eqno">(1)</span>\\[\\begin{split}a\\end{split}\\]</div>',
-                  [["\\begin{split}a\\end{split}", True]],
-                  '<div class="math notranslate nohighlight">\n<span class="eqno">(1)</span>{}</div>')
+    @each_row(by_heading("site/elements.txt"))
+    def are_converted(self, cases):
+        self.check(cases)
 
 
 @requires_python()
@@ -169,7 +64,7 @@ class Refusals(Case):
         """The line and the column are those of what is refused in the page, also behind references and in elements."""
         page = ("<p>é $x$ \\(a &lt; \\foo &amp;\\)\n$$\n x \\foo$$</p>\n"
                 '<pre><code class="language-math">\n &lt; \\foo\n</code></pre><script type="math/tex">&lt; \\foo</script>')
-        [[made, formulas, faults]] = ask(environment(), CONVERT, page)
+        made, formulas, faults = convert(page)
         self.assertEqual(formulas, 1)
         places = [(line + 1, found.start() + 1) for line, text in enumerate(page.split("\n")) for found in re.finditer(r"\\foo", text)]
         self.assertEqual([(line, column) for line, column, _ in faults], places)
@@ -178,14 +73,14 @@ class Refusals(Case):
 
     def test_it_is_told_again(self):
         """A page that was converted before has the formula as code, and a second run names it too."""
-        [[once, _, first]] = ask(environment(), CONVERT, "<p>\n$\\foo \\$$")
-        [[twice, _, second]] = ask(environment(), CONVERT, once)
+        once, _, _ = convert("<p>\n$\\foo \\$$")
+        twice, _, second = convert(once)
         self.assertEqual(twice, once)
         column = once.split("\n")[1].index(">") + 2
-        self.assertEqual(second, [[2, column, "\\foo \\$: refused before: unknown command \\foo at column 1"]])
+        self.assertEqual(second, [(2, column, "\\foo \\$: refused before: unknown command \\foo at column 1")])
 
     def test_others_are_converted(self):
-        [[made, formulas, faults]] = ask(environment(), CONVERT, "$a$ $\\foo$ $b$")
+        made, formulas, faults = convert("$a$ $\\foo$ $b$")
         a, b = tex("a", "b")
         self.assertTrue(made.startswith(f"{a} <code") and made.endswith(f"</code> {b}"), made)
         self.assertEqual((formulas, len(faults)), (2, 1))
@@ -198,11 +93,6 @@ class Refusals(Case):
 
 @requires_python()
 class Macros(Case):
-    REAL = r"\mathbb{R}"
-
-    def settings(self, *scripts):
-        return ask(environment(), SETTINGS, *scripts)
-
     def test_mathjax_and_katex(self):
         definition = "\\newcommand{\\RR}{\\mathbb{R}}\n"
         for script in (
@@ -211,22 +101,23 @@ class Macros(Case):
                 r'renderMathInElement(document.body, {macros: {"\\RR": "\\mathbb{R}"}, throwOnError: false});',
                 '// macros: {a: "b"}\n/* macros: {c: "d"} */ x = "macros: {e: 1}"; macros : /* a */ {RR // b\n: "\\\\mathbb\\x7bR\\u007D"}'):
             with self.subTest(script):
-                self.assertEqual(self.settings(script), [[definition, []]])
-        self.assertEqual(self.settings('macros: {a: ["#1#1", 1], b: "\\uD835\\uDD38", c: ["x"]}')[0][0],
+                self.assertEqual(settings(script), (definition, []))
+        self.assertEqual(settings('macros: {a: ["#1#1", 1], b: "\\uD835\\uDD38", c: ["x"]}')[0],
                          "\\newcommand{\\a}[1]{#1#1}\n\\newcommand{\\b}{𝔸}\n\\newcommand{\\c}{x}\n")
 
     def test_what_is_no_plain_data(self):
         for script in ("macros: {a: b}", "macros: {a: 'x' + 'y'}", "macros: {a: f('x')}", "macros: {...a}", "macros: {a: `x`}", "macros: {a",
                        "macros: {'a': 'x'", "macros: {a: [" + "[" * 100, "macros: {a 'b'}"):
             with self.subTest(script):
-                [[definitions, [[reason, place]]]] = self.settings(script)
+                definitions, [(reason, place)] = settings(script)
                 self.assertEqual((definitions, reason), ("", "macros that are no plain data are not read"))
                 self.assertLessEqual(place, len(script))
-        self.assertEqual(self.settings("macros: macros", "let macros = {a: 1}", "x.macros", ""), [["", []]] * 4)
+        for script in ("macros: macros", "let macros = {a: 1}", "x.macros", ""):
+            self.assertEqual(settings(script), ("", []))
 
     def test_one_that_is_refused(self):
         """The others hold all the same."""
-        [[definitions, [[reason, place]]]] = self.settings('macros: {a: "x", b: 7, c: "y"}')
+        definitions, [(reason, place)] = settings('macros: {a: "x", b: 7, c: "y"}')
         self.assertEqual(definitions, "\\newcommand{\\a}{x}\n\\newcommand{\\c}{y}\n")
         self.assertEqual((reason, place), ("macros: \\b is neither a text nor a list of a text and a number of arguments: 7", 8))
 

@@ -9,12 +9,12 @@ import unittest
 import hypothesis
 from hypothesis import strategies as st
 
-from tests.environments import ask, environment, requires_python
+from tests.environments import requires_python
 from tests.sites import tex
 from tests.support import requires
-from tests.test_site import CONVERT
+from tests.test_site import convert
 
-COUNT = int(os.environ.get("LATEX2MATHML_RANDOM", "40"))
+COUNT = int(os.environ.get("LATEX2MATHML_RANDOM", "1200"))
 
 RUN = hypothesis.settings(max_examples=COUNT, deadline=None, database=None, suppress_health_check=list(hypothesis.HealthCheck))
 
@@ -37,9 +37,6 @@ PARTS = st.one_of(
     st.builds(lambda latex: (f"${latex}$", (latex, False)), st.sampled_from(FORMULAS)),
     st.builds(lambda latex: (f"$${latex}$$", (latex, True)), st.sampled_from(FORMULAS)))
 
-# A full stop parts two parts, since a digit behind a dollar sign, or another one, says something of it.
-PAGES = st.lists(st.lists(PARTS, max_size=30), min_size=1, max_size=30)
-
 SOUP = st.lists(st.sampled_from(
     ["<", ">", "/", "!", "--", "=", '"', "'", " ", "$", "\\(", "\\)", "\\[", "\\]", "$$", "\\", "a", "x", "&", ";", "#", "<b", "</b>", "<!--",
      "-->", "<code", "<p ", "</", "<?", "<![", "]]>", "script", "<script>", "</script>", "\n", "5", "<svg>", "</svg>", "<textarea>", "<title>",
@@ -60,26 +57,24 @@ def markup(latex, block):
 @requires_python()
 class Random(unittest.TestCase):
     @RUN
-    @hypothesis.given(PAGES)
-    def test_formulas_alone_are_changed(self, pages):
-        given = [".".join(written for written, _ in page) + "." for page in pages]
-        wanted = [".".join(markup(*formula) if formula else written for written, formula in page) + "." for page in pages]
-        made = ask(environment(), CONVERT, *given)
-        for page, want, (came, _, faults) in zip(given, wanted, made, strict=True):
-            self.assertEqual((came, faults), (want, []), page)
+    @hypothesis.given(st.lists(PARTS, max_size=30))
+    def test_formulas_alone_are_changed(self, parts):
+        # a full stop parts them, since a digit behind a dollar sign, or another one, says something of it
+        page = ".".join(written for written, _ in parts) + "."
+        wanted = ".".join(markup(*formula) if formula else written for written, formula in parts) + "."
+        made, _, faults = convert(page)
+        self.assertEqual((made, faults), (wanted, []), page)
 
     @requires("python:html5lib")
     @RUN
-    @hypothesis.given(st.lists(SOUP, min_size=1, max_size=60))
-    def test_only_text_is_changed(self, pages):
-        made = ask(environment(), CONVERT, *pages)
-        for page, (came, _, _) in zip(pages, made, strict=True):
-            between = [re.escape(it) for it in MARKUP.split(came)]
-            found = re.fullmatch(FORMULA.join(between), page, re.DOTALL)
-            self.assertIsNotNone(found, page)
-            texts = texts_of(page)
-            for formula in found.groups():
-                self.assertTrue(any(html.unescape(formula) in text for text in texts), (page, formula, texts))
+    @hypothesis.given(SOUP)
+    def test_only_text_is_changed(self, page):
+        between = [re.escape(it) for it in MARKUP.split(convert(page)[0])]
+        found = re.fullmatch(FORMULA.join(between), page, re.DOTALL)
+        self.assertIsNotNone(found, page)
+        texts = texts_of(page)
+        for formula in found.groups():
+            self.assertTrue(any(html.unescape(formula) in text for text in texts), (page, formula, texts))
 
 
 def texts_of(page):

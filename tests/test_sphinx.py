@@ -1,10 +1,14 @@
 """The extension of Sphinx: projects that are built, compared with the output of Sphinx's own renderer."""
 import re
+import textwrap
+import time
+import timeit
 
 import pytest
 
-from tests.environments import ask, environment, requires_python, run_python
-from tests.support import ROOT, Case, Has, put
+from tests.cases import by_heading
+from tests.environments import environment, proved, requires_python, run_python
+from tests.support import ROOT, Case, Has, each_row, put, requires
 from tests.texts import LESS, LESS_BLOCK
 
 pytestmark = pytest.mark.long
@@ -14,21 +18,6 @@ extensions = ["latex2mathml_proved.sphinx"]
 html_math_renderer = "latex2mathml"
 """
 OPEN = "{ is not closed at column 1"
-
-
-# The processor's seconds for making rows of the text of a directive.
-ROWS = """
-import time
-from latex2mathml_proved.sphinx import rows_of
-
-def seconds(text):
-    begun = time.process_time()
-    assert len(rows_of(text)) == len(text)
-    return time.process_time() - begun
-
-def answer(text):
-    return min(seconds(text) for _ in range(3))
-"""
 
 
 @requires_python("sphinx")
@@ -68,45 +57,31 @@ class Markup(Project):
         self.assertIn(f'<p>A <span class="math notranslate nohighlight">{LESS.decode()}</span> here.</p>', page)
         self.assertIn(f'<div class="math notranslate nohighlight">\n<p>{LESS_BLOCK.decode()}</p></div>\n', page)
 
-    def test_rows(self):
-        """Rows and equations are lines of one table. Those within braces, fences and environments are not."""
-        matrix = r"\begin{matrix} a & b \\ c & d \end{matrix}"
-        for latex, rows, cells in [
-            (r"a &= b \\ &= c", 2, 4),
-            (r"a &= b \\ &= c \\", 2, 4),
-            ("a = b\n\n   c = d", 2, 2),
-            ("a = b % one\n\n   c = d % two", 2, 2),
-            ("a = 5\\% % one \\\\\n\n   c = d", 2, 2),
-            ("a = b \\\\\n\n   c = d", 2, 2),
-            ("a = b\\\n\n   c = d", 2, 2),
-            ("a = b\n\n\n\n   c = d", 2, 2),
-            ("a = b \\\\ % one\n\n   c = d\n\n   % two\n\n   % three", 2, 2),
-            ("a &= b \\\\\n   &= c \\\\\n\n   d &= e", 3, 6),
-            (rf"M = {matrix}", 2, 4),
-            (rf"\left({matrix}\right) {{{matrix}}}", 4, 8),
-            (rf"a &= {matrix}", 3, 6),
-            (r"a \& b", 0, 0),
-            (r"\{ a \rightarrow b \\ c \leftarrow d \}", 2, 2),
-            (r"a \\\\ b", 3, 3),
-        ]:
-            with self.subTest(latex):
-                page, warnings = self.page_of(CONF, f".. math::\n\n   {latex}")
+    @each_row(by_heading("sphinx_rows.txt"))
+    def are_made(self, cases):
+        for case in cases:
+            with self.subTest(case.place):
+                page, warnings = self.page_of(CONF, f".. math::\n\n{textwrap.indent(case.input.decode(), '   ')}")
                 self.assertEqual(warnings, "")
-                self.assertEqual((page.count("<mtr>"), page.count("<mtd")), (rows, cells))
+                self.assertEqual(f"{page.count('<mtr>')} rows, {page.count('<mtd')} cells", case.answer.decode())
 
+    @requires("python:sphinx")
     def test_texts_that_are_slow_to_read(self):
-        """Four times the text takes four times as long."""
+        """Making rows of four times the text takes four times as long."""
+        rows_of = proved(".sphinx").rows_of
         for piece in ("a\n\n", "%", "\\", "\n", "% \n\n", " ", "a\\\n\n", "\\\\\n\n"):
             with self.subTest(piece):
-                few, many = ask(environment("sphinx"), ROWS, *("a" + piece * count for count in (20_000, 80_000)))
+                texts = ["a" + piece * count for count in (20_000, 80_000)]
+                self.assertEqual([len(rows_of(it)) for it in texts], [len(it) for it in texts])
+                few, many = (min(timeit.repeat(lambda: rows_of(it), timer=time.process_time, number=1, repeat=3)) for it in texts)
                 self.assertLess(many, 8 * few + 0.05)
 
     def test_no_wrapping(self):
         """A text that brings its environment stands as it is, and a blank line in it is nothing."""
-        for environment, cells in [("align", "a &= b"), ("align*", "a &= b"), ("eqnarray", "a &=& b"), ("gather", "a"), ("multline", "a"),
-                                   ("flalign", "a &= b")]:
-            with self.subTest(environment):
-                latex = f"\\begin{{{environment}}}\n   {cells} \\\\\n\n   {cells}\n   \\end{{{environment}}}"
+        for name, cells in [("align", "a &= b"), ("align*", "a &= b"), ("eqnarray", "a &=& b"), ("gather", "a"), ("multline", "a"),
+                            ("flalign", "a &= b")]:
+            with self.subTest(name):
+                latex = f"\\begin{{{name}}}\n   {cells} \\\\\n\n   {cells}\n   \\end{{{name}}}"
                 page, warnings = self.page_of(CONF, f".. math::\n   :nowrap:\n   :label: one\n\n   {latex}\n\n:eq:`one`")
                 self.assertEqual((page.count("<mtable"), page.count("<mtr>"), warnings), (1, 2, ""))
                 self.assertIn('<span class="eqno">(1)', page)
@@ -188,37 +163,7 @@ class Numbers(Project):
     """Everything except the formulas, and the paragraphs around those in blocks, is as with Sphinx's `mathjax` renderer, on pages of
     every kind."""
 
-    TEXT = """
-Title
-=====
-
-Inline :math:`a`, see :eq:`one` and :eq:`other`.
-
-.. math:: b
-   :label: one
-
-.. math:: c
-
-.. math::
-   :name: named
-   :label: two
-   :class: wide
-
-   d
-
-Part
-----
-
-.. math:: e
-   :label: three
-
-Behind :eq:`three`.
-
-.. toctree::
-
-   other
-"""
-    OTHER = "Other\n=====\n\n.. math:: f\n   :label: other\n\nSee :eq:`one`.\n"
+    PAGES = {name: (ROOT / f"tests/sphinx/{name}.rst").read_text() for name in ("index", "other")}
     FORMULA = re.compile(r'<math .*?</math>|\\[(\[].*?\\[)\]]', re.DOTALL)
     PARAGRAPH = re.compile(r'(<div class="(?:wide )?math [^>]*>\n?(?:<span id="[^"]*"></span>)*)<p>(.*)</p></div>')
     LINKS = re.compile(r'.*mathjax.*\n')
@@ -227,7 +172,7 @@ Behind :eq:`three`.
         return self.PARAGRAPH.sub(r"\1\2</div>", self.FORMULA.sub("FORMULA", self.LINKS.sub("", self.page(name))))
 
     def bodies(self, conf, builder):
-        self.write(conf, index=self.TEXT, other=self.OTHER)
+        self.write(conf, **self.PAGES)
         self.expect(self.build(builder=builder), 0, b"", b"")
         names = {"html": ["index", "other"], "dirhtml": ["index", "other/index"], "singlehtml": ["index"]}[builder]
         return [self.body(name) for name in names]

@@ -1,11 +1,11 @@
 """Formulas of `tex_to_mathml` that are a million levels deep, on a stack of 8 MiB, tables of a million cells, and a megabyte of each
 sign."""
 import string
-from dataclasses import dataclass
 
 import pytest
 
 from tests import support
+from tests.nesting import kinds_of
 from tests.texts import X, math
 
 pytestmark = [pytest.mark.long, pytest.mark.timeout(1800)]
@@ -16,70 +16,9 @@ LIMIT = support.limit(STACK=8 << 20)
 MEGABYTE = 1_000_000
 
 
-@dataclass(frozen=True)
-class Construct:
-    """A construct around a place: its formula and its markup before and behind what stands there. Where a text ends in the place,
-    it is refused for this reason, at the place of the innermost construct's part."""
-    before: str
-    behind: str
-    markup_before: str
-    markup_behind: str
-    unended: str
-    # where, in the formula before the place, what is refused begins
-    offset: int
-    inner: str = "<mi>x</mi>"
-
-
 OPEN_BRACE = "{ is not closed"
-MISSING = "an argument is missing"
-HAT = '<mo stretchy="false">\u02c6</mo></mover>'
 
-CONSTRUCTS = {
-    "group": Construct("{", "}", "", "", OPEN_BRACE, 0),
-    "group of two": Construct("{y", "}", "<mrow><mi>y</mi>", "</mrow>", OPEN_BRACE, 0),
-    "root": Construct("\\sqrt{", "}", "<msqrt>", "</msqrt>", OPEN_BRACE, 5),
-    "accent without braces": Construct("\\hat ", "", '<mover accent="true">', HAT, MISSING, 0),
-    "degree": Construct("\\sqrt[", "]y", "<mroot><mi>y</mi>", "</mroot>", "[ is not closed", 0),
-    "numerator": Construct("\\frac{", "}1", "<mfrac>", "<mn>1</mn></mfrac>", OPEN_BRACE, 5),
-    "denominator": Construct("\\frac1{", "}", "<mfrac><mn>1</mn>", "</mfrac>", OPEN_BRACE, 6),
-    "upper part of a binomial": Construct("\\binom1{", "}", '<mrow><mo form="prefix" stretchy="true">(</mo><mfrac linethickness="0"><mn>1</mn>',
-                                          '</mfrac><mo form="postfix" stretchy="true">)</mo></mrow>', OPEN_BRACE, 7),
-    "superscript": Construct("y^{", "}", "<msup><mi>y</mi>", "</msup>", OPEN_BRACE, 2),
-    "superscript without braces": Construct("\\sqrt y^\\sqrt{", "}", "<msup><msqrt><mi>y</mi></msqrt><msqrt>", "</msqrt></msup>", OPEN_BRACE, 13),
-    "subscript": Construct("y_{", "}", "<msub><mi>y</mi>", "</msub>", OPEN_BRACE, 2),
-    "subscript before another script": Construct("y_{", "}^2", "<msubsup><mi>y</mi>", "<mn>2</mn></msubsup>", OPEN_BRACE, 2),
-    "superscript before another script": Construct("y^{", "}_2", "<msubsup><mi>y</mi><mn>2</mn>", "</msubsup>", OPEN_BRACE, 2),
-    "superscript behind a prime": Construct("y'^{", "}", '<msup><mi>y</mi><mrow><mo lspace="0" rspace="0">\u2032</mo>', "</mrow></msup>", OPEN_BRACE, 3),
-    "base": Construct("{", "}^2", "<msup>", "<mn>2</mn></msup>", OPEN_BRACE, 0),
-    "limit": Construct("\\sum_{", "}", "<munder><mo>\u2211</mo>", "</munder>", OPEN_BRACE, 5),
-    "accent": Construct("\\hat{", "}", '<mover accent="true">', HAT, OPEN_BRACE, 4),
-    "brace": Construct("\\overbrace{", "}", "<mover>", '<mo stretchy="true">\u23de</mo></mover>', OPEN_BRACE, 10),
-    "mark of a stack": Construct("\\overset{", "}y", "<mover><mi>y</mi>", "</mover>", OPEN_BRACE, 8),
-    "base of a stack": Construct("\\overset y{", "}", "<mover>", "<mi>y</mi></mover>", OPEN_BRACE, 10),
-    "alphabet": Construct("\\mathbf{", "}", "", "", OPEN_BRACE, 7, "<mi>\U0001d431</mi>"),
-    "style of its own": Construct("\\dfrac1{", "}", '<mstyle displaystyle="true" scriptlevel="0"><mfrac><mn>1</mn>', "</mfrac></mstyle>", OPEN_BRACE, 7),
-    "alphabet of a group": Construct("{\\bf ", "}", "", "", OPEN_BRACE, 0, "<mi>\U0001d431</mi>"),
-    "style of a group": Construct("{\\displaystyle ", "}", '<mstyle displaystyle="true" scriptlevel="0">', "</mstyle>", OPEN_BRACE, 0),
-    "upper part of a group": Construct("{", "\\over1}", "<mfrac>", "<mn>1</mn></mfrac>", OPEN_BRACE, 0),
-    "lower part of a group": Construct("{1\\over ", "}", "<mfrac><mn>1</mn>", "</mfrac>", OPEN_BRACE, 0),
-    "delimiters": Construct("\\left(", "\\right)", '<mrow><mo form="prefix" stretchy="false">(</mo>',
-                            '<mo form="postfix" stretchy="false">)</mo></mrow>', "\\left without \\right", 0),
-    "formula in words": Construct("\\text{$", "$}", "", "", "$ is not closed", 6),
-    "words": Construct("\\text{", "}", "", "", OPEN_BRACE, 5, "<mtext>x</mtext>"),
-    "box": Construct("\\phantom{", "}", "<mphantom>", "</mphantom>", OPEN_BRACE, 8),
-    "raised operand": Construct("\\raisemath{1em}{", "}", '<mpadded voffset="1em">', "</mpadded>", OPEN_BRACE, 15),
-    "color": Construct("\\textcolor{red}{", "}", '<mstyle mathcolor="#ff0000">', "</mstyle>", OPEN_BRACE, 15),
-    "color of a group": Construct("{\\color{red}", "}", '<mstyle mathcolor="#ff0000">', "</mstyle>", OPEN_BRACE, 0),
-    "above an arrow": Construct("\\xrightarrow{", "}", '<mover><mo stretchy="true">\u2192</mo>', "</mover>", OPEN_BRACE, 12),
-    "below an arrow": Construct("\\xrightarrow[", "]y", '<munderover><mo stretchy="true">\u2192</mo>', "<mi>y</mi></munderover>", "[ is not closed", 0),
-    "cell": Construct("\\begin{matrix}", "\\end{matrix}", "<mtable><mtr><mtd>", "</mtd></mtr></mtable>", "\\begin without \\end", 0),
-    "second cell": Construct("\\begin{matrix}y&", "\\end{matrix}", "<mtable><mtr><mtd><mi>y</mi></mtd><mtd>", "</mtd></mtr></mtable>",
-                             "\\begin without \\end", 0),
-    "second row": Construct("\\begin{matrix}y\\\\", "\\end{matrix}", "<mtable><mtr><mtd><mi>y</mi></mtd></mtr><mtr><mtd>",
-                            "</mtd></mtr></mtable>", "\\begin without \\end", 0),
-    "row in braces": Construct("\\substack{", "}", '<mtable displaystyle="false" scriptlevel="1"><mtr><mtd style="padding: 0.1em 0.3em">',
-                               "</mtd></mtr></mtable>", OPEN_BRACE, 0),
-}
+KINDS = {name: (kind,) for name, kind in kinds_of("tex_nested.txt").items()}
 
 
 def ask(formula):
@@ -96,15 +35,16 @@ class Large(support.Case):
 class Deep(Large):
     """Each construct in itself."""
 
-    @support.each_row({f"answers {name}": (kind,) for name, kind in CONSTRUCTS.items()})
+    @support.each_row(KINDS)
     def is_answered(self, kind):
-        self.answers(kind.before * LEVELS + "x" + kind.behind * LEVELS,
-                     kind.markup_before * LEVELS + kind.inner + kind.markup_behind * LEVELS)
+        self.answers(kind.nest(LEVELS, "x"), kind.contents(LEVELS))
 
-    @support.each_row({f"is_cut_off {name}": (kind,) for name, kind in CONSTRUCTS.items()})
+    @support.each_row({f"is_cut_off {name}": row for name, row in KINDS.items()})
     def is_cut_off(self, kind):
-        place = len(kind.before) * (LEVELS - 1) + kind.offset
-        self.expect(ask(kind.before * LEVELS), 1, b"", f"tex2mathml: {kind.unended} at {place}\n".encode())
+        """It is refused at the place of the innermost construct."""
+        reason, _, place = kind.refused.rpartition(" at ")
+        outer = len(kind.cut(LEVELS - 1))
+        self.expect(ask(kind.cut(LEVELS)), 1, b"", f"tex2mathml: {reason} at {outer + int(place)}\n".encode())
 
 
 CELL = "<mtd><mi>x</mi></mtd>"

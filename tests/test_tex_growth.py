@@ -2,12 +2,11 @@
 
 Each count is that of a run whose answer is whole: a program that answers nothing would count as cheap.
 """
-
 import pytest
 
 from tests import faulty, support
 from tests.instructions import instructions
-from tests.test_tex_depth import CONSTRUCTS
+from tests.nesting import kinds_of
 
 pytestmark = [pytest.mark.long, pytest.mark.timeout(1800)]
 
@@ -41,7 +40,7 @@ def repeat(before, piece, behind):
 
 
 def nest(kind):
-    return lambda count: kind.before * count + "x" + kind.behind * count
+    return lambda count: kind.nest(count, "x")
 
 
 def before_spaces(piece):
@@ -62,7 +61,7 @@ TEXTS = {
     "a body": repeat("\\def\\a{", "x", "}\\a"),
     "a body that is not used": repeat("\\def\\a{", "{x}", "}"),
     **{f"white space behind {piece}": before_spaces(piece) for piece in BEFORE_SPACES},
-    **{f"{name} in itself": nest(kind) for name, kind in CONSTRUCTS.items()},
+    **{f"{name} in itself": nest(kind) for name, kind in kinds_of("tex_nested.txt").items()},
     "rows of a whole text": repeat("x", "&x\\\\", ""),
     "atoms before the first cell ends": repeat("", "x+", "&"),
     "white space": repeat("x", " ", "y"),
@@ -192,4 +191,3 @@ class Another(Growth):
             self.is_answered(done)
             self.assertEqual(done.stdout.count(b"error\n{ is not closed at "), formulas)
         self.assertLessEqual(many[1]["requests"] - few[1]["requests"], 3 * MOST_FOR_ANOTHER)
-

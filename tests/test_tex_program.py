@@ -107,31 +107,6 @@ class ManyFormulas(Case):
         self.expect(ask("--null", stdin=b"x\0\xff"), 1, b"", b"tex2mathml: The input is not UTF-8 text.\n")
 
 
-# texts of definitions that are refused: where, by line and column, and why
-REFUSED_DEFINITIONS = [
-    ("x", "1:1", "not a definition"),
-    ("\\def\\a{x}\n\n  y", "3:3", "not a definition"),
-    ("\\def\\a{x}\r\n\\foo", "2:1", "not a definition"),
-    ("% é\n\\def\\é{x} y", "2:11", "not a definition"),
-    ("\\newcommand{\\a}{x", "1:16", "{ is not closed"),
-    ("\\newcommand{\\a", "1:12", "{ is not closed"),
-    ("\\def\\a{{x}", "1:7", "{ is not closed"),
-    ("\\def\\a", "1:1", "an argument is missing"),
-    (" \\def", "1:2", "an argument is missing"),
-    ("\\newcommand{a}{x}", "1:1", "no name to define"),
-    ("\\newcommand{\\a1}{x}", "1:1", "no name to define"),
-    ("\\def\\a1{x}", "1:1", "an argument up to a sign is not read"),
-    ("\\def\\a#1,{#1}", "1:1", "an argument up to a sign is not read"),
-    ("\n\\newcommand{\\a}[2]{#3}", "2:1", "a body has no such argument"),
-    ("\n\\def\\a#1#2{#3}", "2:1", "a body has no such argument"),
-    ("\\def\\a{#1}", "1:1", "a body has no such argument"),
-    ("\\newcommand{\\a}[1][x]{#1}", "1:1", "optional arguments are not read"),
-    ("\\newcommand{\\a}[10]{x}", "1:1", "wrong parameters of a definition"),
-    ("\\def\\a#2{x}", "1:1", "wrong parameters of a definition"),
-    ("\\def\\a{x}}", "1:10", "not a definition"),
-    ("\\def\\a{x\0}", "1:9", "forbidden character U+0000"),
-]
-
 # definitions, and what may stand between them
 WHOLE = ["\\newcommand{\\R}{\\mathbb{R}}", "\\newcommand*\\half[1]{\\frac{#1}{2}}", "\\def\\pair#1#2{(#1,#2)}", "\\DeclareMathOperator*{\\argmax}{arg\\,max}"]
 BETWEEN = "% é\n "
@@ -191,11 +166,13 @@ class Definitions(Case):
         """What stands in a body has the place of the macro's use, in the formula."""
         self.expect(self.ask("\\def\\a{\\foo}", "xy\\a"), 1, b"", b"tex2mathml: unknown command \\foo at 2\n")
 
-    def test_refused(self):
-        for definitions, place, reason in REFUSED_DEFINITIONS:
-            with self.subTest(definitions):
-                self.refuses(definitions, f":{place}: {reason}")
-                self.refuses("\n\n" + definitions, f":{int(place[0]) + 2}{place[1:]}: {reason}")
+    @each_row(cases.by_heading("tex_definition_refusals.txt"))
+    def are_refused(self, refused):
+        for case in refused:
+            definitions, told = case.input.decode(), case.answer.decode()
+            with self.subTest(case.place):
+                self.refuses(definitions, f":{told}")
+                self.refuses(f"\n\n{definitions}", f":{int(told[0]) + 2}{told[1:]}")
 
     def test_beginnings(self):
         """A text of definitions that is cut off is read if it is cut off between two of them, and else refused, at a place of its own."""

@@ -7,6 +7,7 @@ from tests.command_table import PAGE
 from tests.support import ROOT
 
 SOURCES = ROOT / "crates/latex2mathml_tex_units/src"
+TABLES = ROOT / "crates/latex2mathml_tex_commands/src"
 
 # The page
 
@@ -163,10 +164,17 @@ def entries(type_name, form, text):
     return found
 
 
+def named(table, path):
+    """The characters of a table of characters with names."""
+    text = path.read_text(encoding="utf-8")
+    body = re.search(rf"^static {table}: .*?^\];$", text, re.M | re.S)[0]
+    return {value(name): value(character) for name, character in entries("Named", rf"name: ({TEXT}), character: ({CHARACTER})", body)}
+
+
 @functools.cache
 def commands_in_the_code():
     """The meaning of each command, as the code writes it."""
-    text = "".join(path.read_text(encoding="utf-8") for path in sorted((SOURCES / "commands").glob("*.rt")))
+    text = "".join(path.read_text(encoding="utf-8") for path in sorted((TABLES / "commands").glob("*.rt")))
     return {value(name): meaning for name, meaning in entries("Entry", rf"name: ({TEXT}), meaning: Meaning::(.*)", text)}
 
 
@@ -188,7 +196,7 @@ def spaces_in_the_code():
 
 def characters_in_the_code():
     """The character that each character draws."""
-    text = "".join(path.read_text(encoding="utf-8") for path in sorted((SOURCES / "signs").glob("*.rt")))
+    text = "".join(path.read_text(encoding="utf-8") for path in sorted((TABLES / "signs").glob("*.rt")))
     form = rf"character: ({CHARACTER}), symbol: Symbol::\w+\((?:Class::\w+, )?({CHARACTER})\)"
     return {value(character): value(drawn) for character, drawn in entries("SignEntry", form, text)}
 

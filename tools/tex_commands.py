@@ -1,117 +1,35 @@
 """What `tex_to_mathml` reads, as docs/COMMANDS.md lists it."""
 import collections
 import functools
+import pathlib
+import re
+import types
 from dataclasses import dataclass
 
-import specs
 from entries import Made, WrongForm, choices, names, text_of, value
 from listing import by_name, code, command, drawn, grid, is_arrow, item, order, table
 
 GRAMMAR = "latex2mathml_tex_grammar"
 
-CLASSES = {
-    "Ordinary": "Ordinary", "Operator": "Operators", "Binary": "Binary operators", "Relation": "Relations", "Opening": "Opening",
-    "Closing": "Closing", "Punctuation": "Punctuation", "Inner": "Inner",
-}
 ARROWS = "Arrows, which are relations"
-A_CLASS = {
-    "Ordinary": "an ordinary atom", "Operator": "an operator", "Binary": "a binary operator", "Relation": "a relation",
-    "Opening": "an opening atom", "Closing": "a closing atom", "Punctuation": "punctuation", "Inner": "an inner atom",
-}
-ALPHABETS = {
-    "Upright": "upright", "Italic": "italic", "Bold": "bold", "BoldItalic": "bold italic", "DoubleStruck": "double-struck",
-    "Fraktur": "Fraktur", "Calligraphic": "calligraphic", "SansSerif": "sans-serif", "Monospace": "monospace",
-}
-STYLES = {"InDisplay": "a block", "InText": "a line of text", "InScript": "a script"}
-LIMITS = {
-    "Beside": "With scripts beside them", "ByStyle": "With limits above and below them in a block",
-    "Movable": "With limits that the browser moves", "Stacked": "With limits always above and below them",
-}
-FRACTIONS = {
-    "Bar": "a fraction", "NoBar": "a fraction without its bar, in parentheses", "Braced": "a fraction without its bar, in braces",
-    "Bracketed": "a fraction without its bar, in brackets", "Bare": "a fraction without its bar",
-}
-SIDES = {"Above": "above", "Below": "below"}
-WIDTHS = {"Rigid": "of their own width", "Stretching": "as wide as their operand"}
-SIZES = {"Big": "big", "Bigger": "bigger", "VeryBig": "very big", "Biggest": "biggest"}
-COLUMNS = {
-    "Centered": "centered", "LeftAligned": "left", "RightAligned": "right", "FirstOfPair": "right", "SecondOfPair": "left",
-    "Dense": "centered, narrow",
-}
-ARGUMENTS = {"ColumnList": "`{lcr}`", "Number": "`{2}`"}
-BRACKETS = {"NoBracket": "", "Position": "`[t]` if wanted", "Alignment": "`[r]` if wanted"}
-
-BOXES = {
-    "Phantom": "an operand that is not seen", "PhantomWidth": "the width of an operand", "PhantomHeight": "the height and depth of an operand",
-    "Smashed": "an operand without height and depth", "WithoutHeight": "an operand without height", "WithoutDepth": "an operand without depth",
-    "OverRight": "an operand that reaches over what stands to the right", "OverLeft": "an operand that reaches over what stands to the left",
-    "OverBoth": "an operand that reaches over what stands on both sides", "Frame": "a line around an operand",
-    "StrikeUp": "a line through an operand, upwards", "StrikeDown": "a line through an operand, downwards", "StrikeTwice": "both lines",
-}
-
-# the words that define: what they do, and an example
-WORDS = {
-    "NewCommand": ("defines a macro, also in place of one", "@{\\p}[1]{(#1)} \\p{x}"),
-    "ProvideCommand": ("defines a macro, where there is none of this name", "@{\\p}[1]{(#1)} \\p{x}"),
-    "Def": ("defines a macro", "@\\p#1{(#1)} \\p{x}"),
-    "DeclareOperator": ("defines a name, with `*` one that has limits", "@{\\p}{proj} \\p x"),
-}
-
-# the meanings without values: the section, what it is, and an example, in which @ is the command
-ALONE = {
-    "Skip": ("Lengths and boxes", "a space as wide as a length", "a@1.5em b"),
-    "SkipInBraces": ("Lengths and boxes", "a space as wide as a length; a star is nothing", "a@{1.5em}b"),
-    "Smash": ("Lengths and boxes", "an operand without height and depth; with `[t]` it has a depth, with `[b]` a height", "@{x}"),
-    "Raise": ("Lengths and boxes", "an operand that a length raises", "@{2pt}{x}"),
-    "Rectangle": ("Lengths and boxes", "a black rectangle, so wide and so high; a length in brackets before them raises it", "@{1em}{0.4pt}"),
-    "InColor": ("Colors", "an operand in a color", "@{red}{x}"),
-    "Highlight": ("Colors", "an operand on a color", "@{yellow}{x}"),
-    "ContinuedFraction": ("Fractions and roots", "a fraction, in the style of a block; `[l]` and `[r]` are nothing", "@{a}{b}"),
-    "GeneralFraction": (
-        "Fractions and roots",
-        "a fraction between delimiters, with a line unless its width is zero, in the style of a number from 0 to 3; empty braces are the usual",
-        "@{[}{]}{0pt}{}{a}{b}",
-    ),
-    "Root": ("Fractions and roots", "a root, with its degree in brackets", "@[3]{a}"),
-    "StackedRelation": ("Marks, braces and stacks", "a relation, with the first operand above the second", "@{a}{=}"),
-    "OperatorName": ("Functions", "the name of a function; with `*` it has limits", "@{rank} A"),
-    "Dots": ("Signs", "dots, in the middle of the line before a binary operator, a relation or a big operator", "a + @ + b"),
-    "Negation": ("Strokes", "a stroke through the sign that follows", "@="),
-    "Slash": ("Strokes", "a stroke through an operand", "@{D}"),
-    "Left": ("Delimiters", "an opening delimiter, as high as what stands behind it", "@( a \\right)"),
-    "Middle": ("Delimiters", "a delimiter between the two", "\\left( a @/ b \\right)"),
-    "Right": ("Delimiters", "the closing delimiter", "\\left( a @)"),
-    "Limits": ("Functions", "sets the scripts of an operator above and below it, `\\displaylimits` in a block alone", "\\sum@_a^b"),
-    "NoLimits": ("Functions", "sets them beside it, also where they would be limits", "\\sum@_a^b"),
-    "BeginTable": ("Tables", "begins an environment", "@{matrix} a \\end{matrix}"),
-    "EndTable": ("Tables", "ends it", "\\begin{matrix} a @{matrix}"),
-    "LineBreak": ("Tables", "ends a row; `&` parts cells", "\\begin{matrix} a & b @ c \\end{matrix}"),
-    "Substack": ("Tables", "rows in braces, as small as a script", "@{a \\\\ b}"),
-}
 
 # the lists that stand first in their sections, in this order
 FIRST = ("Italic", "Upright", "Ordinary", "Operators", "Binary operators", "Relations", ARROWS)
 
-# the sections, and what is said first in each
-SECTIONS = {
-    "Letters": "",
-    "Signs": "",
-    "Big operators": "",
-    "Functions": "Where no name is given, it is that of the command. A space in it is a thin one.",
-    "Marks, braces and stacks": "",
-    "Fractions and roots": "",
-    "Alphabets": "",
-    "Words": "",
-    "Spaces": "Widths are in eighteenths of an em. The character `~` is a space too, of 6.",
-    "Lengths and boxes": "",
-    "Colors": "A color is a name of style sheets, in letters of either case, or `#` with three or six digits in hexadecimal.",
-    "Strokes": "",
-    "Classes": "",
-    "Delimiters": "A point stands for no delimiter.",
-    "Sizes": "A delimiter of this size, as in `\\bigl(`, is an atom of this class:",
-    "Up to the end of the group": "",
-    "Tables": "",
-}
+
+def tables():
+    """The tables of tex_commands.txt, named by their headings: of each word the column behind it, or the columns."""
+    found = {}
+    for line in (pathlib.Path(__file__).parent / "tex_commands.txt").read_text(encoding="utf-8").splitlines():
+        if line.startswith("## "):
+            table = found[line[3:].lower()] = {}
+        elif line and not line.startswith("#"):
+            word, *columns = re.split(" {2,}", line)
+            table[word] = columns if len(columns) > 1 else "".join(columns)
+    return types.SimpleNamespace(**found)
+
+
+SAID = tables()
 
 
 @dataclass(frozen=True)
@@ -125,19 +43,19 @@ class Place:
 
 
 def place_of(meaning):
-    """Where a command with this meaning stands, and what it draws, if that is always the same. A word that the dictionaries above do
+    """Where a command with this meaning stands, and what it draws, if that is always the same. A word that the tables do
     not know is a `KeyError`."""
     match meaning:
         case Made("Shows", (symbol,)):
             return place_of_symbol(symbol)
         case Made("FunctionName", (Made(limits), name)):
-            return Place("Functions", LIMITS[limits]), text_of(name)
+            return Place("Functions", SAID.limits[limits]), text_of(name)
         case Made("Accent", (Made(side), int(mark), Made(width))):
-            return Place("Marks, braces and stacks", f"Marks {SIDES[side]}, {WIDTHS[width]}"), chr(mark)
+            return Place("Marks, braces and stacks", f"Marks {SAID.sides[side]}, {SAID.widths[width]}"), chr(mark)
         case Made("Arrow", (int(sign),)):
             return Place("Marks, braces and stacks", "Arrows as long as what stands above them, and below them in brackets"), chr(sign)
         case Made("Brace", (Made(side), int(mark))):
-            return Place("Marks, braces and stacks", f"Braces {SIDES[side]}, whose label is a script"), chr(mark)
+            return Place("Marks, braces and stacks", f"Braces {SAID.sides[side]}, whose label is a script"), chr(mark)
     return Place(*example_of(meaning)), None
 
 
@@ -150,7 +68,7 @@ def place_of_symbol(symbol):
         case Made("Sign", (Made("Relation"), int(c))) if is_arrow(chr(c)):
             return Place("Signs", ARROWS), chr(c)
         case Made("Sign", (Made(kind), int(c))):
-            return Place("Signs", CLASSES[kind]), chr(c)
+            return Place("Signs", SAID.classes[kind]), chr(c)
         case Made("BigOperator", (int(c),)):
             return Place("Big operators", "With limits above and below, which the browser moves beside them in a line of text"), chr(c)
         case Made("Integral", (int(c),)):
@@ -164,33 +82,34 @@ def example_of(meaning):
         case Made("Spacing", (int(width),)):
             return "Spaces", f"{width}"
         case Made("Styled", (Made(alphabet),)):
-            return "Alphabets", f"an operand in {ALPHABETS[alphabet]}", "@{A}"
+            return "Alphabets", f"an operand in {SAID.alphabets[alphabet]}", "@{A}"
         case Made("Boxed", (Made(box),)):
-            return "Lengths and boxes", BOXES[box], "@{x}"
+            return "Lengths and boxes", SAID.boxes[box], "@{x}"
         case Made("Words", (Made("None"),)):
             return "Words", "words", "@{if }"
         case Made("Words", (Made("Some", (Made(alphabet),)),)):
-            return "Words", f"words in {ALPHABETS[alphabet]}", "@{if }"
+            return "Words", f"words in {SAID.alphabets[alphabet]}", "@{if }"
         case Made("Fraction", (Made(rule), Made("None"))):
-            return "Fractions and roots", FRACTIONS[rule], "@{a}{b}"
+            return "Fractions and roots", SAID.fractions[rule], "@{a}{b}"
         case Made("Fraction", (Made(rule), Made("Some", (Made(style),)))):
-            return "Fractions and roots", f"{FRACTIONS[rule]}, in the style of {STYLES[style]}", "@{a}{b}"
+            return "Fractions and roots", f"{SAID.fractions[rule]}, in the style of {SAID.styles[style]}", "@{a}{b}"
         case Made("Stack", (Made(side),)):
-            return "Marks, braces and stacks", f"the first operand {SIDES[side]} the second", "@{a}{b}"
+            return "Marks, braces and stacks", f"the first operand {SAID.sides[side]} the second", "@{a}{b}"
         case Made("Sized", (Made(size), Made(kind))):
-            return "Sizes", SIZES[size], "@(", A_CLASS[kind]
+            return "Sizes", SAID.sizes[size], "@(", SAID.atoms[kind]
         case Made("Classed", (Made(kind),)):
-            return "Classes", f"an operand as {A_CLASS[kind]}", "a @{x} b"
+            return "Classes", f"an operand as {SAID.atoms[kind]}", "a @{x} b"
         case Made("Changes", (Made("ToAlphabet", (Made(alphabet),)),)):
-            return "Up to the end of the group", f"letters and digits in {ALPHABETS[alphabet]}", "{@ a}"
+            return "Up to the end of the group", f"letters and digits in {SAID.alphabets[alphabet]}", "{@ a}"
         case Made("Changes", (Made("ToStyle", (Made(style),)),)):
-            return "Up to the end of the group", f"all in the style of {STYLES[style]}", "{@ a}"
+            return "Up to the end of the group", f"all in the style of {SAID.styles[style]}", "{@ a}"
         case Made("Changes", (Made("ToColor"),)):
             return "Up to the end of the group", "all in a color", "{@{red} a}"
         case Made("Changes", (Made("Divides", (Made(rule),)),)):
-            return "Up to the end of the group", f"{FRACTIONS[rule]}, of what stands before it and behind it", "{a @ b}"
+            return "Up to the end of the group", f"{SAID.fractions[rule]}, of what stands before it and behind it", "{a @ b}"
         case Made(name, ()):
-            return ALONE[name]
+            section, example, what = SAID.alone[name]
+            return section, what, example
     raise KeyError(meaning)
 
 
@@ -235,15 +154,9 @@ def drawings():
     return {name: text for there in placed(commands()).values() for name, text in there.items() if text}
 
 
-def macros_are_read():
-    """Whether an answer may use macros: as long as it may not, any definitions are refused."""
-    return "DefinitionsGiven" not in specs.spec("latex2mathml_tex", "Answers").body
-
-
 def counts():
-    macros = [f"{len(usual_macros())} usual macros"] if macros_are_read() else []
-    *others, last = [f"{len(commands())} commands", f"{len(environments())} environments", f"{len(characters())} characters", *macros]
-    return f"{', '.join(others)} and {last}"
+    return (f"{len(commands())} commands, {len(environments())} environments, {len(characters())} characters "
+            f"and {len(usual_macros())} usual macros")
 
 
 # The lines of the page
@@ -252,7 +165,7 @@ def counts():
 def lines():
     yield "## `tex_to_mathml`"
     found = placed(commands())
-    for section, said in SECTIONS.items():
+    for section, said in SAID.sections.items():
         yield from ("", f"### {section}", "")
         if said:
             yield from (said, "")
@@ -286,9 +199,9 @@ def shown(name, text):
 
 
 def size_lines(found):
-    columns = [it for it in A_CLASS.values() if it in {place.column for place in found}]
+    columns = [it for it in SAID.atoms.values() if it in {place.column for place in found}]
     by_cell = {(place.what, place.column): ", ".join(map(command, by_name(drawings))) for place, drawings in found.items()}
-    yield from table(("Size", *columns), ((size, *(by_cell.get((size, it), "") for it in columns)) for size in SIZES.values()))
+    yield from table(("Size", *columns), ((size, *(by_cell.get((size, it), "") for it in columns)) for size in SAID.sizes.values()))
 
 
 def space_lines(found):
@@ -366,8 +279,8 @@ def environment_cells(environment):
         case {"delimiters": delimiters, "columns": columns, "style": Made(style), "bracket": Made(bracket), "argument": argument} \
                 if len(environment) == 5:
             behind, own = argument_text(argument), columns_text(columns)
-            said = "those said" if behind == ARGUMENTS["ColumnList"] else own
-            return ", ".join(filter(None, [BRACKETS[bracket], behind])), said, STYLES[style], around(delimiters)
+            said = "those said" if behind == SAID.arguments["ColumnList"] else own
+            return ", ".join(filter(None, [SAID.brackets[bracket], behind])), said, SAID.styles[style], around(delimiters)
     raise KeyError(str(environment))
 
 
@@ -376,18 +289,18 @@ def argument_text(argument):
         case Made("None"):
             return ""
         case Made("Some", (Made(kind),)):
-            return ARGUMENTS[kind]
+            return SAID.arguments[kind]
     raise KeyError(str(argument))
 
 
 def columns_text(columns):
     match columns:
         case Made("Alike", (Made(column),)):
-            return COLUMNS[column]
+            return SAID.columns[column]
         case Made("InPairs"):
             return "pairs of right and left"
         case Made("Listed", (listed,)):
-            return f"{', '.join(COLUMNS[it.name] for it in listed)}; others centered"
+            return f"{', '.join(SAID.columns[it.name] for it in listed)}; others centered"
     raise KeyError(str(columns))
 
 
@@ -405,11 +318,7 @@ def around(delimiters):
 
 
 def macro_lines():
-    yield from ("", "### Words that define", "")
-    if macros_are_read():
-        yield from ("[TEX.md](TEX.md) says where macros hold, and what is refused.", "")
-    else:
-        yield from ("Macros and definitions are not read yet: [TEX.md](TEX.md) says what they will be.", "")
+    yield from ("", "### Words that define", "", "[TEX.md](TEX.md) says where macros hold, and what is refused.", "")
     found = placed(choices(GRAMMAR, "Definitions", "word_named"), place_of_word)
     yield from section_lines(found)
     yield from ("", "### Usual macros", "", "`#1` is what the macro takes. A definition of the same name comes first.", "")
@@ -424,7 +333,7 @@ def macro_cells(macro):
 def place_of_word(word):
     match word:
         case Made("Some", (Made(name),)):
-            what, example = WORDS[name]
+            example, what = SAID.words[name]
             return Place("Words that define", what, example), None
     raise KeyError(word)
 

@@ -1,7 +1,7 @@
 -- Laws of documents: they hold of every text.
-use Rattle.std.specs.Prelude.{◌≡◌, ◌⊎◌, ◌↔◌, ◌==◌, ◌%◌, ℕ, List, [], ◌∷◌, ◌++◌}
+use Rattle.std.specs.Prelude.{◌≡◌, ◌⊎◌, ◌↔◌, ◌==◌, ◌%◌, ℕ, List, ◌++◌}
 use Rattle.std.specs.List.{suffix_len}
-use Rattle.latex2mathml.specs.Documents.{Piece, prose, inline, display, HasCut, HasNoCut, IsCut, ProseAnswer, IsAnswer, IsRefusal}
+use Rattle.latex2mathml.specs.Documents.{AreJoined, Piece, prose, inline, display, HasCut, HasNoCut, IsCut, ProseAnswer, IsAnswer, IsRefusal}
 use Rattle.latex2mathml.specs.Surroundings.{HasBalancedProse, HasPageProse}
 use Rattle.latex2mathml_grammar.specs.{Dollars.backslash, Dollars.IsDollarFree, Rendering.IsRendering}
 use Rattle.latex2mathml_trees.specs.{Markup.IsBalanced, MathSchema.IsMathElement, Pages.IsPage}
@@ -58,15 +58,9 @@ IsPieceMarkup (prose text) markup = ProseAnswer text markup
 IsPieceMarkup (inline body) markup = IsRendering body Inline markup × IsMathElement markup
 IsPieceMarkup (display body) markup = IsRendering body Block markup × IsMathElement markup
 
--- the answer is what becomes of the pieces, one after another
-abbrev pub ArePiecesMarkup : List Piece → List ℕ → Type 0
-ArePiecesMarkup [] answer = answer ≡ []
-ArePiecesMarkup (piece ∷ pieces) answer =
-    (front : List ℕ) × (back : List ℕ) × IsPieceMarkup piece front × ArePiecesMarkup pieces back × (answer ≡ front ++ back)
-
 -- the answer is that of the document's prose, with one `math` element in the place of each formula
 abbrev pub HasElements : List ℕ → List ℕ → Type 0
-HasElements document answer = (pieces : List Piece) × IsCut document pieces × ArePiecesMarkup pieces answer
+HasElements document answer = (pieces : List Piece) × IsCut document pieces × AreJoined IsPieceMarkup pieces answer
 
 -- what holds of all documents
 pub record AnswersHold : Type 0 where

@@ -1,7 +1,7 @@
 -- Documents: prose with formulas between dollar signs. From top to bottom this is what `replace` answers for one: it
 -- cuts the document into pieces, keeps the prose byte for byte but for `\$`, and puts the rendering of each formula,
 -- alone, in its place; or it refuses the document, for its dollar signs first, and then for its first refused formula.
--- `replace` answers nothing else, unless memory is wanting, and each document has exactly one answer or exactly one
+-- `replace` answers nothing else, unless memory runs out, and each document has exactly one answer or exactly one
 -- refusal (`laws::one_outcome`).
 --
 -- A text is its bytes here.
@@ -101,11 +101,15 @@ PieceAnswer (prose text) answer = ProseAnswer text answer
 PieceAnswer (inline body) answer = IsRendering body Inline answer
 PieceAnswer (display body) answer = IsRendering body Block answer
 
--- what becomes of pieces: the answers one after another
+-- the answer is what becomes of the pieces, one after another
+abbrev pub AreJoined : (Piece → List ℕ → Type 0) → List Piece → List ℕ → Type 0
+AreJoined Becomes [] answer = answer ≡ []
+AreJoined Becomes (piece ∷ pieces) answer =
+    (front : List ℕ) × (back : List ℕ) × Becomes piece front × AreJoined Becomes pieces back × (answer ≡ front ++ back)
+
+-- what becomes of pieces
 abbrev pub PiecesAnswer : List Piece → List ℕ → Type 0
-PiecesAnswer [] answer = answer ≡ []
-PiecesAnswer (piece ∷ pieces) answer =
-    (front : List ℕ) × (back : List ℕ) × PieceAnswer piece front × PiecesAnswer pieces back × (answer ≡ front ++ back)
+PiecesAnswer = AreJoined PieceAnswer
 
 -- the answer of a document: that of its pieces
 unfoldable pub IsAnswer : List ℕ → List ℕ → Type 0

@@ -65,6 +65,10 @@ Answered None new answers = ⊤
 Answered (Some before) None answers = ⊥
 Answered (Some before) (Some after) answers = after ≡ before ++ answers
 
+-- it was asked for this one, and for no other
+abbrev pub IsAsked : Option (List Answer) → Option (List Answer) → Answer → Type 0
+IsAsked old new answer = Answered old new (answer ∷ [])
+
 -- what is left alone: what is neither a file nor a directory, and a file that is no document
 abbrev pub IsLeftAlone : List ℕ → PathKind → Type 0
 IsLeftAlone path Directory = ⊥
@@ -139,3 +143,7 @@ IsWalk levels path unconverted = (answers : List Answer) × Lists levels path an
 -- how many levels of directories are read
 abbrev pub levels_read : ℕ
 levels_read = 64
+
+-- between two states of the site, the path was walked down to these levels, and this is the list
+abbrev pub IsWhollyWalked : List ℕ → Option (List Answer) → Option (List Answer) → List Unconverted → Type 0
+IsWhollyWalked path before after unconverted = IsWalked levels_read path before after [] unconverted

@@ -3,7 +3,7 @@ use Rattle.std.specs.Prelude.{◌≡◌, ◌≢◌, ℕ, List, None, Result, Ok,
 use Rattle.latex2mathml.specs.Conversions.{Conversion, document, IsConverted, IsRefusedAs}
 use Rattle.latex2mathml.specs.{Documents.IsAnswer, Streams.StreamState, Streams.HasEnded, declared.error.FileFault.FileFault}
 use Rattle.latex2mathml_grammar.specs.Dollars.{IsDollarFree}
-use Rattle.latex2mathml_tokens.specs.Refusal.{refusal_of}
+use Rattle.latex2mathml_tokens.specs.{Refusal.refusal_of, declared.error.LatexError.LatexError}
 use Rattle.latex2mathml.specs.declared.error.FileFault.TheVariants.{Read, NotText, Refused}
 use Rattle.latex2mathml.specs.declared.input.Reading.{Reading}
 use Rattle.latex2mathml.specs.declared.input.Reading.TheVariants.{Changed, Unchanged}
@@ -14,22 +14,21 @@ pub record IsWholeText (bytes : List ℕ) (state : StreamState) : Type 0 where
   pub is_ended : IsTrue state.ended
   pub is_text : IsUtf8 bytes
 
--- why no text was read
-abbrev pub IsReadFault : List ℕ → StreamState → FileFault → Type 0
-IsReadFault bytes state Read = IsTrue state.failed
-IsReadFault bytes state NotText = HasEnded state × (¬ IsUtf8 bytes)
--- memory was not found for it
-IsReadFault bytes state (Refused error) = IsFalse state.failed × (refusal_of error ≡ None)
-IsReadFault bytes state _ = ⊥
+-- the source failed, its bytes are no text, or there is an error of this kind
+abbrev pub IsFault : (LatexError → Type 0) → List ℕ → StreamState → FileFault → Type 0
+IsFault IsError bytes state Read = IsTrue state.failed
+IsFault IsError bytes state NotText = HasEnded state × (¬ IsUtf8 bytes)
+IsFault IsError bytes state (Refused error) = IsFalse state.failed × IsError error
+IsFault IsError bytes state _ = ⊥
 
--- why nothing was made of the bytes; where memory is wanting, that may stand in place of anything
+-- why no text was read; the error is that memory was not found
+abbrev pub IsReadFault : List ℕ → StreamState → FileFault → Type 0
+IsReadFault = IsFault (λ error. refusal_of error ≡ None)
+
+-- why nothing was made of the bytes; if memory runs out, it may be that in place of anything
 abbrev pub IsMissed : Conversion → List ℕ → StreamState → FileFault → Type 0
-IsMissed conversion bytes state Read = IsTrue state.failed
-IsMissed conversion bytes state NotText = HasEnded state × (¬ IsUtf8 bytes)
-IsMissed conversion bytes state (Refused error) =
-    IsFalse state.failed
-    × IfSome (refusal_of error) (λ refusal. IsWholeText bytes state × IsRefusedAs conversion bytes refusal)
-IsMissed conversion bytes state _ = ⊥
+IsMissed conversion bytes state =
+    IsFault (λ error. IfSome (refusal_of error) (λ refusal. IsWholeText bytes state × IsRefusedAs conversion bytes refusal)) bytes state
 
 -- the fault tells no refusal
 abbrev pub IsNoRefusal : FileFault → Type 0

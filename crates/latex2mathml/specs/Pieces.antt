@@ -34,6 +34,10 @@ pub record BeginsWithPiece (text : List ℕ) (piece : Piece) (rest : List ℕ) :
   pub split : piece_text piece ++ rest ≡ text
   pub longest : IsLongest piece rest
 
+-- .. where the piece is one of the code
+abbrev pub BeginsWith : List ℕ → code.Piece → List ℕ → Type 0
+BeginsWith text piece rest = BeginsWithPiece text (piece_of piece) rest
+
 -- a piece, or that the document has no cut
 abbrev pub Item : Type 0
 Item = Result code.Piece NoCut
@@ -41,7 +45,7 @@ Item = Result code.Piece NoCut
 -- what a call gives: the piece at the front; or that what is left has no cut, and then nothing is left; or the end
 abbrev pub GivesPiece : Pieces → Option Item → Pieces → Type 0
 GivesPiece before None after = (before.rest.now ≡ []) × (after.rest.now ≡ [])
-GivesPiece before (Some (Ok piece)) after = BeginsWithPiece before.rest.now (piece_of piece) after.rest.now
+GivesPiece before (Some (Ok piece)) after = BeginsWith before.rest.now piece after.rest.now
 GivesPiece before (Some (Err no_cut)) after = HasNoCut before.rest.now × (after.rest.now ≡ [])
 
 -- the pieces spell the document up to the rest, every cut of the document begins with them, and with them in front a

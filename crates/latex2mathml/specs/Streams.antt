@@ -31,6 +31,10 @@ HasEnded state = IsFalse state.failed × IsTrue state.ended
 abbrev pub Gives : StreamState → StreamState → List ℕ → Type 0
 Gives old new bytes = Consumes old.bytes new.bytes bytes
 
+-- .. and has ended
+abbrev pub GivesAll : StreamState → StreamState → List ℕ → Type 0
+GivesAll old new bytes = Gives old new bytes × HasEnded new
+
 -- between the two states the sink took these bytes
 abbrev pub Takes : StreamState → StreamState → List ℕ → Type 0
 Takes old new bytes = Appends old.bytes new.bytes bytes

@@ -1,6 +1,6 @@
 //! The pieces of a document: prose, and formulas between dollar signs.
 ghost use Rattle.std.specs.Prelude.{◌≡◌, ◌≢◌, ◌++◌, [], IfNone, IfSome, OnErr, OnOk};
-ghost use Rattle.latex2mathml.specs.Pieces.{BeginsWithPiece, EndsAt, EndsBefore, piece_of};
+ghost use Rattle.latex2mathml.specs.Pieces.{BeginsWith, EndsAt, EndsBefore};
 ghost use Rattle.latex2mathml_grammar.specs.Dollars.{IsDollarFree, dollar};
 ghost use Rattle.latex2mathml.specs.Documents.{HasCut, HasNoCut, IsPlain};
 
@@ -77,7 +77,7 @@ impl<'a> Iterator for Pieces<'a> {
 #[inline(always)]
 fn first_piece(text: &str) -> Option<(Piece<'_>, &str)>
     requires { text.now ≢ [] }
-    ensures piece { IfSome result (λ found. BeginsWithPiece text.now (piece_of found.0) found.1.now) }
+    ensures piece { IfSome result (λ found. BeginsWith text.now found.0 found.1.now) }
     ensures none { IfNone result (HasNoCut text.now) }
 {
     if let Some(inside) = text.strip_prefix("$$") {

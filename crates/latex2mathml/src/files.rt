@@ -1,6 +1,6 @@
 //! The documents under a path, converted in place.
 ghost use Rattle.std.specs.Prelude.{◌≡◌, ◌↔◌, ◌∷◌, ◌++◌, [], List, All, IfOk, IsTrue, OnOk, length, string_bytes};
-ghost use Rattle.latex2mathml.specs.Files.{IsDocumentPath, IsListed, IsWalk, IsWalked, entry_path, levels_read};
+ghost use Rattle.latex2mathml.specs.Files.{IsDocumentPath, IsListed, IsWalk, IsWalked, IsWhollyWalked, entry_path, levels_read};
 ghost use Rattle.latex2mathml.specs.declared.error.FileFault.TheVariants.{Entry};
 
 mod disk;
@@ -68,7 +68,7 @@ pub fn convert_site<S: Site>(
     path: &str,
 ) -> Result<Vec<Unconverted>, AllocError>
     ensures walked { IfOk result (λ unconverted.
-        IsWalked levels_read path.now (S.answers site.old) (S.answers site.new) [] unconverted.items) }
+        IsWhollyWalked path.now (S.answers site.old) (S.answers site.new) unconverted.items) }
 {
     let mut unconverted = Vec::new(alloc);
     walk(site, alloc, path, LEVELS, &mut unconverted)?;

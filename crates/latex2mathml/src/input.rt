@@ -1,7 +1,7 @@
 //! Texts and documents from sources.
 ghost use Rattle.std.specs.Prelude.{ℕ, List, IfErr, IfOk, IsTrue, MatchBool, string_bytes};
 ghost use Rattle.std.specs.Io.KnownBytes.{IsAtEnd};
-ghost use Rattle.latex2mathml.specs.{Inputs.IsReadFault, Inputs.IsReadingOf, Streams.CanGoOn, Streams.Gives, Streams.HasEnded};
+ghost use Rattle.latex2mathml.specs.{Inputs.IsReadFault, Inputs.IsReadingOf, Streams.CanGoOn, Streams.Gives, Streams.GivesAll};
 ghost use Rattle.latex2mathml_grammar.specs.Dollars.{IsDollarFree};
 
 use crate::error::FileFault;
@@ -73,7 +73,7 @@ fn holds_dollar(text: &str) -> bool
 pub fn read_text<S: Source>(alloc: Global, source: &mut S) -> Result<String, FileFault>
     requires { CanGoOn (S.state source.old) }
     ensures whole { IfOk result (λ text.
-        Gives (S.state source.old) (S.state source.new) (string_bytes text) × HasEnded (S.state source.new)) }
+        GivesAll (S.state source.old) (S.state source.new) (string_bytes text)) }
     ensures fault { IfErr result (λ fault. (bytes : List ℕ)
         × Gives (S.state source.old) (S.state source.new) bytes
         × IsReadFault bytes (S.state source.new) fault) }
@@ -89,7 +89,7 @@ pub fn read_text<S: Source>(alloc: Global, source: &mut S) -> Result<String, Fil
 fn read_whole<S: Source>(alloc: Global, source: &mut S) -> Result<Vec<u8>, FileFault>
     requires { CanGoOn (S.state source.old) }
     ensures whole { IfOk result (λ bytes.
-        Gives (S.state source.old) (S.state source.new) bytes.items × HasEnded (S.state source.new)) }
+        GivesAll (S.state source.old) (S.state source.new) bytes.items) }
     ensures fault { IfErr result (λ fault. (bytes : List ℕ)
         × Gives (S.state source.old) (S.state source.new) bytes
         × IsReadFault bytes (S.state source.new) fault) }

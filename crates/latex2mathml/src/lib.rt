@@ -8,10 +8,10 @@
 //! a `Result`, and [`latex_to_mathml_counted`] returns one beside the counts.
 #![tactic(auto)]
 
-ghost use Rattle.std.specs.Prelude.{◌≡◌, None, IfOk, MatchResult, string_bytes};
-ghost use Rattle.latex2mathml.specs.Documents.{IsAnswer, IsRefusal};
+ghost use Rattle.std.specs.Prelude.{IfOk, string_bytes};
+ghost use Rattle.latex2mathml.specs.{Conversions.IsKept, Documents.IsAnswer, Documents.IsRefusal};
 ghost use Rattle.latex2mathml_grammar.specs.Dollars.{IsDollarFree};
-ghost use Rattle.latex2mathml_tokens.specs.Refusal.{IfRefused, refusal_of};
+ghost use Rattle.latex2mathml_tokens.specs.Refusal.{IfRefused};
 
 pub mod ast;
 mod document;
@@ -51,8 +51,7 @@ pub fn replace(alloc: Global, input: &str) -> Result<String, LatexError>
 
     // An answer contains no dollar sign, and a document without one is its own answer, unless the call is out of memory.
     ensures dollar_free { IfOk result (λ answer. IsDollarFree (string_bytes answer)) }
-    ensures unchanged { IsDollarFree input.now →
-        MatchResult result (λ answer. string_bytes answer ≡ input.now) (λ error. refusal_of error ≡ None) }
+    ensures unchanged { IsDollarFree input.now → IsKept input.now result }
 {
     laws::renderings();
     document::convert::convert(alloc, input)

@@ -4,12 +4,12 @@ use Rattle.std.proofs.Math.{ListN.get_or, ListN.set, ListN.drop_of_length-le, Se
 use Rattle.std.specs.List.{swap}
 use Rattle.latex2mathml_elements.specs.{Attributes.plain, Element.Element, Element.token, Element.space, Element.rectangle, Element.container, Element.pair, Element.triple, Element.table}
 use Rattle.latex2mathml_builder.specs.Built.{Adjoin, AllFit, HasText, IsSound, between}
-use Rattle.latex2mathml_builder.specs.Names.{attributes_of, token_of}
+use Rattle.latex2mathml_attributes.specs.Names.{attributes_of, token_of}
 use Rattle.latex2mathml_builder.specs.Stacks.{are_tokens, joined, ordered, token_of_element}
-use Rattle.latex2mathml_builder.specs.declared.attributes.Attributes.{Attributes}
+use Rattle.latex2mathml_attributes.specs.declared.attributes.Attributes.{Attributes}
 use Rattle.latex2mathml_builder.specs.declared.part.Part.{Part}
 use Rattle.latex2mathml_builder.specs.declared.part.Part.TheVariants as part
-use Rattle.latex2mathml_builder.specs.declared.tag.Token.{Token}
+use Rattle.latex2mathml_attributes.specs.declared.tag.Token.{Token}
 use Rattle.latex2mathml_builder.proofs.{Below.swapped, Opens.split_at, Opens.stacked-append}
 use Rattle.latex2mathml_builder.proofs.Parts.{adjoin_replaced, adjoin_right, all_append, all_left, all_right, same_before}
 use Rattle.latex2mathml_builder.proofs.Sound.{element, elements}

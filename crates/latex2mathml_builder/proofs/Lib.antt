@@ -1,6 +1,4 @@
-pub mod Appended
 pub mod Below
-pub mod ColumnPlaces
 pub mod Joined
 pub mod Opens
 pub mod Parts

@@ -6,12 +6,12 @@ use Rattle.std.proofs.lemmas.List.{drop-append-le, take-append-le}
 use Rattle.std.proofs.Math.Seq.{take-length}
 use Rattle.latex2mathml_elements.specs.Attributes.{styled}
 use Rattle.latex2mathml_elements.specs.Element.{Element, token, container, children}
-use Rattle.latex2mathml_builder.specs.Arounds.{around_first}
+use Rattle.latex2mathml_builder.specs.Stacks.{around_first}
 use Rattle.latex2mathml_builder.specs.Built.{AllFit, Adjoin, EachFits, EndsAt, Fits, HasText, IsCut, Meets, between, element_of, is_token_part, settled_on}
-use Rattle.latex2mathml_builder.specs.Columns.{columns_of}
-use Rattle.latex2mathml_builder.specs.Names.{attributes_of, container_of, math_style_of, pair_of, token_of, triple_of}
+use Rattle.latex2mathml_attributes.specs.Columns.{columns_of}
+use Rattle.latex2mathml_attributes.specs.Names.{attributes_of, container_of, math_style_of, pair_of, token_of, triple_of}
 use Rattle.latex2mathml_builder.specs.Stacks.{pair_with, table_with, triple_with}
-use Rattle.latex2mathml_builder.specs.declared.{attributes.Attributes.Attributes, tag.Token.Token}
+use Rattle.latex2mathml_attributes.specs.declared.{attributes.Attributes.Attributes, tag.Token.Token}
 use Rattle.latex2mathml_builder.specs.declared.part.Part.{Part}
 use Rattle.latex2mathml_builder.specs.declared.part.Part.TheVariants as part
 

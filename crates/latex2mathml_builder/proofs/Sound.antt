@@ -6,12 +6,12 @@ use Rattle.std.specs.Str.{IsUtf8}
 use Rattle.latex2mathml_elements.specs.{Element.Element, Element.token}
 use Rattle.latex2mathml_elements.specs.Attributes as attributes
 use Rattle.latex2mathml_builder.specs.Built.{Adjoin, AllFit, EachFits, EndsAt, Fits, HasText, IsCut, IsSound, Meets, element_of, is_token_part, settled_on}
-use Rattle.latex2mathml_builder.specs.Names.{attributes_of, token_of}
+use Rattle.latex2mathml_attributes.specs.Names.{attributes_of, token_of}
 use Rattle.latex2mathml_builder.specs.Stacks.{given, is_token, lengthened, ordered, token_at, token_of_element, with_attributes}
-use Rattle.latex2mathml_builder.specs.declared.attributes.Attributes.{Attributes}
+use Rattle.latex2mathml_attributes.specs.declared.attributes.Attributes.{Attributes}
 use Rattle.latex2mathml_builder.specs.declared.part.Part.{Part}
 use Rattle.latex2mathml_builder.specs.declared.part.Part.TheVariants as part
-use Rattle.latex2mathml_builder.specs.declared.tag.Token.{Token}
+use Rattle.latex2mathml_attributes.specs.declared.tag.Token.{Token}
 use Rattle.latex2mathml_builder.proofs.Opens.{given_split, set_split, split_at, stacked, stacked-drop, stacked-length, stacked-push, stacked-split, stacked-take, token_at_split}
 use Rattle.latex2mathml_builder.proofs.Parts.{StartsAt, adjoin_cut, adjoin_last, adjoin_push, adjoin_replaced, all_append, all_left, all_more, all_right, between_more, cut_end, cut_kept, each_append, each_fits, each_more, elements_kept, same_before, settled_append, settled_block, settled_kept, settled_length}
 

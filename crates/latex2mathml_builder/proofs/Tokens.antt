@@ -1,10 +1,12 @@
 -- Parts that are no tokens are elements without a text of their own.
 use Rattle.std.proofs.Common.{◌≡◌, ℕ, Bool, true, false, List, [], ◌∷◌, None, option_map, refl}
 use Rattle.latex2mathml_elements.specs.{Attributes.Attributes, Attributes.styled, Columns.Columns, Element.Element, Element.Pair, Element.Triple}
-use Rattle.latex2mathml_builder.specs.declared.around.Around.{Around}
-use Rattle.latex2mathml_builder.specs.{Arounds.around_first, Columns.columns_of, Names.attributes_of, Names.math_style_of, Names.pair_of, Names.triple_of}
+use Rattle.latex2mathml_attributes.specs.declared.around.Around.{Around}
+use Rattle.latex2mathml_builder.specs.Stacks.{around_first}
+use Rattle.latex2mathml_attributes.specs.{Columns.columns_of, Names.attributes_of, Names.math_style_of, Names.pair_of, Names.triple_of}
 use Rattle.latex2mathml_builder.specs.Stacks.{pair_with, table_with, token_of_element, triple_with, with_attributes}
-use Rattle.latex2mathml_builder.specs.declared.{attributes.Attributes.Attributes as OwnAttributes, part.Part.Part, tag.Token.Token}
+use Rattle.latex2mathml_attributes.specs.declared.{attributes.Attributes.Attributes as OwnAttributes, tag.Token.Token}
+use Rattle.latex2mathml_builder.specs.declared.part.Part.{Part}
 use Rattle.latex2mathml_builder.specs.declared.part.Part.TheVariants as part
 use Rattle.latex2mathml_builder.proofs.Sound.{element}
 

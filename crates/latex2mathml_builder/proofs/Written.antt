@@ -5,7 +5,8 @@ use Rattle.latex2mathml_elements.specs.Attributes.{Attributes}
 use Rattle.latex2mathml_elements.specs.Element.{Pair, Triple, Element, children}
 use Rattle.latex2mathml_elements.specs.Print.{attributes_text, container_name, end_tag, pair_name, print, prints, start_tag, triple_name}
 use Rattle.latex2mathml_builder.specs.Due.{arranged, weight, weights}
-use Rattle.latex2mathml_builder.specs.{Arounds.around_attributes, Arounds.around_first, Arounds.around_name, declared.around.Around.Around}
+use Rattle.latex2mathml_attributes.specs.{Arounds.around_attributes, Arounds.around_name, declared.around.Around.Around}
+use Rattle.latex2mathml_builder.specs.Stacks.{around_first}
 use Rattle.latex2mathml_builder.specs.Stacks.{pair_with, triple_with}
 
 -- The children of an element

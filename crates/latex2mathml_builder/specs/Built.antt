@@ -3,8 +3,9 @@ use Rattle.std.specs.Prelude.{◌≡◌, ℕ, suc, ◌+◌, ◌-◌, ◌<◌, �
 use Rattle.std.specs.Str.{IsUtf8}
 use Rattle.latex2mathml_elements.specs.Attributes.{styled}
 use Rattle.latex2mathml_elements.specs.Element.{Element, token, space, rectangle, container, children}
-use Rattle.latex2mathml_builder.specs.{Arounds.around_first, Arounds.extent_of, Columns.columns_of}
-use Rattle.latex2mathml_builder.specs.Names.{attributes_of, container_of, math_style_of, pair_of, token_of, triple_of}
+use Rattle.latex2mathml_builder.specs.Stacks.{around_first}
+use Rattle.latex2mathml_attributes.specs.{Arounds.extent_of, Columns.columns_of}
+use Rattle.latex2mathml_attributes.specs.Names.{attributes_of, container_of, math_style_of, pair_of, token_of, triple_of}
 use Rattle.latex2mathml_builder.specs.Stacks.{pair_with, table_with, triple_with}
 use Rattle.latex2mathml_builder.specs.declared.part.Part.{Part}
 use Rattle.latex2mathml_builder.specs.declared.part.Part.TheVariants as part

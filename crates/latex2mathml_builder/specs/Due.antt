@@ -6,7 +6,7 @@ use Rattle.latex2mathml_elements.specs.Columns.{Columns, column_at}
 use Rattle.latex2mathml_elements.specs.Print.{cell_print, cells_print, prints, row_print}
 use Rattle.latex2mathml_elements.specs.Tables.{cells_in}
 use Rattle.latex2mathml_builder.specs.Built.{Built, settled_in}
-use Rattle.latex2mathml_builder.specs.Columns.{columns_of}
+use Rattle.latex2mathml_attributes.specs.Columns.{columns_of}
 use Rattle.latex2mathml_builder.specs.declared.works.Work.{Work}
 use Rattle.latex2mathml_builder.specs.declared.works.Work.TheVariants as work
 

@@ -4,6 +4,7 @@ use Rattle.latex2mathml_elements.specs.Attributes.{Attributes, plain}
 use Rattle.latex2mathml_elements.specs.Columns.{Columns}
 use Rattle.latex2mathml_elements.specs.Element.{Token, Pair, Triple, Element, token, space, pair, triple, table}
 use Rattle.latex2mathml_elements.specs.Tables.{rows_in}
+use Rattle.latex2mathml_attributes.specs.{Arounds.element_around, declared.around.Around.Around}
 
 -- whether the uppermost element holds a text
 abbrev pub is_token : List Element → Bool
@@ -54,6 +55,11 @@ given (suc depth) a (x ∷ xs) = x ∷ given depth a xs
 -- an element of two, of three, and of one or more; of fewer there is none, and this stands for it
 abbrev pub no_element : Element
 no_element = space (pos 0)
+
+-- an element around the uppermost one
+abbrev pub around_first : Around → List Element → Element
+around_first a [] = no_element
+around_first a (x ∷ xs) = element_around a x
 
 abbrev pub pair_with : Pair → Attributes → List Element → Element
 pair_with p a (x ∷ y ∷ xs) = pair p a x y

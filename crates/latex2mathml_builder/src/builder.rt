@@ -3,18 +3,19 @@ ghost use Rattle.std.specs.Prelude.{◌≡◌, ◌⊎◌, ◌+◌, ◌-◌, ◌<
 ghost use Rattle.std.specs.Char.{encode_utf8};
 ghost use Rattle.latex2mathml_elements.specs.{Attributes.plain, Attributes.styled, Element.Mrow};
 ghost use Rattle.latex2mathml_elements.specs.Element.{children, container, rectangle, space};
-ghost use Rattle.latex2mathml_builder.specs.Arounds.{around_first, extent_of};
+ghost use Rattle.latex2mathml_attributes.specs.Arounds.{extent_of};
+ghost use Rattle.latex2mathml_builder.specs.Stacks.{around_first};
 ghost use Rattle.latex2mathml_builder.specs.Built.{Fits, HasText, Puts, Replaces, between, element_in, element_of, elements_in, is_token_part, nothing, settled_in};
-ghost use Rattle.latex2mathml_builder.specs.Columns.{columns_of};
-ghost use Rattle.latex2mathml_builder.specs.Names.{attributes_of, container_of, element_with_text, math_style_of, pair_of, token_of, triple_of};
+ghost use Rattle.latex2mathml_attributes.specs.Columns.{columns_of};
+ghost use Rattle.latex2mathml_attributes.specs.Names.{attributes_of, container_of, element_with_text, math_style_of, pair_of, token_of, triple_of};
 ghost use Rattle.latex2mathml_builder.specs.Stacks.{are_tokens, given, is_token, joined, lengthened, ordered, pair_with, table_with, token_at, triple_with};
 
-use crate::around::Around;
-use crate::attributes::{Attributes, MathStyle};
-use crate::columns::Columns;
-use crate::extent::Extent;
 use crate::part::Part;
-use crate::tag::{Container, Pair, Token, Triple};
+use latex2mathml_attributes::around::Around;
+use latex2mathml_attributes::attributes::{Attributes, MathStyle};
+use latex2mathml_attributes::columns::Columns;
+use latex2mathml_attributes::extent::Extent;
+use latex2mathml_attributes::tag::{Container, Pair, Token, Triple};
 use std::alloc::{AllocError, Global};
 use std::marker::Model;
 

@@ -4,14 +4,9 @@
 //! stack: a new element is put on it, or is made of those on top.
 #![tactic(auto)]
 
-pub mod around;
-pub mod attributes;
 pub mod builder;
-pub mod columns;
-pub mod extent;
 mod part;
 mod rows;
-pub mod tag;
 #[cfg(test)]
 mod tests;
 pub mod works;

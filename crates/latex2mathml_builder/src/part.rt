@@ -1,10 +1,10 @@
 //! An element without its children.
 
-use crate::around::Around;
-use crate::attributes::{Attributes, MathStyle};
-use crate::columns::Columns;
-use crate::extent::Extent;
-use crate::tag::{Container, Pair, Token, Triple};
+use latex2mathml_attributes::around::Around;
+use latex2mathml_attributes::attributes::{Attributes, MathStyle};
+use latex2mathml_attributes::columns::Columns;
+use latex2mathml_attributes::extent::Extent;
+use latex2mathml_attributes::tag::{Container, Pair, Token, Triple};
 
 /// An element. Its text is a part of the builder's texts; its children stand side by side among the settled elements.
 #[derive(Clone, Copy)]

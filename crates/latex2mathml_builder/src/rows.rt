@@ -2,14 +2,14 @@
 ghost use Rattle.std.specs.Prelude.{◌≡◌, ◌+◌, ◌-◌, ◌<◌, ◌≤◌, ◌++◌, OnOk, codes, drop, length, string_bytes};
 ghost use Rattle.latex2mathml_elements.specs.Print.{cell_tag};
 ghost use Rattle.latex2mathml_builder.specs.Built.{settled_in};
-ghost use Rattle.latex2mathml_builder.specs.Columns.{column_of, columns_of};
+ghost use Rattle.latex2mathml_attributes.specs.Columns.{column_of, columns_of};
 ghost use Rattle.latex2mathml_builder.specs.Due.{AreIn, Writes, cell_loads, cell_prints, in_cells, load, row_loads, row_prints, settled_from};
 
 use crate::builder::Builder;
-use crate::columns::{Column, Columns};
 use crate::part::Part;
-use crate::tag::Container;
 use crate::works::Work;
+use latex2mathml_attributes::columns::{Column, Columns};
+use latex2mathml_attributes::tag::Container;
 use std::alloc::AllocError;
 
 impl Builder {

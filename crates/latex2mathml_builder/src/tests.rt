@@ -1,10 +1,12 @@
 //! Elements that are built and written.
 
-use crate::attributes::{Attributes, Form, MathStyle, Side, Size, Space, Stretch};
 use crate::builder::Builder;
-use crate::columns::{Column, Columns};
-use crate::tag::{Container, Pair, Token, Triple};
 use crate::works::Works;
+use latex2mathml_attributes::attributes::{
+    Attributes, Form, MathStyle, Side, Size, Space, Stretch,
+};
+use latex2mathml_attributes::columns::{Column, Columns};
+use latex2mathml_attributes::tag::{Container, Pair, Token, Triple};
 use std::test::Fail;
 
 #[test]

@@ -1,7 +1,7 @@
 //! What is still to be written.
 ghost use Rattle.std.specs.Prelude.{◌≡◌, []};
 
-use crate::columns::Columns;
+use latex2mathml_attributes::columns::Columns;
 use std::alloc::Global;
 use std::marker::Model;
 

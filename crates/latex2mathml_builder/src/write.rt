@@ -3,13 +3,13 @@ ghost use Rattle.std.specs.Prelude.{◌≡◌, ◌+◌, ◌<◌, ◌≤◌, ◌+
 ghost use Rattle.latex2mathml_elements.specs.Element.{children};
 ghost use Rattle.latex2mathml_elements.specs.Print.{attributes_text, print, prints};
 ghost use Rattle.latex2mathml_builder.specs.Built.{Fits, element_in, elements_in, uppermost};
-ghost use Rattle.latex2mathml_builder.specs.Names.{attributes_of};
+ghost use Rattle.latex2mathml_attributes.specs.Names.{attributes_of};
 ghost use Rattle.latex2mathml_builder.specs.Due.{AreIn, IsIn, Writes, arranged, due, load, settled_from, weight, weights, work_print, work_weight};
 
-use crate::attributes::Attributes;
 use crate::builder::Builder;
 use crate::part::Part;
 use crate::works::{Work, Works};
+use latex2mathml_attributes::attributes::Attributes;
 use latex2mathml_trees::append::{append_content, append_space};
 use std::alloc::AllocError;
 

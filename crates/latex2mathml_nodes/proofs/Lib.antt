@@ -1,5 +1,5 @@
-pub mod Chains
 pub mod Layers
 pub mod Members
 pub mod Prints
 pub mod Styles
+pub mod Weights

@@ -1,4 +1,3 @@
 pub mod Discreteness
-pub mod Held
 pub mod Layers
 pub mod Nodes

@@ -2,23 +2,19 @@
 ghost use Rattle.std.specs.Prelude.{◌≡◌, IfOk, map};
 ghost use Rattle.latex2mathml_nodes.specs.Nodes.{optional_tree, tree};
 
-mod dismantle;
 mod equality;
 mod layer;
 pub mod print;
 mod style;
 
-use crate::ast::dismantle::dismantle;
 use latex2mathml_tokens::DisplayStyle;
 use latex2mathml_tokens::attribute::{Accent, ColumnAlign, LineThickness, Variant};
 use std::alloc::{AllocError, Global};
 
 /// A part of a formula. Its `Display` prints the markup, and escapes texts and characters there.
 ///
-/// `Display`, copying, comparing and [`Node::set_variant`] recurse to the node's depth. Dropping is a loop that allocates
-/// nothing, at any depth. A `Node` has a `drop` of its own, so match on a reference to it: only its methods take it apart by
-/// value.
-#[derive(Debug)]
+/// `Display`, copying, comparing, dropping and [`Node::set_variant`] recurse to the node's depth.
+#[derive(Debug, Drop)]
 pub enum Node {
     Number(String),
     /// A letter, or any other character that stands for itself, and its style.
@@ -96,24 +92,6 @@ pub enum Node {
     Style(Option<DisplayStyle>, Box<Node>),
     /// The text of a token that has no meaning where it stands. It is marked as an error.
     Undefined(String),
-}
-
-impl Drop for Node {
-    #[inline]
-    fn drop(self) {
-        // A leaf needs no loop. Most nodes are leaves.
-        match self {
-            Node::Letter(_, _)
-            | Node::Operator(_)
-            | Node::Space(_)
-            | Node::OtherOperator(_)
-            | Node::SizedParen { size: _, paren: _ }
-            | Node::Ampersand
-            | Node::NewLine => {}
-            Node::Number(_) | Node::StrechedOp(_, _) | Node::Text(_) | Node::Undefined(_) => {}
-            node => dismantle(node),
-        }
-    }
 }
 
 impl Node {

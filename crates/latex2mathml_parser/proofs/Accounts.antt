@@ -31,7 +31,7 @@ refused_so (Ok x) h so = tt
 refused_so (Err error) h so = IfSome_then (refusal_of error) h so
 
 -- where a node is refused, all tokens before it were taken, and more
-pub refusal_count : {A : Type 0} (text : List ℕ) (r : Result A LatexError) {old new : Unread} {n : ℕ} → old.list ≡ token_list (slices_of false text) → old.tokens ≡ 0 → GoesOn old new → IfRefused r (IsRefusedWithin old.list new.list) → n ≡ new.tokens → IfRefused r (IsRefusalCount text n)
+pub refusal_count : {A : Type 0} (text : List ℕ) (r : Result A LatexError) {old new : Unread} {n : ℕ} → old.list ≡ token_list (slices_of false text) → old.tokens ≡ 0 → GoesOn old new → IfRefused r (IsRefusedWithin old new) → n ≡ new.tokens → IfRefused r (IsRefusalCount text n)
 refusal_count text r {old} {new} e none goes h same =
     refused_so r h (λ q d. (old.list, whole_list text old.list e, (d.0, d.1, d.2, omega (arith, goes.tokens, d.3))))
 

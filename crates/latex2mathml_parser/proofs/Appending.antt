@@ -1,14 +1,14 @@
 -- The nodes of a formula, read and printed one after another.
-use Rattle.std.proofs.Common.{◌≡◌, ℕ, ◌<◌, Option, List, [], ◌∷◌, ◌++◌, length, None, refl, sym, ap, subst, ◌∙◌, append_assoc, append-nil, codes}
+use Rattle.std.proofs.Common.{◌≡◌, ℕ, ◌<◌, List, [], ◌∷◌, ◌++◌, length, None, refl, sym, ap, subst, ◌∙◌, append_assoc, append-nil, codes}
 use Rattle.std.proofs.lemmas.Option.{IfSome_then}
 use Rattle.latex2mathml_grammar.specs.Counts.{ReadsNodes, none_read, one_more}
-use Rattle.latex2mathml_parser.specs.{Frames.inside, Levels.Made, Levels.RuleLeads, Marks.MarkStands, Steps.IsRefusedWithin, declared.parse.frames.Frame.Frame}
+use Rattle.latex2mathml_parser.specs.Claims.{math_opening}
+use Rattle.latex2mathml_parser.specs.{Frames.inside, Levels.Made, Levels.RuleLeads, Marks.MarkStands, Steps.IsRefusedBy, Steps.IsRefusedWithin, Unread.Unread, declared.parse.frames.Frame.Frame}
 use Rattle.latex2mathml_grammar.specs.Grammar.{core, first, gives, rule, node, Read, Refused, Reads, ReadsAll, formula_ends, member_read, later_refused, member_refused, ReadsFormula, Refuses}
 use Rattle.latex2mathml_grammar.specs.Rendering.{math_print}
 use Rattle.latex2mathml_trees.specs.{Print.print, Print.prints, Tree.Tree, Tree.trees_of}
 use Rattle.std.specs.Prelude.{IfSome}
-use Rattle.latex2mathml_tokens.specs.{Attributes.display_text, Refusal.Refusal, Refusal.refusal_of, declared.error.LatexError.LatexError, declared.DisplayStyle.DisplayStyle, Tok.Tok}
-use Rattle.latex2mathml_parser.specs.declared.reader.mark.Mark.{Mark}
+use Rattle.latex2mathml_tokens.specs.{Refusal.Refusal, Refusal.refusal_of, declared.error.LatexError.LatexError, declared.DisplayStyle.DisplayStyle, Tok.Tok}
 use Rattle.latex2mathml_parser.proofs.{Levels.lone_node, Stacks.token_begun}
 
 -- the prints of nodes that were read
@@ -37,7 +37,7 @@ all_read (one_more {x = x} are d) {xs} ds =
     (whole.0, whole.1, append_assoc (printed are) (print x) (prints (trees_of xs)) ∙ whole.2)
 
 -- all nodes stand between the tags of the element
-pub finished : {input place : List Tok} (display : DisplayStyle) (old : List ℕ) {new before after tag : List ℕ} → before ≡ old ++ tag → tag ≡ codes "<math xmlns=\"http://www.w3.org/1998/Math/MathML\" display=\"" ++ (display_text display ++ codes "\">") → place ≡ [] → Appends input place before after → new ≡ after ++ codes "</math>" → (xs : List Tree) × ReadsFormula input xs × (new ≡ old ++ math_print display xs)
+pub finished : {input place : List Tok} (display : DisplayStyle) (old : List ℕ) {new before after tag : List ℕ} → before ≡ old ++ tag → tag ≡ math_opening display → place ≡ [] → Appends input place before after → new ≡ after ++ codes "</math>" → (xs : List Tree) × ReadsFormula input xs × (new ≡ old ++ math_print display xs)
 unfolding ReadsFormula
 finished {place = place} display old opened is none so_far closed =
     let all = all_read so_far.are (subst (λ l. ReadsAll None l (Read [] [])) (sym none) formula_ends) in
@@ -54,14 +54,14 @@ one_refused {place = []} stands d = absurd cc
 one_refused {place = t ∷ ts} stands d = member_refused (λ e. cc) d
 
 -- the next node refuses, as the parser holds it
-pub formula_refused : {input place ts : List Tok} {t : Tok} {old new : List ℕ} {error held : LatexError} → error ≡ held → place ≡ t ∷ ts → IfSome (refusal_of held) (λ r. Reads node place (Refused r)) → Appends input place old new → IfSome (refusal_of error) (Refuses input)
+pub formula_refused : {input place ts : List Tok} {t : Tok} {old new : List ℕ} {error held : LatexError} → error ≡ held → place ≡ t ∷ ts → IsRefusedBy held place → Appends input place old new → IfSome (refusal_of error) (Refuses input)
 unfolding Refuses
 formula_refused {error} same stands d so_far =
     IfSome_then (refusal_of error) (rw same d) (λ r e. refused_behind so_far.are (one_refused stands e))
 
 -- .. and some of its tokens were taken
-pub within_node : {input place : List Tok} (left : List Tok) {old new : List ℕ} {error held : LatexError} → error ≡ held → IfSome (refusal_of held) (λ r. Reads node place (Refused r)) → Appends input place old new → length left < length place → IfSome (refusal_of error) (IsRefusedWithin input left)
-within_node {place = place} left {error = error} same d so_far less =
+pub within_node : (before left : Unread) {place : List Tok} {old new : List ℕ} {error held : LatexError} → error ≡ held → IsRefusedBy held place → Appends before.list place old new → length left.list < length place → IfSome (refusal_of error) (IsRefusedWithin before left)
+within_node before left {place = place} {error = error} same d so_far less =
     IfSome_then (refusal_of error) (rw same d) (λ r e. (place, so_far.are, e, less))
 
 -- The node that begins with a token.
@@ -71,7 +71,6 @@ pub node_begun : (input to : List Tok) (fs : List Frame) (ts : List Tree) (t : T
 node_begun input to fs ts t none same = rw none (token_begun input [] ts input to t tt same (λ o d. d))
 
 -- a token without parts, after which no mark stands
-pub leaf_read : (input place to : List Tok) (t : Tok) (x : Tree) (mark : Option Mark) → input ≡ t ∷ place → to ≡ place → rule t ≡ gives x → mark ≡ None → MarkStands mark (first place) → Reads node input (Read x to)
-leaf_read input place to t x mark same kept is none stands =
-    let no_mark = rw none at stands in
+pub leaf_read : (input place to : List Tok) (t : Tok) (x : Tree) → input ≡ t ∷ place → to ≡ place → rule t ≡ gives x → MarkStands None (first place) → Reads node input (Read x to)
+leaf_read input place to t x same kept is no_mark =
     rw kept (lone_node t x input place same is no_mark.0 no_mark.1 no_mark.2)

@@ -1,9 +1,9 @@
 -- What the parser's frames stand for: each is a rule that was begun, at the part that it waits for. A frame holds no tree:
 -- what was read of its rule are the first of the trees that stand beside it, the last that was read first. These words serve
 -- the contracts of the parser's functions.
-use Rattle.std.specs.Prelude.{ℕ, ◌+◌, ◌-◌, Bool, true, false, List, [], ◌∷◌, ◌++◌, drop, reverse, take}
+use Rattle.std.specs.Prelude.{◌≡◌, ℕ, ◌+◌, ◌-◌, Bool, true, false, List, [], ◌∷◌, ◌++◌, drop, reverse, take}
 use Rattle.latex2mathml_grammar.specs.Grammar.{Sort, core, single, node, operand, Rule, gives, reads_part, reads_sign, of_one, of_degree, with_second, under_slash, after_fence_members, stretched_or_refused, after_environment_members, Reads}
-use Rattle.latex2mathml_parser.specs.Levels.{Standing, awaits_part, awaits_members, Level, part, level_of_rule}
+use Rattle.latex2mathml_parser.specs.Levels.{Standing, awaits_part, awaits_members, due_at, Level, part, level_of_rule}
 use Rattle.latex2mathml_parser.specs.{Marks.sign_token, declared.parse.frames.Due.Due, declared.parse.frames.Frame.Frame}
 use Rattle.latex2mathml_trees.specs.{Productions.group_tree, Productions.stretched_operator, Style.styled}
 use Rattle.latex2mathml_trees.specs.Tree.{Tree, operator, subscript, superscript}
@@ -24,6 +24,10 @@ use Rattle.latex2mathml_parser.specs.declared.reader.mark.Sign.TheVariants.{Sub,
 abbrev pub script : Sign → Tree → Tree → Tree
 script Sub x y = subscript x y
 script Sup x y = superscript x y
+
+-- the last tree is the script of the one before it
+abbrev pub with_script : Sign → List Tree → List Tree
+with_script sign ts = script sign (top (drop 1 ts)) (top ts) ∷ drop 2 ts
 
 -- the end of a group
 abbrev pub end_of : Group → GroupEnd
@@ -95,15 +99,7 @@ sort_made f = core
 
 -- what the frame waits for
 abbrev pub awaits : Frame → Due
-awaits (frame.Members g n) = due.Member (end_of g)
-awaits (frame.Operand k) = due.Core
-awaits (frame.First k) = due.Core
-awaits (frame.Style v) = due.Core
-awaits (frame.Single p) = due.Single
-awaits (frame.Last k) = due.Single
-awaits frame.Slashed = due.Node
-awaits (frame.Stretch got) = due.Single
-awaits (frame.Script sign) = due.Node
+awaits f = due_at (standing_of f [])
 
 -- a script may follow what is due
 abbrev pub takes_script : Due → Bool
@@ -155,3 +151,11 @@ first_due (f ∷ fs) = awaits f
 -- what is due: what the innermost frame waits for, or a node of the formula
 abbrev pub innermost : List Frame → Due
 innermost fs = first_due (reverse fs)
+
+-- a stack with this frame on the others
+abbrev pub IsOn : Frame → List Frame → List Frame → Type 0
+IsOn f fs gs = gs ≡ fs ++ f ∷ []
+
+-- no frame is on a stack, before and after
+abbrev pub AreEmpty : List Frame → List Frame → Type 0
+AreEmpty fs gs = (fs ≡ []) × (gs ≡ [])

@@ -31,6 +31,11 @@ part_due core = due.Core
 part_due single = due.Single
 part_due node = due.Node
 
+-- what is due where a rule waits for this
+abbrev pub due_at : Standing → Due
+due_at (awaits_part s then) = part_due s
+due_at (awaits_members end then) = due.Member end
+
 -- a member of a group with this end begins here
 abbrev pub IsMember : GroupEnd → List Tok → Type 0
 IsMember end [] = ⊥

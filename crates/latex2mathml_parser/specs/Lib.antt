@@ -1,3 +1,4 @@
+pub mod Claims
 pub mod Frames
 pub mod Levels
 pub mod Lexing

@@ -1,15 +1,15 @@
 -- The steps of the parser: what holds between two of them, what is counted, and how much is left to do.
-use Rattle.std.specs.Prelude.{◌≡◌, Bool, true, false, ℕ, ◌+◌, ◌*◌, ◌<◌, ◌≤◌, List, [], ◌++◌, drop, length, sum_by, IfOk, IfSome, Result}
+use Rattle.std.specs.Prelude.{◌≡◌, Bool, true, false, ℕ, ◌+◌, ◌*◌, ◌<◌, ◌≤◌, List, [], drop, length, sum_by, IfOk, IfSome, Result}
 use Rattle.std.specs.declared.alloc.AllocError.{AllocError}
-use Rattle.latex2mathml_parser.specs.Frames.{tree_count, innermost, inside, sort_made, standing_of}
+use Rattle.latex2mathml_parser.specs.Frames.{awaits, tree_count, innermost, inside, sort_made, standing_of}
 use Rattle.latex2mathml_grammar.specs.Counts.{ReadsNodes}
 use Rattle.latex2mathml_grammar.specs.Grammar.{core, gives, node, Outcome, Read, Reads, Refused, Rule}
 use Rattle.latex2mathml_parser.specs.Levels.{Leads, Level, Made, RuleLeads, Accepts, remaining}
 use Rattle.latex2mathml_grammar.specs.Openers.{opens}
-use Rattle.latex2mathml_parser.specs.{Unread.GoesOn, Unread.OpensFor, declared.parse.Parser.Parser}
-use Rattle.latex2mathml_trees.specs.{Print.print, Tree.Tree}
+use Rattle.latex2mathml_parser.specs.{Unread.GoesOn, Unread.OpensFor, Unread.Unread, declared.parse.Parser.Parser}
+use Rattle.latex2mathml_trees.specs.{Tree.Tree}
 use Rattle.latex2mathml_parts.specs.{Forests.trees_in, Parts.top}
-use Rattle.latex2mathml_tokens.specs.{Lexemes.lexeme_tok, Refusal.Refusal, Refusal.refusal_of, Tok.Tok, declared.lexeme.Lexeme.Lexeme}
+use Rattle.latex2mathml_tokens.specs.{Lexemes.lexeme_tok, Refusal.Refusal, Refusal.refusal_of, Tok.Tok, declared.error.LatexError.LatexError, declared.lexeme.Lexeme.Lexeme}
 use Rattle.latex2mathml_tokens.specs.declared.lexeme.Lexeme.TheVariants as lexeme
 use Rattle.latex2mathml_parser.specs.{declared.parse.State.State, declared.parse.frames.Due.Due, declared.parse.frames.Frame.Frame}
 use Rattle.latex2mathml_parser.specs.declared.parse.State.TheVariants as state
@@ -20,9 +20,12 @@ use Rattle.latex2mathml_parser.specs.declared.parse.frames.Frame.TheVariants as 
 abbrev pub level : ℕ → List Tok → Parser → Level
 level n input p = inside input p.frames.stack.items (drop n (trees_in p.parts))
 
+abbrev pub last_tree : Parser → Tree
+last_tree p = top (trees_in p.parts)
+
 -- the last tree is read, down to the tokens that are left
 abbrev pub last_tree_read : Parser → Outcome Tree
-last_tree_read p = Read (top (trees_in p.parts)) p.reader.list
+last_tree_read p = Read (last_tree p) p.reader.list
 
 -- whatever the rest of a core's rule comes to, it leads on; without the last n trees
 abbrev pub GoesOnBy : Rule → ℕ → List Tok → Parser → Type 0
@@ -36,13 +39,17 @@ GoesOnIn f input p = RuleLeads (remaining (standing_of f (trees_in p.parts))) (M
 abbrev pub Ends : List Tok → Parser → Type 0
 Ends input p = (p.frames.stack.items ≡ []) × Reads node input (last_tree_read p)
 
+-- the node of the formula is refused by this error
+abbrev pub IsRefusedBy : LatexError → List Tok → Type 0
+IsRefusedBy error input = IfSome (refusal_of error) (λ r. Reads node input (Refused r))
+
 -- what holds between two steps, where these tokens were left before the node of the formula
 abbrev pub Holds : List Tok → Parser → State → Type 0
 Holds input p state.Next = Leads (level 0 input p) p.reader.list
-Holds input p state.Core = GoesOnBy (gives (top (trees_in p.parts))) 1 input p
+Holds input p state.Core = GoesOnBy (gives (last_tree p)) 1 input p
 Holds input p state.Part = Accepts (level 1 input p) (last_tree_read p)
 Holds input p state.End = Ends input p
-Holds input p state.Refused = IfSome (refusal_of p.refusal) (λ r. Reads node input (Refused r))
+Holds input p state.Refused = IsRefusedBy p.refusal input
 
 -- the last state: the node is read, or the formula is refused
 abbrev pub last_state : Bool → State
@@ -79,9 +86,20 @@ state_weight state.Part d = 3
 state_weight state.End d = 0
 state_weight state.Refused d = 0
 
+-- what is due
+abbrev pub due_in : Parser → Due
+due_in p = innermost p.frames.stack.items
+
+abbrev pub weight_of : State → Parser → ℕ
+weight_of s p = state_weight s (due_in p)
+
+-- how much a frame that is put back brings, with the part that it waits for
+abbrev pub weight_put_back : Frame → ℕ
+weight_put_back f = frame_weight f + state_weight state.Next (awaits f) + 1
+
 -- how much is left to do: it falls with every step
 abbrev pub work : Parser → State → ℕ
-work p s = to_do p + state_weight s (innermost p.frames.stack.items)
+work p s = to_do p + weight_of s p
 
 -- The counts went on, whatever the answer is. For the tokens that were taken, and n more, at most one frame each was opened.
 pub record Counted (n : ℕ) (old new : Parser) : Type 0 where
@@ -110,13 +128,7 @@ pub record IsStretched (old new : Parser) (got : Lexeme) : Type 0 where
       × OpensFor old.reader new.reader (old.frames.greatest + 1) (new.frames.greatest + opens (lexeme_tok got))
   pub falls : to_do new ≤ to_do old + 2
 
--- a node is refused that stands after others, and of its tokens some were taken: these are left
-abbrev pub IsRefusedWithin : List Tok → List Tok → Refusal → Type 0
-IsRefusedWithin ts left r = (place : List Tok) × ReadsNodes ts place × Reads node place (Refused r) × (length left < length place)
-
--- No rule is begun any more: a node of these tokens was read, down to those that are left, and its print stands after what
--- was there. Or the formula is refused.
-abbrev pub IsAppended : List Tok → Parser → List ℕ → List ℕ → Bool → Type 0
-IsAppended input p old new true =
-    (p.frames.stack.items ≡ []) × ((x : Tree) × Reads node input (Read x p.reader.list) × (new ≡ old ++ print x))
-IsAppended input p old new false = Holds input p state.Refused
+-- a node is refused that stands after others, and some of its tokens were taken
+abbrev pub IsRefusedWithin : Unread → Unread → Refusal → Type 0
+IsRefusedWithin old new r =
+    (place : List Tok) × ReadsNodes old.list place × Reads node place (Refused r) × (length new.list < length place)

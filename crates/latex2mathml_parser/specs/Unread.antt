@@ -1,7 +1,8 @@
 -- What is left of a text that is taken token by token, and what was counted so far.
-use Rattle.std.specs.Prelude.{◌≡◌, ℕ, ◌+◌, ◌*◌, ◌≤◌, List, [], drop, map, length}
-use Rattle.latex2mathml_grammar.specs.{Counts.backslashes, Grammar.first_or_end, Openers.openers, Spelling.Slice}
-use Rattle.latex2mathml_parser.specs.Marks.{rest_of}
+use Rattle.std.specs.Str.{chars}
+use Rattle.std.specs.Prelude.{◌≡◌, false, ℕ, ◌+◌, ◌*◌, ◌≤◌, List, [], drop, map, length}
+use Rattle.latex2mathml_grammar.specs.{Counts.backslashes, Cutting.slices_of, Grammar.first_or_end, Openers.openers, Spelling.Slice}
+use Rattle.latex2mathml_parser.specs.Marks.{NameStands, rest_of}
 use Rattle.latex2mathml_tokens.specs.Tok.{Tok, EOF}
 
 -- the slices that are left and their tokens, how many tokens were taken, how many of the slices that are left begin with a
@@ -25,6 +26,14 @@ unread_in slices tokens comparisons = record {
   backslashes = backslashes slices;
   comparisons = comparisons;
 }
+
+-- the slices of a whole text
+abbrev pub slices_in : List ℕ → List Slice
+slices_in text = slices_of false (chars text)
+
+-- a name of these bytes was taken
+abbrev pub TakesName : List ℕ → Unread → Unread → Type 0
+TakesName bytes old new = NameStands bytes old.list new.list
 
 -- of these slices, the first ones were taken, as many as tokens, and the others are left
 abbrev pub IsLeftOf : List Slice → Unread → Type 0

@@ -1,13 +1,18 @@
 //! From a formula to its markup.
-ghost use Rattle.std.specs.Prelude.{◌≡◌, ℕ, ◌∷◌, ◌++◌, [], IfOk, List, OnOk, codes, string_bytes};
+ghost use Rattle.std.specs.Prelude.{◌≡◌, ℕ, ◌∷◌, ◌++◌, [], IfOk, IfSome, List, OnOk, string_bytes};
 ghost use Rattle.latex2mathml_grammar.specs.{Grammar.ReadsFormula, Grammar.Refuses, Openers.opens};
 ghost use Rattle.latex2mathml_grammar.specs.Rendering.{IsFormulaRefusal, IsRendering, math_print};
-ghost use Rattle.latex2mathml_parser.specs.Steps.{Counted, HasTrees, Holds, IsAppended, IsRefusedWithin, StacksWithin, trees_of_state};
-ghost use Rattle.latex2mathml_tokens.specs.{Attributes.display_text, Lexemes.lexeme_tok, Refusal.IfRefused, Tok.Tok};
+ghost use Rattle.latex2mathml_parser.specs.Claims.{IsAppended, IsLoneLeaf, IsMathOf, math_opening};
+ghost use Rattle.latex2mathml_parser.specs.Steps.{Counted, HasTrees, Holds};
+ghost use Rattle.latex2mathml_parser.specs.Steps.{IsRefusedWithin, StacksWithin, trees_of_state};
+ghost use Rattle.latex2mathml_parser.specs.Unread.{GoesOn};
+ghost use Rattle.latex2mathml_tokens.specs.{Lexemes.lexeme_tok, Refusal.IfRefused, Tok.Tok};
 ghost use Rattle.latex2mathml_trees.specs.Tree.{Tree};
 
 use crate::parse::begin::symbol;
 use crate::parse::{Parser, State};
+use crate::reader::Reader;
+use latex2mathml_parts::kind::Kind;
 use latex2mathml_parts::write::write_leaf;
 use latex2mathml_tokens::lexeme::Lexeme;
 use latex2mathml_tokens::{DisplayStyle, LatexError};
@@ -28,7 +33,7 @@ pub(crate) fn append_math(
     ensures rendering { OnOk result ((xs : List Tree) × ReadsFormula parser.old.reader.list xs
         × (string_bytes markup.new ≡ string_bytes markup.old ++ math_print display xs)) }
     ensures refused { IfRefused result (Refuses parser.old.reader.list) }
-    ensures within { IfRefused result (IsRefusedWithin parser.old.reader.list parser.new.reader.list) }
+    ensures within { IfRefused result (IsRefusedWithin parser.old.reader parser.new.reader) }
     ensures all { OnOk result (parser.new.reader.list ≡ []) }
     ensures counted { Counted 0 parser.old parser.new }
     ensures stack { StacksWithin parser.old parser.new }
@@ -51,10 +56,9 @@ pub(crate) fn append_math(
 /// Returns the `math` element of the tokens that are left.
 pub(crate) fn math(parser: &mut Parser, display: DisplayStyle) -> Result<String, LatexError>
     requires { parser.old.frames.stack.items ≡ [] }
-    ensures rendering { IfOk result (λ markup. (xs : List Tree) × ReadsFormula parser.old.reader.list xs
-        × (string_bytes markup ≡ math_print display xs)) }
+    ensures rendering { IfOk result (λ markup. IsMathOf parser.old display (string_bytes markup)) }
     ensures refused { IfRefused result (Refuses parser.old.reader.list) }
-    ensures within { IfRefused result (IsRefusedWithin parser.old.reader.list parser.new.reader.list) }
+    ensures within { IfRefused result (IsRefusedWithin parser.old.reader parser.new.reader) }
     ensures all { OnOk result (parser.new.reader.list ≡ []) }
     ensures counted { Counted 0 parser.old parser.new }
 {
@@ -65,7 +69,7 @@ pub(crate) fn math(parser: &mut Parser, display: DisplayStyle) -> Result<String,
 
 /// The tag that opens the `math` element.
 fn opening_tag(display: DisplayStyle) -> &'static str
-    ensures { result.now ≡ codes "<math xmlns=\"http://www.w3.org/1998/Math/MathML\" display=\"" ++ (display_text display ++ codes "\">") }
+    ensures { result.now ≡ math_opening display }
 {
     match display {
         DisplayStyle::Block =>
@@ -85,25 +89,30 @@ fn append_node<'a>(
 ) -> Result<bool, AllocError>
     requires { parser.old.frames.stack.items ≡ [] }
     ensures node { (input : List Tok) → input ≡ lexeme_tok lexeme.entry ∷ parser.old.reader.list
-        → IfOk result (IsAppended input parser.new (string_bytes markup.old) (string_bytes markup.new)) }
+        → IfOk result (IsAppended input parser.new markup.old markup.new) }
     ensures counted { Counted (opens (lexeme_tok lexeme.entry)) parser.old parser.new }
 {
-    let Some(leaf) = symbol(lexeme) else {
-        parser.parts.make_room(&mut parser.works)?;
-        let state = parser.begin(lexeme)?;
-        return append_rest(parser, state, markup);
-    };
-    match parser.reader.mark() {
-        // Most nodes are one such lexeme that no mark follows. These need no part.
-        None => {
-            write_leaf(leaf, markup)?;
-            Ok(true)
-        }
-        Some(_) => {
-            parser.parts.make_room(&mut parser.works)?;
-            let state = parser.put(leaf)?;
-            append_rest(parser, state, markup)
-        }
+    // Most nodes are one such lexeme. These need no part.
+    if let Some(leaf) = lone_leaf(&mut parser.reader, lexeme) {
+        write_leaf(leaf, markup)?;
+        return Ok(true);
+    }
+    parser.parts.make_room(&mut parser.works)?;
+    let state = parser.begin_any(lexeme)?;
+    append_rest(parser, state, markup)
+}
+
+/// The part of a lexeme, which was taken, if it is a node by itself: it has no operands, and no mark follows it.
+#[inline(always)]
+fn lone_leaf<'a>(reader: &mut Reader<'a>, lexeme: Lexeme<'a>) -> Option<Kind<'a>>
+    ensures leaf { IfSome result (IsLoneLeaf lexeme.entry reader.old.list) }
+    ensures list { reader.new.list ≡ reader.old.list }
+    ensures counts { GoesOn reader.old reader.new }
+{
+    let leaf = symbol(lexeme)?;
+    match reader.mark() {
+        None => Some(leaf),
+        Some(_) => None,
     }
 }
 
@@ -111,7 +120,7 @@ fn append_node<'a>(
 fn append_rest(parser: &mut Parser, begun: State, markup: &mut String) -> Result<bool, AllocError>
     requires { HasTrees (trees_of_state begun) parser.old }
     ensures node { (input : List Tok) → Holds input parser.old begun
-        → IfOk result (IsAppended input parser.new (string_bytes markup.old) (string_bytes markup.new)) }
+        → IfOk result (IsAppended input parser.new markup.old markup.new) }
     ensures counted { Counted 0 parser.old parser.new }
 {
     let is_read = parser.finish(begun)?;

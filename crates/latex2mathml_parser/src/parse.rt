@@ -1,13 +1,14 @@
 //! Lexemes to parts: one loop over a stack of frames. Each step is proved to lead to what the grammar says about the
 //! tokens that were left before it.
-ghost use Rattle.std.specs.Prelude.{◌≡◌, ◌≢◌, ◌+◌, ◌<◌, [], false, IfOk, IfSome, List, vec_len};
-ghost use Rattle.std.specs.Str.{chars};
-ghost use Rattle.latex2mathml_grammar.specs.{Counts.backslashes, Cutting.slices_of};
-ghost use Rattle.latex2mathml_parser.specs.Frames.{awaits, innermost, tree_count, unfit};
-ghost use Rattle.latex2mathml_grammar.specs.Grammar.{Reads, Refused, node as a_node};
-ghost use Rattle.latex2mathml_parser.specs.{Levels.Leads, Unread.token_list};
-ghost use Rattle.latex2mathml_parser.specs.Steps.{Counted, GoesOnIn, HasTrees, Holds, IsStep, StacksWithin, last_state, level, trees_of_state, state_weight, frame_weight};
-ghost use Rattle.latex2mathml_tokens.specs.{Lexemes.lexeme_tok, Refusal.MissingParensethis, Refusal.refusal_of, Tok.Tok, Tok.tok};
+ghost use Rattle.std.specs.Prelude.{◌≡◌, ◌≢◌, ◌+◌, ◌<◌, [], IfOk, List, vec_len};
+ghost use Rattle.latex2mathml_grammar.specs.{Counts.backslashes};
+ghost use Rattle.latex2mathml_parser.specs.Frames.{tree_count, unfit};
+ghost use Rattle.latex2mathml_parser.specs.{Unread.slices_in, Unread.token_list};
+ghost use Rattle.latex2mathml_parser.specs.Claims.{Enters, Finishes, Keeps, LacksFence};
+ghost use Rattle.latex2mathml_parser.specs.Steps.{Counted, HasTrees, Holds, IsRefusedBy, IsStep, StacksWithin};
+ghost use Rattle.latex2mathml_parser.specs.Steps.{frame_weight, last_state, trees_of_state};
+ghost use Rattle.latex2mathml_parser.specs.Steps.{weight_of, weight_put_back};
+ghost use Rattle.latex2mathml_tokens.specs.{Tok.Tok};
 
 pub(crate) mod begin;
 mod deliver;
@@ -56,10 +57,10 @@ pub(crate) struct Parser<'a> {
 impl<'a> Parser<'a> {
     /// A parser that has read nothing.
     pub(crate) fn new(alloc: Global, text: &'a str) -> Parser<'a>
-        ensures slices { result.reader.slices ≡ slices_of false (chars text.now) }
-        ensures list { result.reader.list ≡ token_list (slices_of false (chars text.now)) }
+        ensures slices { result.reader.slices ≡ slices_in text.now }
+        ensures list { result.reader.list ≡ token_list (slices_in text.now) }
         ensures tokens { result.reader.tokens ≡ 0 }
-        ensures backslashes { result.reader.backslashes ≡ backslashes (slices_of false (chars text.now)) }
+        ensures backslashes { result.reader.backslashes ≡ backslashes (slices_in text.now) }
         ensures comparisons { result.reader.comparisons ≡ 0 }
         ensures closed { result.frames.stack.items ≡ [] }
         ensures greatest { result.frames.greatest ≡ 0 }
@@ -76,7 +77,7 @@ impl<'a> Parser<'a> {
 
     /// Begins anew with a text. The lists keep their room.
     pub(crate) fn restart(&mut self, text: &'a str)
-        ensures list { self.new.reader.list ≡ token_list (slices_of false (chars text.now)) }
+        ensures list { self.new.reader.list ≡ token_list (slices_in text.now) }
         ensures closed { self.new.frames.stack.items ≡ [] }
     {
         self.reader = Reader::new(text);
@@ -90,7 +91,7 @@ impl<'a> Parser<'a> {
     #[tactic(auto, using(crate::proofs::Stepping::counted_none, crate::proofs::Stepping::stacks_within))]
     pub(crate) fn finish(&mut self, begun: State) -> Result<bool, AllocError>
         requires { HasTrees (trees_of_state begun) self.old }
-        ensures node { (input : List Tok) → Holds input self.old begun → IfOk result (λ read. Holds input self.new (last_state read)) }
+        ensures node { Finishes begun self.old self.new result }
         ensures tree { IfOk result (λ read. HasTrees (trees_of_state (last_state read)) self.new) }
         ensures counted { Counted 0 self.old self.new }
         ensures stack { StacksWithin self.old self.new }
@@ -119,8 +120,8 @@ impl<'a> Parser<'a> {
     fn step(&mut self, state: State) -> Result<State, AllocError>
         requires going_on { (state ≢ State.End) × (state ≢ State.Refused) }
         requires trees { HasTrees (trees_of_state state) self.old }
-        ensures holds { (input : List Tok) → Holds input self.old state → IfOk result (Holds input self.new) }
-        ensures step { IsStep 0 (state_weight state (innermost self.old.frames.stack.items)) self.old self.new result }
+        ensures holds { Keeps state self.old self.new result }
+        ensures step { IsStep 0 (weight_of state self.old) self.old self.new result }
         ensures stack { StacksWithin self.old self.new }
     {
         match state {
@@ -134,8 +135,8 @@ impl<'a> Parser<'a> {
     /// Reads what is due, or ends the innermost group.
     fn next(&mut self) -> Result<State, AllocError>
         requires { HasTrees 0 self.old }
-        ensures holds { (input : List Tok) → Holds input self.old State.Next → IfOk result (Holds input self.new) }
-        ensures step { IsStep 0 (state_weight State.Next (innermost self.old.frames.stack.items)) self.old self.new result }
+        ensures holds { Keeps State.Next self.old self.new result }
+        ensures step { IsStep 0 (weight_of State.Next self.old) self.old self.new result }
     {
         let lexeme = self.reader.take();
         if let Lexeme::EOF = lexeme {
@@ -151,9 +152,8 @@ impl<'a> Parser<'a> {
     #[tactic(auto, using(crate::proofs::Stacks::group_open, crate::proofs::Stacks::nothing_begun))]
     fn at_end(&mut self) -> Result<State, AllocError>
         requires { HasTrees 0 self.old }
-        ensures holds { (input : List Tok) → Leads (level 0 input self.old) [] → self.old.reader.list ≡ []
-            → IfOk result (Holds input self.new) }
-        ensures step { IsStep 0 (state_weight State.Next (innermost self.old.frames.stack.items)) self.old self.new result }
+        ensures holds { self.old.reader.list ≡ [] → Keeps State.Next self.old self.new result }
+        ensures step { IsStep 0 (weight_of State.Next self.old) self.old self.new result }
     {
         if let Due::Member(end) = self.frames.due() {
             return Ok(self.refuse(LatexError::UnexpectedToken {
@@ -169,7 +169,7 @@ impl<'a> Parser<'a> {
     fn refuse(&mut self, error: LatexError) -> State
         ensures state { result ≡ State.Refused }
         ensures refusal { self.new ≡ record self.old { refusal = error } }
-        ensures holds { (input : List Tok) → IfSome (refusal_of error) (λ r. Reads a_node input (Refused r)) → Holds input self.new result }
+        ensures holds { (input : List Tok) → IsRefusedBy error input → Holds input self.new result }
     {
         self.refusal = error;
         State::Refused
@@ -179,8 +179,7 @@ impl<'a> Parser<'a> {
     #[cold]
     fn refuse_fence(&mut self, location: Token, got: Lexeme) -> Result<State, AllocError>
         requires { HasTrees 0 self.old }
-        ensures holds { (input : List Tok)
-            → Reads a_node input (Refused (MissingParensethis (tok location) (lexeme_tok got.entry)))
+        ensures holds { (input : List Tok) → LacksFence location got.entry input
             → IfOk result (Holds input self.new) }
         ensures step { IsStep 0 1 self.old self.new result }
     {
@@ -193,7 +192,7 @@ impl<'a> Parser<'a> {
     fn open(&mut self, frame: Frame<'a>) -> Result<State, AllocError>
         requires fit { unfit frame ≡ 0 }
         requires trees { HasTrees (tree_count frame) self.old }
-        ensures holds { (input : List Tok) → GoesOnIn frame.entry input self.old → IfOk result (Holds input self.new) }
+        ensures holds { Enters frame.entry self.old self.new result }
         ensures step { IsStep 1 (frame_weight frame.entry + 6) self.old self.new result }
     {
         self.frames.open(frame)?;
@@ -206,8 +205,8 @@ impl<'a> Parser<'a> {
         requires fit { unfit frame ≡ 0 }
         requires trees { HasTrees (tree_count frame) self.old }
         requires room { vec_len self.old.frames.stack < self.old.frames.greatest }
-        ensures holds { (input : List Tok) → GoesOnIn frame.entry input self.old → IfOk result (Holds input self.new) }
-        ensures step { IsStep 0 (frame_weight frame.entry + state_weight State.Next (awaits frame.entry) + 1) self.old self.new result }
+        ensures holds { Enters frame.entry self.old self.new result }
+        ensures step { IsStep 0 (weight_put_back frame.entry) self.old self.new result }
     {
         self.frames.put_back(frame)?;
         Ok(State::Next)

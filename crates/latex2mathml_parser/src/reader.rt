@@ -1,10 +1,9 @@
 //! The lexemes of a text, taken one at a time. White space in front of a lexeme is skipped where the lexeme is taken or
 //! looked for.
-ghost use Rattle.std.specs.Prelude.{◌≡◌, ◌≢◌, ◌∷◌, ℕ, false, List, IfOk, MatchBool, Some, codes, string_bytes};
-ghost use Rattle.std.specs.Str.{chars};
-ghost use Rattle.latex2mathml_grammar.specs.{Counts.backslashes, Cutting.slices_of, Grammar.first};
-ghost use Rattle.latex2mathml_parser.specs.Marks.{IsSeen, MarkStands, NameStands, rest_of, sign_token};
-ghost use Rattle.latex2mathml_parser.specs.Unread.{GoesOn, OpensFor, Takes, token_list};
+ghost use Rattle.std.specs.Prelude.{◌≡◌, ◌≢◌, ◌∷◌, ℕ, List, IfOk, MatchBool, Some, codes, string_bytes};
+ghost use Rattle.latex2mathml_grammar.specs.{Counts.backslashes, Grammar.first};
+ghost use Rattle.latex2mathml_parser.specs.Marks.{IsSeen, MarkStands, rest_of, sign_token};
+ghost use Rattle.latex2mathml_parser.specs.Unread.{GoesOn, OpensFor, Takes, TakesName, slices_in, token_list};
 ghost use Rattle.latex2mathml_tokens.specs.{Lexemes.lexeme_tok, Tok.Paren};
 
 pub(crate) mod characters;
@@ -45,10 +44,10 @@ impl<'a> Model for Reader<'a> {
 impl<'a> Reader<'a> {
     /// All of a text.
     pub(crate) fn new(text: &'a str) -> Reader<'a>
-        ensures slices { result.slices ≡ slices_of false (chars text.now) }
-        ensures list { result.list ≡ token_list (slices_of false (chars text.now)) }
+        ensures slices { result.slices ≡ slices_in text.now }
+        ensures list { result.list ≡ token_list (slices_in text.now) }
         ensures tokens { result.tokens ≡ 0 }
-        ensures backslashes { result.backslashes ≡ backslashes (slices_of false (chars text.now)) }
+        ensures backslashes { result.backslashes ≡ backslashes (slices_in text.now) }
         ensures comparisons { result.comparisons ≡ 0 }
     {
         Reader {
@@ -158,7 +157,7 @@ impl<'a> Reader<'a> {
 
     /// Takes a name: any token, letters, and any token.
     pub(crate) fn name(&mut self, alloc: Global) -> Result<String, AllocError>
-        ensures name { IfOk result (λ name. NameStands (string_bytes name) self.old.list self.new.list) }
+        ensures name { IfOk result (λ name. TakesName (string_bytes name) self.old self.new) }
         ensures counts { GoesOn self.old self.new }
         ensures fewer { OpensFor self.old self.new 0 0 }
     {
@@ -172,7 +171,7 @@ impl<'a> Reader<'a> {
 
     /// Skips a name.
     pub(crate) fn skip_name(&mut self)
-        ensures name { (bytes : List ℕ) × NameStands bytes self.old.list self.new.list }
+        ensures name { (bytes : List ℕ) × TakesName bytes self.old self.new }
         ensures counts { GoesOn self.old self.new }
         ensures fewer { OpensFor self.old self.new 0 0 }
     {

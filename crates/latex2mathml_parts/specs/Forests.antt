@@ -1,8 +1,8 @@
 -- The list of the parts as trees.
-use Rattle.std.specs.Prelude.{◌≡◌, ℕ, ◌+◌, ◌-◌, ◌<◌, ◌≤◌, List, [], ◌∷◌, drop, length, map, slice_index_or, string_bytes, take, String}
+use Rattle.std.specs.Prelude.{◌≡◌, ℕ, ◌+◌, ◌-◌, ◌<◌, ◌≤◌, List, [], ◌∷◌, drop, length, map, reverse, slice_index_or, string_bytes, take, String}
 use Rattle.std.specs.declared.alloc.Global.{Global}
 use Rattle.latex2mathml_trees.specs.Tree.{Tree}
-use Rattle.latex2mathml_parts.specs.{Forms.HasText, Forms.arity_of, Forms.put_form, Parts.top, declared.form.Part.Part}
+use Rattle.latex2mathml_parts.specs.{Forms.HasText, Forms.arity_of, Forms.put_form, Parts.top, declared.form.Form.Form, declared.form.Part.Part}
 
 abbrev pub forest_on : List (List ℕ) → List Tree → List Part → List Tree
 forest_on texts ts [] = ts
@@ -43,6 +43,30 @@ trees_at f end = forest f.texts (take end f.list)
 -- the last of them
 abbrev pub tree_at : Forest → ℕ → Tree
 tree_at f end = top (trees_at f end)
+
+-- the last tree
+abbrev pub last_in : Forest → Tree
+last_in f = top (trees_in f)
+
+-- the trees of the first `end` parts, with a part of this form after them
+abbrev pub with_form : Forest → Form → ℕ → List Tree
+with_form f form end = put_form f.texts form (trees_at f end)
+
+-- the last tree of these
+abbrev pub form_tree : Forest → Form → ℕ → Tree
+form_tree f form end = top (with_form f form end)
+
+-- all trees, with a part of this form after them
+abbrev pub one_more : Forest → Form → List Tree
+one_more f form = put_form f.texts form (trees_in f)
+
+-- .. and in place of the last part
+abbrev pub last_as : Forest → Form → List Tree
+last_as f form = with_form f form (length f.list - 1)
+
+-- the last `count` trees of the first `end` parts, in the order in which they were read
+abbrev pub members_at : Forest → ℕ → ℕ → List Tree
+members_at f count end = reverse (take count (trees_at f end))
 
 -- a tree ends after so many parts
 abbrev pub IsPlace : Forest → ℕ → Type 0

@@ -1,6 +1,7 @@
 -- What the entries of the list of parts make of the trees before them.
-use Rattle.std.specs.Prelude.{ℕ, ◌<◌, List, [], ◌∷◌, Option, true, drop, length, reverse, slice_index_or, suc, take, unwrap_or}
+use Rattle.std.specs.Prelude.{◌≡◌, ℕ, ◌<◌, List, [], ◌∷◌, Option, Some, None, true, drop, length, reverse, slice_index_or, suc, take, unwrap_or}
 use Rattle.std.specs.Char.{encode_utf8}
+use Rattle.latex2mathml_trees.specs.{Productions.matrix_members, Productions.stretched_operator, Style.styled}
 use Rattle.latex2mathml_trees.specs.Tree.{Tree, Trees, function, letter, matrix, row, slashed, stretched, undefined, words, no_trees, more_trees, trees_of}
 use Rattle.latex2mathml_tokens.specs.{Names.paren_text, declared.attribute.Variant.Variant}
 use Rattle.latex2mathml_parts.specs.{Parts.arity, Parts.put, Parts.top, declared.form.Form.Form}
@@ -43,3 +44,26 @@ HasText texts (form.Name place) = place < length texts
 HasText texts (form.Words place) = place < length texts
 HasText texts (form.Undefined place) = place < length texts
 HasText texts f = Unit {0}
+
+-- a part of this form is no operator that grows
+abbrev pub IsNoOperator : Form → Type 0
+IsNoOperator f = (texts : List (List ℕ)) (ts : List Tree) → stretched_operator (top (put_form texts f ts)) ≡ None
+
+-- the second form is that of the operator which grew
+abbrev pub StretchesTo : Form → Form → Type 0
+StretchesTo f grown =
+    (arity_of f ≡ 0)
+    × (arity_of grown ≡ 0)
+    × ((texts : List (List ℕ)) → HasText texts grown)
+    × ((texts : List (List ℕ)) (ts : List Tree) → (stretched_operator (top (put_form texts f ts)) ≡ Some (top (put_form texts grown ts)))
+    × (put_form texts grown ts ≡ top (put_form texts grown ts) ∷ ts))
+
+-- a part of this form is no row, so it is the only member of a matrix
+abbrev pub IsNoRow : Form → Type 0
+IsNoRow f =
+    (texts : List (List ℕ)) (ts : List Tree)
+    → matrix_members (top (put_form texts f ts)) ≡ more_trees (top (put_form texts f ts)) no_trees
+
+-- the last tree is given a style
+abbrev pub restyled : Variant → List Tree → List Tree
+restyled variant ts = styled variant (top ts) ∷ drop 1 ts

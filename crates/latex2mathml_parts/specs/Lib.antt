@@ -1,3 +1,4 @@
+pub mod Changes
 pub mod Environments
 pub mod Forests
 pub mod Forms

@@ -1,8 +1,10 @@
 -- The markup of parts with operands: what stands before the operands, between them and after them.
-use Rattle.std.specs.Prelude.{ℕ, ◌+◌, ◌*◌, List, ◌++◌, Option, Some, None, codes, drop}
-use Rattle.latex2mathml_trees.specs.{Print.print, Tree.Tree, Tree.operator, Weight.weight}
-use Rattle.latex2mathml_tokens.specs.{Attributes.accent_text, Escape.content_char, declared.attribute.Accent.Accent}
-use Rattle.latex2mathml_parts.specs.{Parts.top, declared.write.shapes.Operands.Operands}
+use Rattle.std.specs.Prelude.{◌≡◌, ℕ, ◌+◌, ◌*◌, ◌≤◌, List, ◌++◌, Option, Some, None, codes, drop}
+use Rattle.latex2mathml_trees.specs.{Print.print, Tree.Tree, Tree.operator, Tree.sized_paren, Tree.slashed, Weight.weight}
+use Rattle.latex2mathml_tokens.specs.{Attributes.accent_text, Escape.content, Escape.content_char, Names.paren_text, Names.size_text}
+use Rattle.latex2mathml_tokens.specs.{declared.attribute.Accent.Accent, declared.names.Paren.Paren, declared.names.Size.Size}
+use Rattle.latex2mathml_parts.specs.{Forms.put_form, Parts.put, Parts.top, declared.form.Form.Form, declared.kind.Kind.Kind}
+use Rattle.latex2mathml_parts.specs.declared.write.shapes.Operands.{Operands}
 use Rattle.latex2mathml_parts.specs.declared.write.shapes.Operands.TheVariants as operands
 
 -- the sign over or under a tree, and what stands after it
@@ -12,6 +14,29 @@ sign_print c accent after = codes "<mo accent=\"" ++ (accent_text accent ++ (cod
 -- how much there is to write of a tree: of it, and of each node and list in it, no more than eight works
 abbrev pub print_weight : Tree → ℕ
 print_weight x = weight x * 8 + 8
+
+-- the element of a fence that opens a group, or closes it, with the tag of the row around them
+abbrev pub fence_open : List ℕ → List ℕ
+fence_open text = codes "<mrow><mo stretchy=\"true\" form=\"prefix\">" ++ (content text ++ codes "</mo>")
+
+abbrev pub fence_close : List ℕ → List ℕ
+fence_close text = codes "<mo stretchy=\"true\" form=\"postfix\">" ++ (content text ++ codes "</mo></mrow>")
+
+-- an operator that is not in italics
+abbrev pub upright_print : ℕ → List ℕ
+upright_print c = codes "<mo>" ++ (content_char c ++ codes "</mo>")
+
+-- a parenthesis of a size of its own
+abbrev pub sized_print : Size → Paren → List ℕ
+sized_print size paren = print (sized_paren (size_text size) (paren_text paren))
+
+-- the element of this form with a slash through it
+abbrev pub slashed_print : List (List ℕ) → Form → List Tree → List ℕ
+slashed_print texts f ts = print (slashed (top (put_form texts f ts)))
+
+-- a slash through an element of this form is not shown
+abbrev pub HidesSlash : Form → Type 0
+HidesSlash f = (texts : List (List ℕ)) (ts : List Tree) → slashed_print texts f ts ≡ print (top (put_form texts f ts))
 
 -- what stands before the first operand
 abbrev pub opening : List ℕ → Option ℕ → List ℕ
@@ -34,3 +59,7 @@ operands_print (operands.Labelled c) tag ts after = print (top (drop 1 ts)) ++ (
 abbrev pub operands_weight : Operands → List Tree → ℕ
 operands_weight operands.One ts = print_weight (top ts)
 operands_weight o ts = print_weight (top (drop 1 ts)) + print_weight (top ts)
+
+-- a part of this kind has more to write than its operands
+abbrev pub WeighsLess : Operands → Kind → Type 0
+WeighsLess o kind = (ts : List Tree) → operands_weight o ts + 4 ≤ print_weight (top (put kind ts))

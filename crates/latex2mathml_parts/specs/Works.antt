@@ -1,9 +1,11 @@
 -- What is still to be written of a list of parts, as markup. The work that was put last is done first.
-use Rattle.std.specs.Prelude.{◌≡◌, ℕ, ◌+◌, ◌<◌, List, [], ◌++◌, Option, Some, None, codes, reverse, sum_by}
-use Rattle.std.specs.List.{All, flat_map}
-use Rattle.latex2mathml_trees.specs.{Print.print, Tree.operator}
-use Rattle.latex2mathml_parts.specs.{Forests.Forest, Forests.IsPlace, Forests.tree_at, Forms.in_style}
-use Rattle.latex2mathml_parts.specs.{Shapes.print_weight, Shapes.sign_print, declared.work.Work.Work}
+use Rattle.std.specs.Prelude.{◌≡◌, ℕ, ◌+◌, ◌<◌, List, [], ◌++◌, Option, Some, None, String, Vec, codes, reverse, string_bytes, sum_by, take}
+use Rattle.std.specs.declared.alloc.Global.{Global}
+use Rattle.std.specs.{Borrow.Bor, List.All, List.flat_map}
+use Rattle.latex2mathml_trees.specs.{Print.print, Tree.Tree, Tree.operator}
+use Rattle.latex2mathml_parts.specs.{Forests.Forest, Forests.IsPlace, Forests.tree_at, Forests.trees_at, Forms.in_style}
+use Rattle.latex2mathml_parts.specs.{Shapes.opening, Shapes.operands_print, Shapes.operands_weight, Shapes.print_weight, Shapes.sign_print}
+use Rattle.latex2mathml_parts.specs.{declared.work.Work.Work, declared.write.shapes.Operands.Operands, declared.write.shapes.Shape.Shape}
 use Rattle.latex2mathml_parts.specs.declared.work.Work.TheVariants as work
 
 abbrev pub work_print : Forest → Work → List ℕ
@@ -50,9 +52,38 @@ IsNext f (Some end) = IsPlace f end
 
 -- A text and what was due become a text, a tree that is next, if one is, and what is due then: they come to the same with
 -- this markup between the text and what was due.
-abbrev pub Writes : Forest → List ℕ → List Work → List ℕ → List ℕ → List Work → Option ℕ → Type 0
-Writes f old ws markup new vs next = new ++ (next_print f next ++ due f vs) ≡ old ++ (markup ++ due f ws)
+abbrev pub Writes : Forest → String Global → Vec Work Global → String Global → Vec Work Global → List ℕ → Option ℕ → Type 0
+Writes f old ws new vs markup next =
+    string_bytes new ++ (next_print f next ++ due f vs.items) ≡ string_bytes old ++ (markup ++ due f ws.items)
 
 -- What is left, with the tree that is next, is about trees that there are, and is less than this much more.
-abbrev pub Leaves : Forest → List Work → ℕ → List Work → Option ℕ → Type 0
-Leaves f ws more vs next = AreIn f vs × (IsNext f next × (load f vs + next_weight f next < load f ws + more))
+abbrev pub Leaves : Forest → Vec Work Global → Vec Work Global → ℕ → Option ℕ → Type 0
+Leaves f ws vs more next =
+    AreIn f vs.items × (IsNext f next × (load f vs.items + next_weight f next < load f ws.items + more))
+
+-- this markup is due before what was due
+abbrev pub Adds : Forest → Vec Work Global → Vec Work Global → List ℕ → Type 0
+Adds f ws vs markup = due f vs.items ≡ markup ++ due f ws.items
+
+-- the tree that is next and what is due then come to the same as the operands of a shape and what was due
+abbrev pub WritesOperands : Forest → Shape → ℕ → Vec Work Global → Vec Work Global → ℕ → Type 0
+WritesOperands f shape end ws vs next =
+    print (tree_at f next) ++ due f vs.items
+    ≡ operands_print shape.operands shape.before.now (trees_at f end) (work_print f shape.after) ++ due f ws.items
+
+-- .. and there is less left to write
+abbrev pub LeavesOperands : Forest → Shape → ℕ → Vec Work Global → Vec Work Global → ℕ → Type 0
+LeavesOperands f shape end ws vs next =
+    load f vs.items + print_weight (tree_at f next) < load f ws.items + operands_weight shape.operands (trees_at f end) + 4
+
+abbrev pub shape_with : Bor (List ℕ) → Option ℕ → Operands → Work → Shape
+shape_with before sign operands after = record { before = before; sign = sign; operands = operands; after = after }
+
+-- the operands of a shape, with what is before and after them
+abbrev pub shape_print : Forest → Shape → List Tree → List ℕ
+shape_print f shape ts =
+    opening shape.before.now shape.sign ++ operands_print shape.operands shape.before.now ts (work_print f shape.after)
+
+-- how much there is to write of the last `count` trees of the first `end` parts
+abbrev pub members_weight_at : Forest → ℕ → ℕ → ℕ
+members_weight_at f count end = sum_by print_weight (take count (trees_at f end))

@@ -1,11 +1,11 @@
 //! What the parser calls: it puts a part, and changes the last trees.
-ghost use Rattle.std.specs.Prelude.{◌≡◌, ◌-◌, ◌<◌, ◌≤◌, ◌∷◌, Some, None, suc, IfOk, MatchBool, OnOk, drop, length, reverse, string_bytes, take};
-ghost use Rattle.latex2mathml_trees.specs.Productions.{environment_tree, group_tree, matrix_of, stretched_operator};
-ghost use Rattle.latex2mathml_trees.specs.Style.{styled};
-ghost use Rattle.latex2mathml_trees.specs.Tree.{Tree, function, slashed, undefined, words};
-ghost use Rattle.latex2mathml_tokens.specs.{Lexemes.lexeme_tok, TokenText.token_text};
-ghost use Rattle.latex2mathml_parts.specs.{Forests.trees_at, Forests.trees_in, Forms.put_form, declared.form.Form.Form};
-ghost use Rattle.latex2mathml_parts.specs.Parts.{arity, put, top, words_of};
+ghost use Rattle.std.specs.Prelude.{◌≡◌, ◌-◌, ◌<◌, ◌≤◌, suc, IfOk, MatchBool, OnOk, length, string_bytes};
+ghost use Rattle.latex2mathml_trees.specs.Productions.{matrix_of, stretched_operator};
+ghost use Rattle.latex2mathml_trees.specs.{Style.styled, Tree.function, Tree.slashed, Tree.words};
+ghost use Rattle.latex2mathml_parts.specs.Changes.{Makes, MakesNone, MakesSome};
+ghost use Rattle.latex2mathml_parts.specs.Changes.{environment_of, error_tree, group_of, name_below};
+ghost use Rattle.latex2mathml_parts.specs.Forests.{last_as, last_in, trees_at, trees_in};
+ghost use Rattle.latex2mathml_parts.specs.{Parts.arity, Parts.put, declared.form.Form.Form};
 
 use crate::environment::Environment;
 use crate::form::{Form, Part};
@@ -29,7 +29,7 @@ impl<'a> Parts<'a> {
     /// Puts a token that has no meaning where it stands. It is marked as an error.
     #[inline(never)]
     pub fn put_error(&mut self, lexeme: Lexeme<'a>) -> Result<(), AllocError>
-        ensures { OnOk result (trees_in self.new ≡ undefined (token_text (lexeme_tok lexeme.entry)) ∷ trees_in self.old) }
+        ensures { OnOk result (Makes (error_tree lexeme.entry) 0 self.old self.new) }
     {
         let token = lexeme.token(self.alloc)?;
         let text = format!(in self.alloc; "{}", TokenText(&token))?;
@@ -39,7 +39,7 @@ impl<'a> Parts<'a> {
 
     /// Puts words.
     pub fn put_words(&mut self, text: String) -> Result<(), AllocError>
-        ensures { OnOk result (trees_in self.new ≡ words (string_bytes text) ∷ trees_in self.old) }
+        ensures { OnOk result (Makes (words (string_bytes text)) 0 self.old self.new) }
     {
         let place = self.set_aside(text)?;
         self.push(0, Form::Words(place))
@@ -47,7 +47,7 @@ impl<'a> Parts<'a> {
 
     /// Puts the name of a function that was spelled out.
     pub fn put_function(&mut self, name: String) -> Result<(), AllocError>
-        ensures { OnOk result (trees_in self.new ≡ function (string_bytes name) ∷ trees_in self.old) }
+        ensures { OnOk result (Makes (function (string_bytes name)) 0 self.old self.new) }
     {
         let place = self.set_aside(name)?;
         self.push(0, Form::Name(place))
@@ -56,7 +56,7 @@ impl<'a> Parts<'a> {
     /// Puts a slash through the last tree.
     pub fn slash(&mut self) -> Result<(), AllocError>
         requires { 0 < length (trees_in self.old) }
-        ensures { OnOk result (trees_in self.new ≡ slashed (top (trees_in self.old)) ∷ drop 1 (trees_in self.old)) }
+        ensures { OnOk result (Makes (slashed (last_in self.old)) 1 self.old self.new) }
     {
         self.push(1, Form::Slashed)
     }
@@ -65,7 +65,7 @@ impl<'a> Parts<'a> {
     #[inline(always)]
     pub fn give_style(&mut self, variant: Variant)
         requires { 0 < length (trees_in self.old) }
-        ensures { trees_in self.new ≡ styled variant (top (trees_in self.old)) ∷ drop 1 (trees_in self.old) }
+        ensures { Makes (styled variant (last_in self.old)) 1 self.old self.new }
     {
         let last = self.last();
         self.replace_last(Part {
@@ -79,8 +79,8 @@ impl<'a> Parts<'a> {
     pub fn stretch(&mut self) -> bool
         requires { 0 < length (trees_in self.old) }
         ensures { MatchBool result
-            ((x : Tree) × (stretched_operator (top (trees_in self.old)) ≡ Some x) × (trees_in self.new ≡ x ∷ drop 1 (trees_in self.old)))
-            ((stretched_operator (top (trees_in self.old)) ≡ None) × (trees_in self.new ≡ trees_in self.old)) }
+            (MakesSome (stretched_operator (last_in self.old)) 1 self.old self.new)
+            (MakesNone (stretched_operator (last_in self.old)) self.old self.new) }
     {
         let last = self.last();
         match last.form.stretch() {
@@ -100,7 +100,7 @@ impl<'a> Parts<'a> {
     #[tactic(auto, using(crate::proofs::Styles::plain, crate::proofs::Styles::all_plain, crate::proofs::Changes::last_trees))]
     pub fn group(&mut self, count: usize) -> Result<(), AllocError>
         requires { count ≤ length (trees_in self.old) }
-        ensures { OnOk result (trees_in self.new ≡ group_tree (reverse (take count (trees_in self.old))) ∷ drop count (trees_in self.old)) }
+        ensures { OnOk result (Makes (group_of self.old count) count self.old self.new) }
     {
         if count == 1 {
             return Ok(());
@@ -113,11 +113,8 @@ impl<'a> Parts<'a> {
     pub fn environment(&mut self, count: usize) -> Result<bool, AllocError>
         requires { count < length (trees_in self.old) }
         ensures { IfOk result (λ made. MatchBool made
-            ((x : Tree) × (environment_tree (words_of (top (drop count (trees_in self.old))))
-            (group_tree (reverse (take count (trees_in self.old)))) ≡ Some x)
-            × (trees_in self.new ≡ x ∷ drop (suc count) (trees_in self.old)))
-            ((environment_tree (words_of (top (drop count (trees_in self.old))))
-            (group_tree (reverse (take count (trees_in self.old)))) ≡ None) × (trees_in self.new ≡ trees_in self.old))) }
+            (MakesSome (environment_of self.old count) (suc count) self.old self.new)
+            (MakesNone (environment_of self.old count) self.old self.new)) }
     {
         match Environment::of(self.name(count)) {
             None => Ok(false),
@@ -137,7 +134,7 @@ impl<'a> Parts<'a> {
     #[tactic(auto, using(crate::proofs::Changes::some_below))]
     pub fn name(&self, count: usize) -> &str
         requires { count < length (trees_in self.now) }
-        ensures { result.now ≡ words_of (top (drop count (trees_in self.now))) }
+        ensures { result.now ≡ name_below self.now count }
     {
         match self.part_at(self.before(count)).form {
             Form::Words(place) => self.text(place),
@@ -149,8 +146,8 @@ impl<'a> Parts<'a> {
     #[tactic(auto, using(crate::proofs::Styles::all_plain, crate::proofs::Changes::last_trees))]
     fn matrix(&mut self, align: ColumnAlign, count: usize) -> Result<(), AllocError>
         requires { count < length (trees_in self.old) }
-        ensures { OnOk result (trees_in self.new
-            ≡ matrix_of align (group_tree (reverse (take count (trees_in self.old)))) ∷ drop (suc count) (trees_in self.old)) }
+        ensures { OnOk result (Makes (matrix_of align (group_of self.old count)) (suc count)
+            self.old self.new) }
     {
         if count == 1 {
             return self.matrix_of_one(align);
@@ -164,7 +161,7 @@ impl<'a> Parts<'a> {
     /// Makes a matrix of the last tree and of the name below it. The members of a row are those of the matrix.
     fn matrix_of_one(&mut self, align: ColumnAlign) -> Result<(), AllocError>
         requires { 1 < length (trees_in self.old) }
-        ensures { OnOk result (trees_in self.new ≡ matrix_of align (top (trees_in self.old)) ∷ drop 2 (trees_in self.old)) }
+        ensures { OnOk result (Makes (matrix_of align (last_in self.old)) 2 self.old self.new) }
     {
         match self.last().form.members() {
             Some((count, style)) => {
@@ -182,9 +179,8 @@ impl<'a> Parts<'a> {
     fn spread_row(&mut self, align: ColumnAlign, count: usize, style: Option<Variant>)
         requires all { 1 < length (trees_in self.old) }
         requires fits { count ≤ length (trees_at self.old (length self.old.list - 1)) }
-        requires row { trees_in self.old
-            ≡ put_form self.old.texts (Form.Row count style) (trees_at self.old (length self.old.list - 1)) }
-        ensures { trees_in self.new ≡ matrix_of align (top (trees_in self.old)) ∷ drop 2 (trees_in self.old) }
+        requires row { trees_in self.old ≡ last_as self.old (Form.Row count style) }
+        ensures { Makes (matrix_of align (last_in self.old)) 2 self.old self.new }
     {
         let size = self.len() - self.before(2);
         self.replace_last(Part {

@@ -1,7 +1,7 @@
 //! The environments that there are.
-ghost use Rattle.std.specs.Prelude.{◌≡◌, Some, None, MatchOption};
+ghost use Rattle.std.specs.Prelude.{◌≡◌, None, MatchOption};
 ghost use Rattle.latex2mathml_trees.specs.{Productions.environment_tree, Tree.Tree};
-ghost use Rattle.latex2mathml_parts.specs.Environments.{tree_around};
+ghost use Rattle.latex2mathml_parts.specs.Environments.{IsNamed};
 
 use latex2mathml_tokens::attribute::ColumnAlign;
 use latex2mathml_tokens::names::Paren;
@@ -19,7 +19,7 @@ impl Environment {
     pub(crate) fn of(name: &str) -> Option<Environment>
         ensures { MatchOption result
             ((group : Tree) → environment_tree name.now group ≡ None)
-            (λ environment. (group : Tree) → environment_tree name.now group ≡ Some (tree_around environment group)) }
+            (IsNamed name.now) }
     {
         match name {
             "matrix" => Some(Environment::Matrix(ColumnAlign::Center)),

@@ -1,8 +1,9 @@
 //! What the list of parts holds.
-ghost use Rattle.std.specs.Prelude.{◌≡◌, ◌∷◌, ℕ, List, Some, None, MatchOption, drop};
-ghost use Rattle.latex2mathml_trees.specs.{Productions.matrix_members, Productions.stretched_operator, Style.styled};
-ghost use Rattle.latex2mathml_trees.specs.Tree.{Tree, more_trees, no_trees};
-ghost use Rattle.latex2mathml_parts.specs.{Forms.HasText, Forms.arity_of, Forms.put_form, Parts.top, declared.form.Form.Form};
+ghost use Rattle.std.specs.Prelude.{◌≡◌, ℕ, List, MatchOption};
+ghost use Rattle.latex2mathml_trees.specs.Tree.{Tree};
+ghost use Rattle.latex2mathml_parts.specs.Forms.{HasText, IsNoOperator, IsNoRow, StretchesTo};
+ghost use Rattle.latex2mathml_parts.specs.Forms.{arity_of, put_form, restyled};
+ghost use Rattle.latex2mathml_parts.specs.declared.form.Form.{Form};
 
 use crate::kind::Kind;
 use latex2mathml_tokens::attribute::{ColumnAlign, Variant};
@@ -47,7 +48,7 @@ impl<'a> Form<'a> {
         ensures arity { arity_of result ≡ arity_of self.entry }
         ensures text { (texts : List (List ℕ)) → HasText texts self.entry → HasText texts result }
         ensures trees { (texts : List (List ℕ)) (ts : List Tree) → put_form texts result ts
-            ≡ styled variant (top (put_form texts self.entry ts)) ∷ drop 1 (put_form texts self.entry ts) }
+            ≡ restyled variant (put_form texts self.entry ts) }
     {
         match self {
             Form::Of(Kind::Letter(c, _)) => Form::Of(Kind::Letter(c, variant)),
@@ -59,13 +60,7 @@ impl<'a> Form<'a> {
     /// The form of a part whose tree grows with what stands around it, if the tree is an operator.
     #[inline(always)]
     pub(crate) fn stretch(self) -> Option<Form<'a>>
-        ensures { MatchOption result
-            ((texts : List (List ℕ)) (ts : List Tree) → stretched_operator (top (put_form texts self.entry ts)) ≡ None)
-            (λ form. (arity_of self.entry ≡ 0) × (arity_of form ≡ 0)
-            × ((texts : List (List ℕ)) → HasText texts form)
-            × ((texts : List (List ℕ)) (ts : List Tree) →
-            (stretched_operator (top (put_form texts self.entry ts)) ≡ Some (top (put_form texts form ts)))
-            × (put_form texts form ts ≡ top (put_form texts form ts) ∷ ts))) }
+        ensures { MatchOption result (IsNoOperator self.entry) (StretchesTo self.entry) }
     {
         match self {
             Form::Of(Kind::Operator(c)) => Some(Form::Stretched(c)),
@@ -77,9 +72,7 @@ impl<'a> Form<'a> {
     /// How many members a part has whose tree is a row, and their style.
     #[inline(always)]
     pub(crate) fn members(self) -> Option<(usize, Option<Variant>)>
-        ensures { MatchOption result
-            ((texts : List (List ℕ)) (ts : List Tree) → matrix_members (top (put_form texts self.entry ts))
-            ≡ more_trees (top (put_form texts self.entry ts)) no_trees)
+        ensures { MatchOption result (IsNoRow self.entry)
             (λ row. self.entry ≡ Form.Row row.0 row.1) }
     {
         match self {

@@ -1,7 +1,8 @@
 //! The list of the parts: where the trees in it stand, and how a part is put or replaced.
 ghost use Rattle.std.specs.Prelude.{◌≡◌, ◌-◌, ◌<◌, ◌≤◌, [], IfOk, OnOk, drop, length, slice_index_or, string_bytes};
-ghost use Rattle.latex2mathml_parts.specs.Forests.{IsPlace, Stands, trees_at, trees_in};
-ghost use Rattle.latex2mathml_parts.specs.Forms.{HasText, arity_of, put_form};
+ghost use Rattle.latex2mathml_parts.specs.Forests.{IsPlace, Stands, last_as, one_more};
+ghost use Rattle.latex2mathml_parts.specs.Forests.{trees_at, trees_in, with_form};
+ghost use Rattle.latex2mathml_parts.specs.Forms.{HasText, arity_of};
 
 use crate::form::{Form, Part};
 use crate::work::Works;
@@ -85,7 +86,7 @@ impl<'a> Parts<'a> {
     pub(crate) fn part_at(&self, end: usize) -> Part<'a>
         requires { IsPlace self.now end }
         ensures stands { Stands self.now.texts self.now.list (end - 1) result }
-        ensures trees { trees_at self.now end ≡ put_form self.now.texts result.form (trees_at self.now (end - 1)) }
+        ensures trees { trees_at self.now end ≡ with_form self.now result.form (end - 1) }
     {
         self.list[end - 1]
     }
@@ -94,7 +95,7 @@ impl<'a> Parts<'a> {
     pub(crate) fn last(&self) -> Part<'a>
         requires { 0 < length (trees_in self.now) }
         ensures stands { Stands self.now.texts self.now.list (length self.now.list - 1) result }
-        ensures trees { trees_in self.now ≡ put_form self.now.texts result.form (trees_at self.now (length self.now.list - 1)) }
+        ensures trees { trees_in self.now ≡ last_as self.now result.form }
     {
         self.part_at(self.len())
     }
@@ -132,7 +133,7 @@ impl<'a> Parts<'a> {
         requires arity { arity ≡ arity_of form }
         requires text { HasText self.old.texts form }
         requires all { arity ≤ length (trees_in self.old) }
-        ensures { OnOk result (trees_in self.new ≡ put_form self.old.texts form.entry (trees_in self.old)) }
+        ensures { OnOk result (trees_in self.new ≡ one_more self.old form.entry) }
     {
         let size = self.len() - self.before(arity) + 1;
         self.list.push(Part { form, size })?;
@@ -144,7 +145,7 @@ impl<'a> Parts<'a> {
     pub(crate) fn replace_last(&mut self, part: Part<'a>)
         requires some { 0 < length (trees_in self.old) }
         requires stands { Stands self.old.texts self.old.list (length self.old.list - 1) part }
-        ensures { trees_in self.new ≡ put_form self.old.texts part.entry.form (trees_at self.old (length self.old.list - 1)) }
+        ensures { trees_in self.new ≡ last_as self.old part.entry.form }
     {
         let last = self.list.as_slice().len() - 1;
         self.list[last] = part;

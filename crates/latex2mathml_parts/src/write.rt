@@ -1,10 +1,10 @@
 //! From parts to markup.
-ghost use Rattle.std.specs.Prelude.{◌≡◌, ◌+◌, ◌<◌, ◌≤◌, ◌++◌, IfOk, OnOk, length, string_bytes, None};
-ghost use Rattle.latex2mathml_trees.specs.{Print.print, Tree.slashed};
-ghost use Rattle.latex2mathml_parts.specs.Forests.{IsPlace, tree_at, trees_at, trees_in};
-ghost use Rattle.latex2mathml_parts.specs.Forms.{HasText, arity_of, in_style, put_form};
-ghost use Rattle.latex2mathml_parts.specs.{Parts.top, Shapes.print_weight};
-ghost use Rattle.latex2mathml_parts.specs.Works.{AreIn, IsIn, IsNext, Leaves, Writes, work_print, work_weight};
+ghost use Rattle.std.specs.Prelude.{◌<◌, ◌≤◌, IfOk, OnOk, length, None};
+ghost use Rattle.latex2mathml_trees.specs.{Print.print, Texts.Appends, Tree.slashed};
+ghost use Rattle.latex2mathml_parts.specs.Forests.{IsPlace, form_tree, last_in, tree_at, trees_at, trees_in};
+ghost use Rattle.latex2mathml_parts.specs.Forms.{HasText, arity_of, in_style};
+ghost use Rattle.latex2mathml_parts.specs.Shapes.{print_weight};
+ghost use Rattle.latex2mathml_parts.specs.Works.{AreIn, IsIn, Leaves, Writes, work_print, work_weight};
 
 mod fences;
 mod groups;
@@ -33,7 +33,7 @@ impl Parts<'_> {
     #[tactic(auto, using(crate::proofs::Styles::plain, crate::proofs::Forests::all_taken, std::proofs::lemmas::Grind::common_steps), unfolding(crate::specs::Works::AreIn))]
     pub fn write(&self, works: &mut Works, out: &mut String) -> Result<(), AllocError>
         requires { 0 < length (trees_in self.now) }
-        ensures { OnOk result (string_bytes out.new ≡ string_bytes out.old ++ print (top (trees_in self.now))) }
+        ensures { Appends out.old out.new (print (last_in self.now)) result }
     {
         let list = &mut works.list;
         list.clear();
@@ -54,9 +54,10 @@ impl Parts<'_> {
     ) -> Result<(), AllocError>
         requires one { IsIn self.now work }
         requires inside { AreIn self.now works.old.items }
-        ensures print { OnOk result (Writes self.now (string_bytes out.old) works.old.items (work_print self.now work)
-            (string_bytes out.new) works.new.items None) }
-        ensures left { OnOk result (Leaves self.now works.old.items (work_weight self.now work) works.new.items None) }
+        ensures print { OnOk result (Writes self.now out.old works.old out.new works.new
+            (work_print self.now work) None) }
+        ensures left { OnOk result (Leaves self.now works.old works.new
+            (work_weight self.now work) None) }
     {
         match work {
             Work::Tree(end, style) => self.write_down(end, style, works, out),
@@ -80,9 +81,10 @@ impl Parts<'_> {
     ) -> Result<(), AllocError>
         requires place { IsPlace self.now end }
         requires inside { AreIn self.now works.old.items }
-        ensures print { OnOk result (Writes self.now (string_bytes out.old) works.old.items
-            (print (in_style style (tree_at self.now end))) (string_bytes out.new) works.new.items None) }
-        ensures left { OnOk result (Leaves self.now works.old.items (print_weight (tree_at self.now end)) works.new.items None) }
+        ensures print { OnOk result (Writes self.now out.old works.old out.new works.new
+            (print (in_style style (tree_at self.now end))) None) }
+        ensures left { OnOk result (Leaves self.now works.old works.new
+            (print_weight (tree_at self.now end)) None) }
     {
         let mut next = self.write_at(end, style, works, out)?;
         'down: while let Some(place) = next {
@@ -102,9 +104,10 @@ impl Parts<'_> {
     ) -> Result<Option<usize>, AllocError>
         requires place { IsPlace self.now end }
         requires inside { AreIn self.now works.old.items }
-        ensures print { IfOk result (Writes self.now (string_bytes out.old) works.old.items
-            (print (in_style style (tree_at self.now end))) (string_bytes out.new) works.new.items) }
-        ensures left { IfOk result (Leaves self.now works.old.items (print_weight (tree_at self.now end)) works.new.items) }
+        ensures print { IfOk result (Writes self.now out.old works.old out.new works.new
+            (print (in_style style (tree_at self.now end)))) }
+        ensures left { IfOk result (Leaves self.now works.old works.new
+            (print_weight (tree_at self.now end))) }
     {
         self.write_form(self.part_at(end).form, style, end - 1, works, out)
     }
@@ -124,11 +127,10 @@ impl Parts<'_> {
         requires text { HasText self.now.texts form }
         requires within { end ≤ length self.now.list }
         requires inside { AreIn self.now works.old.items }
-        ensures print { IfOk result (Writes self.now (string_bytes out.old) works.old.items
-            (print (in_style style (top (put_form self.now.texts form.entry (trees_at self.now end)))))
-            (string_bytes out.new) works.new.items) }
-        ensures left { IfOk result (Leaves self.now works.old.items
-            (print_weight (top (put_form self.now.texts form.entry (trees_at self.now end)))) works.new.items) }
+        ensures print { IfOk result (Writes self.now out.old works.old out.new works.new
+            (print (in_style style (form_tree self.now form.entry end)))) }
+        ensures left { IfOk result (Leaves self.now works.old works.new
+            (print_weight (form_tree self.now form.entry end))) }
     {
         match form {
             Form::Of(Kind::Letter(c, own)) => write_letter(c, style.unwrap_or(own), out)?,
@@ -170,9 +172,10 @@ impl Parts<'_> {
     ) -> Result<Option<usize>, AllocError>
         requires place { IsPlace self.now end }
         requires inside { AreIn self.now works.old.items }
-        ensures print { IfOk result (Writes self.now (string_bytes out.old) works.old.items
-            (print (slashed (tree_at self.now end))) (string_bytes out.new) works.new.items) }
-        ensures left { IfOk result (Leaves self.now works.old.items (print_weight (slashed (tree_at self.now end))) works.new.items) }
+        ensures print { IfOk result (Writes self.now out.old works.old out.new works.new
+            (print (slashed (tree_at self.now end)))) }
+        ensures left { IfOk result (Leaves self.now works.old works.new
+            (print_weight (slashed (tree_at self.now end)))) }
     {
         let _ = works;
         if write_slashed(self.part_at(end).form, out)? {

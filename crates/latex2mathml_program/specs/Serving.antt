@@ -1,7 +1,7 @@
 -- What the words of the command line ask for, and the lines and the status that answer them.
 use Rattle.std.specs.Prelude.{◌≡◌, ◌⊎◌, ℕ, List, [], ◌∷◌, ◌++◌, Option, Result, Ok, Err, codes, map, string_bytes}
 use Rattle.std.specs.Io.KnownBytes.{Keeps}
-use Rattle.latex2mathml.specs.{Faults.fault_text, Files.Answer, Files.IsWalked, Files.levels_read, declared.error.FileFault.FileFault}
+use Rattle.latex2mathml.specs.{Faults.fault_text, Files.Answer, Files.IsWhollyWalked, declared.error.FileFault.FileFault}
 use Rattle.latex2mathml.specs.Streams.{CanGoOn, IsStopped, StreamState, Takes}
 use Rattle.latex2mathml.specs.declared.error.FileFault.TheVariants.{Refused, Write}
 use Rattle.latex2mathml.specs.{declared.error.WriteCause.WriteCause, declared.files.Unconverted.Unconverted, Formulas.OutOfMemory}
@@ -102,6 +102,14 @@ not_done = 1
 abbrev pub wrong_words : ℕ
 wrong_words = 2
 
+-- the line of what was not converted
+abbrev pub UnconvertedPrinted : Unconverted → StreamState → StreamState → Type 0
+UnconvertedPrinted one old new = LinePrinted (unconverted_line one) old new
+
+-- .. and the lines of these
+abbrev pub AllUnconvertedPrinted : List Unconverted → StreamState → StreamState → Type 0
+AllUnconvertedPrinted all old new = LinesPrinted (map unconverted_line all) old new
+
 -- the status and the stream of errors tell what a run came to
 abbrev pub ExitsWith : Result Unit FileFault → StreamState → StreamState → ℕ → Type 0
 ExitsWith (Ok _) old new status = (status ≡ done) × IsSilent old new
@@ -110,13 +118,13 @@ ExitsWith (Err fault) old new status = (status ≡ not_done) × LinePrinted (fau
 -- the status and the stream of errors tell what was not converted
 abbrev pub ExitsWithLines : List Unconverted → StreamState → StreamState → ℕ → Type 0
 ExitsWithLines [] old new status = (status ≡ done) × IsSilent old new
-ExitsWithLines (one ∷ more) old new status = (status ≡ not_done) × LinesPrinted (map unconverted_line (one ∷ more)) old new
+ExitsWithLines (one ∷ more) old new status = (status ≡ not_done) × AllUnconvertedPrinted (one ∷ more) old new
 
 -- the status and the stream of errors tell what converting the files under a path came to, by what the site answered
 pub data ExitsAfterWalk (path : List ℕ) (before after : Option (List Answer)) (old new : StreamState) (status : ℕ) : Type 0 where
   -- the files were walked, and these were not converted
   WalkEnded : (unconverted : List Unconverted)
-      → IsWalked levels_read path before after [] unconverted
+      → IsWhollyWalked path before after unconverted
       → ExitsWithLines unconverted old new status
       → ExitsAfterWalk path before after old new status
   -- no memory was found to walk on

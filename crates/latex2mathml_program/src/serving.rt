@@ -2,7 +2,10 @@
 ghost use Rattle.std.specs.Prelude.{◌≡◌, ◌↔◌, ℕ, List, IfNone, IfSome, IsTrue, map, string_bytes};
 ghost use Rattle.std.specs.Io.KnownBytes.{IsAtEnd};
 ghost use Rattle.latex2mathml.specs.Streams.{CanGoOn};
-ghost use Rattle.latex2mathml_program.specs.Serving.{ExitsAfterWalk, LinesPrinted, ExitsWithLines, AskFor, AskForFiles, AskForNoFiles, AskForNoJob, LinePrinted, IsServed, LineWritten, fault_line, unconverted_line, word_of, wrong_words};
+ghost use Rattle.latex2mathml_program.specs.Serving.{AllUnconvertedPrinted, ExitsAfterWalk};
+ghost use Rattle.latex2mathml_program.specs.Serving.{ExitsWithLines, AskFor, AskForFiles, AskForNoFiles};
+ghost use Rattle.latex2mathml_program.specs.Serving.{AskForNoJob, LinePrinted, IsServed, LineWritten};
+ghost use Rattle.latex2mathml_program.specs.Serving.{UnconvertedPrinted, fault_line, word_of, wrong_words};
 
 use crate::job::{Job, run};
 use latex2mathml::{FileFault, Sink, Site, Source, Unconverted, convert_site, write_text};
@@ -134,7 +137,7 @@ fn tell<E: Sink>(alloc: Global, errors: &mut E, all: &[Unconverted]) -> u8
 /// Writes a line for each of these, until the stream does not take one completely.
 fn put_all_unconverted<E: Sink>(alloc: Global, errors: &mut E, all: &[Unconverted])
     requires { CanGoOn (E.state errors.old) }
-    ensures put { LinesPrinted (map unconverted_line all.now) (E.state errors.old) (E.state errors.new) }
+    ensures put { AllUnconvertedPrinted all.now (E.state errors.old) (E.state errors.new) }
 {
     for unconverted in all {
         if !put_unconverted(alloc, errors, unconverted) {
@@ -147,7 +150,7 @@ fn put_all_unconverted<E: Sink>(alloc: Global, errors: &mut E, all: &[Unconverte
 /// take more.
 fn put_unconverted<E: Sink>(alloc: Global, errors: &mut E, unconverted: &Unconverted) -> bool
     requires { CanGoOn (E.state errors.old) }
-    ensures put { LinePrinted (unconverted_line unconverted.now) (E.state errors.old) (E.state errors.new) }
+    ensures put { UnconvertedPrinted unconverted.now (E.state errors.old) (E.state errors.new) }
     ensures ready { IsTrue result ↔ CanGoOn (E.state errors.new) }
 {
     let path = unconverted.path.as_str();

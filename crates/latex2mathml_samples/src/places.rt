@@ -67,16 +67,6 @@ pub static PLACES: [(&str, Place); 34] = [
 ];
 
 impl Place {
-    /// Returns the place of this name, if there is one.
-    pub fn named(name: &str) -> Option<Place> {
-        for (known, place) in &PLACES {
-            if *known == name {
-                return Some(*place);
-            }
-        }
-        None
-    }
-
     /// Returns a node that has the given one in this place.
     pub fn around(self, alloc: Global, x: Node) -> Result<Node, AllocError> {
         match self {
@@ -106,17 +96,6 @@ pub fn nested(
     let mut x = leaf(letter);
     for _ in 0..levels {
         x = place.around(alloc, x)?;
-    }
-    Ok(x)
-}
-
-/// Returns a letter so many times inside each of the places in turn.
-pub fn nested_in_turn(alloc: Global, rounds: usize, letter: char) -> Result<Node, AllocError> {
-    let mut x = leaf(letter);
-    for _ in 0..rounds {
-        for (_, place) in &PLACES {
-            x = place.around(alloc, x)?;
-        }
     }
     Ok(x)
 }

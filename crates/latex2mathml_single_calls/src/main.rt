@@ -1,10 +1,8 @@
 //! Makes one call of the library, with a mark before it and one after it, and prints its answer: `tests/test_memory.py`
-//! refuses requests for memory between the marks. For a formula it can also print the steps that it took. It also drops
-//! nodes that are nested as deep as it is told.
+//! refuses requests for memory between the marks. For a formula it can also print the steps that it took.
 #![tactic(auto)]
 
 mod copies;
-mod deep;
 mod nodes;
 
 use latex2mathml::{
@@ -150,34 +148,15 @@ fn call_on(rt: &HostRuntime, name: &str, text: &str) -> io::Result<bool> {
     Ok(true)
 }
 
-/// Makes the call of this name on two texts, and answers whether there is one.
-fn call_on_two<'a>(
-    rt: &HostRuntime,
-    name: &str,
-    first: &'a str,
-    second: &'a str,
-) -> io::Result<bool> {
-    match name {
-        "tex_formulas" => tex_formulas(rt, first, second)?,
-        "drop" => match second.parse::<usize>() {
-            Ok(levels) => return deep::drop_nested(rt, first, levels),
-            Err(_) => return Ok(false),
-        },
-        _ => return Ok(false),
-    }
-    Ok(true)
-}
-
 /// Makes the call that the words name, and answers whether they name one.
 fn call(rt: &HostRuntime) -> io::Result<bool> {
     let words: Vec<String> = env::args(rt)?.skip(1).collect(rt.alloc())?;
     match words.as_slice() {
-        [name] if name.as_str() == "places" => {
-            deep::tell_places(rt)?;
+        [name, text] => call_on(rt, name.as_str(), text.as_str()),
+        [name, first, second] if name.as_str() == "tex_formulas" => {
+            tex_formulas(rt, first.as_str(), second.as_str())?;
             Ok(true)
         }
-        [name, text] => call_on(rt, name.as_str(), text.as_str()),
-        [name, first, second] => { call_on_two(rt, name.as_str(), first.as_str(), second.as_str()) }
         _ => Ok(false),
     }
 }

@@ -10,8 +10,10 @@ use Rattle.latex2mathml_tex_grammar.specs.Formulas as formula
 use Rattle.latex2mathml_tex_grammar.specs.Reading.{Outcome, Read, Refused, ReadsAtoms, text_ends, never_ended, atoms_stopped, atoms_end, atom_read, atom_refused, rest_read, change_refused, ReadsRule, rule_gives, rows_read, rows_to_end, ReadsScripts, scripts_end, mark_taken, script_read, script_refused, mark_refused}
 use Rattle.latex2mathml_tex_grammar.specs.{Rules.WholeText, Rules.rows_of_text, Units.End, Units.Units}
 use Rattle.latex2mathml_tex_grammar.proofs.{AllowedReadings.markup_allowed, AllowedReadings.markup_with_source_allowed, Readings.expanded, Readings.has_expansion, Readings.rows_end_text, Readings.same_expansion}
-use Rattle.latex2mathml_tex_units.specs.{MacroTables.macros_in, Meanings.style_of}
-use Rattle.latex2mathml_tex.specs.{Answers.IsAnswer, Answers.IsAnswerWithSource, Answers.IsRefusal, Levels.CoreMade, Levels.RuleLeads, Models.top, ReadRows.AreUppermost, ReadRows.HasRead}
+use Rattle.latex2mathml_tex_units.specs.MacroTables.{macros_in}
+use Rattle.latex2mathml_tex_commands.specs.Meanings.{style_of}
+use Rattle.latex2mathml_tex.specs.{Answers.IsAnswer, Answers.IsAnswerWithSource, Answers.IsRefusal, Levels.CoreMade, Levels.RuleLeads, ReadRows.AreUppermost, ReadRows.HasRead}
+use Rattle.latex2mathml_tex_atoms.specs.Models.{top}
 use Rattle.latex2mathml_tex_units.specs.Errors.{IfRefused, is_outside_error, is_outside_kind, kind_of_error, refusal_of}
 use Rattle.latex2mathml_tex.specs.Frames.{ReadsAs, Start, Whole, context_at, inside, whole_level}
 use Rattle.latex2mathml_tex.specs.Steps.{Begins, Holds, elements_of, left_of, level, start_of}

@@ -15,17 +15,19 @@ use Rattle.latex2mathml_tex_grammar.specs.Rows.{Operand}
 use Rattle.latex2mathml_tex_grammar.specs.Units as grammar
 use Rattle.latex2mathml_tex_grammar.specs.Units.{Units, Next, End, Stop}
 use Rattle.latex2mathml_tex.specs.Frames.{Start, context_at, element_count, enter}
-use Rattle.latex2mathml_tex.specs.Innermost as code
+use Rattle.latex2mathml_tex_atoms.specs.Models as code
 use Rattle.latex2mathml_tex_units.specs.Left.{put_back, unit_count, units_at, units_behind}
 use Rattle.latex2mathml_tex.specs.Innermost.{frame_context}
 use Rattle.latex2mathml_tex.specs.Levels.{CoreMade, Leads, Level, OperandMade, Refuses, RuleLeads, as_operand}
 use Rattle.latex2mathml_tex.specs.Levels as levels
-use Rattle.latex2mathml_tex_units.specs.Meanings.{alphabet_of, style_of}
-use Rattle.latex2mathml_tex.specs.Models.{context_of, core_with}
+use Rattle.latex2mathml_tex_commands.specs.Meanings.{alphabet_of, style_of}
+use Rattle.latex2mathml_tex_atoms.specs.Models.{context_of, core_with}
 use Rattle.latex2mathml_tex.specs.Steps.{AwaitsCore, AwaitsOperand, Begins, BeginsIn, BeginsUnit, CanBegin, Follows, HasElements, Holds, InnermostIs, Took, elements_of, frame_weight, left_of, level, level_within, operand_place, to_do}
 use Rattle.latex2mathml_tex_units.specs.Taking.{kind_of, piece_of, unit_of}
-use Rattle.latex2mathml_tex_units.specs.declared.{error.TexError.TexError, input.Input.Input, meaning.Alphabet.Alphabet as CodeAlphabet, unit.Fault.Fault, unit.Piece.Piece, unit.Unit.Unit}
-use Rattle.latex2mathml_tex.specs.declared.{atoms.Context.Context, atoms.Core.Core as CodeCore, atoms.Row.Row as CodeRow, parse.Parser.Parser, parse.State.State, parse.frames.Frames.Frames}
+use Rattle.latex2mathml_tex_units.specs.declared.{error.TexError.TexError, input.Input.Input, unit.Fault.Fault, unit.Piece.Piece, unit.Unit.Unit}
+use Rattle.latex2mathml_tex_commands.specs.declared.meaning.Alphabet.{Alphabet as CodeAlphabet}
+use Rattle.latex2mathml_tex_atoms.specs.declared.{atoms.Context.Context, atoms.Core.Core as CodeCore, atoms.Row.Row as CodeRow}
+use Rattle.latex2mathml_tex.specs.declared.{parse.Parser.Parser, parse.State.State, parse.frames.Frames.Frames}
 use Rattle.latex2mathml_tex.specs.declared.parse.State.TheVariants as state
 use Rattle.latex2mathml_tex.specs.declared.parse.frames.Frame.{Frame}
 use Rattle.latex2mathml_tex.specs.declared.parse.frames.Ending.TheVariants as ending

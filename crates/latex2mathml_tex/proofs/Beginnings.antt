@@ -10,19 +10,21 @@ use Rattle.latex2mathml_tex_grammar.specs.Starts.{DividerStart, RuleStart, Scrip
 use Rattle.latex2mathml_tex_grammar.specs.Meaning.{Change}
 use Rattle.latex2mathml_tex_grammar.specs.Units.{Unit, Units, Next}
 use Rattle.latex2mathml_tex_units.specs.Taking.{piece_of, unit_of}
-use Rattle.latex2mathml_tex.specs.{Frames.Start, Frames.context_at, Frames.ending_of, Models.context_of}
+use Rattle.latex2mathml_tex.specs.Frames.{Start, context_at, ending_of}
+use Rattle.latex2mathml_tex_atoms.specs.Models.{context_of}
 use Rattle.latex2mathml_tex.specs.Levels.{AtomMade, CoreMade, Leads, Level, RestLeads, RuleLeads, ScriptsLead, as_atom}
 use Rattle.latex2mathml_tex.specs.Levels as levels
 use Rattle.latex2mathml_tex.specs.Steps.{AwaitsAtom, BeginsDivider, BeginsUnit, Took, TookMark, TookUnmarked, elements_of, left_of, level, mark_model}
 use Rattle.latex2mathml_tex_units.specs.declared.unit.Unit.{Unit as CodeUnit}
-use Rattle.latex2mathml_tex.specs.declared.{atoms.Row.Row as CodeRow, parse.Parser.Parser, parse.scripts.Mark.Mark}
+use Rattle.latex2mathml_tex_atoms.specs.declared.atoms.Row.{Row as CodeRow}
+use Rattle.latex2mathml_tex.specs.declared.{parse.Parser.Parser, parse.scripts.Mark.Mark}
 use Rattle.latex2mathml_tex.specs.declared.parse.frames.Ending.{Ending}
 use Rattle.latex2mathml_tex.specs.declared.parse.frames.Frame.TheVariants as frame
 use Rattle.latex2mathml_tex.specs.declared.parse.scripts.Mark.TheVariants as mark
-use Rattle.latex2mathml_builder.specs.declared.attributes.Side.{Side}
-use Rattle.latex2mathml_builder.specs.declared.attributes.Side.TheVariants as side
+use Rattle.latex2mathml_attributes.specs.declared.attributes.Side.{Side}
+use Rattle.latex2mathml_attributes.specs.declared.attributes.Side.TheVariants as side
 use Rattle.latex2mathml_tex.proofs.Leading.{atom_due, base_due, rest_due, scripts_due}
-use Rattle.latex2mathml_tex.proofs.{Opening.into_frame, Opening.out_of_frame}
+use Rattle.latex2mathml_tex.proofs.Opening.{into_frame, out_of_frame}
 use Rattle.latex2mathml_tex_grammar.proofs.Spaces.{past_twice}
 
 -- a prime or a script begins an atom, on a row without atoms

@@ -7,10 +7,11 @@ use Rattle.latex2mathml_tex_grammar.specs.{Atoms.Plain, Atoms.atom, Makes.core, 
 use Rattle.latex2mathml_tex_grammar.specs.{Rules.gives, Symbols.InScript}
 use Rattle.latex2mathml_tex_grammar.specs.Rules as rules
 use Rattle.latex2mathml_tex.specs.{Frames.Start, Frames.context_at, Frames.labeled_arrow, Innermost.frame_context, Levels.Leads}
-use Rattle.latex2mathml_tex.specs.Models.{context_of, core_with, top}
-use Rattle.latex2mathml_tex_units.specs.declared.meaning.Style.TheVariants as style
+use Rattle.latex2mathml_tex_atoms.specs.Models.{context_of, core_with, top}
+use Rattle.latex2mathml_tex_commands.specs.declared.meaning.Style.TheVariants as style
 use Rattle.latex2mathml_tex.specs.Steps.{ClosesRow, Holds, InnermostIs, elements_of, left_of, level, level_within}
-use Rattle.latex2mathml_tex.specs.declared.{atoms.Context.Context, atoms.Core.Core as CodeCore, atoms.Row.Row as CodeRow, atoms.Words.Words as CodeWords, parse.Parser.Parser}
+use Rattle.latex2mathml_tex_atoms.specs.declared.{atoms.Context.Context, atoms.Core.Core as CodeCore, atoms.Row.Row as CodeRow, atoms.Words.Words as CodeWords}
+use Rattle.latex2mathml_tex.specs.declared.parse.Parser.{Parser}
 use Rattle.latex2mathml_tex.specs.declared.parse.State.TheVariants as state
 use Rattle.latex2mathml_tex.specs.declared.parse.frames.Frame.{Frame}
 use Rattle.latex2mathml_tex.specs.declared.parse.frames.Ending.TheVariants as ending

@@ -2,16 +2,18 @@
 use Rattle.std.proofs.Common.{◌≡◌, ℕ, ◌+◌, Option, Some, None, Result, option_map, subst, arith}
 use Rattle.std.specs.declared.alloc.AllocError.{AllocError}
 use Rattle.latex2mathml_elements.specs.Colors.{Color}
-use Rattle.latex2mathml_builder.specs.Arounds as arounds
-use Rattle.latex2mathml_builder.specs.declared.around.Color.{Color as CodeColor}
+use Rattle.latex2mathml_attributes.specs.Arounds as arounds
+use Rattle.latex2mathml_attributes.specs.declared.around.Color.{Color as CodeColor}
 use Rattle.latex2mathml_tex_grammar.specs.Colors.{color_of}
 use Rattle.latex2mathml_tex_grammar.specs.Meaning.{Box}
 use Rattle.latex2mathml_tex_grammar.specs.Refusal.{UnknownColor, refusal_at}
 use Rattle.latex2mathml_tex_grammar.specs.Rules.{Rule, a_box, a_color}
 use Rattle.latex2mathml_tex_grammar.specs.Scanning.{BeforeArgument, ColorName}
-use Rattle.latex2mathml_tex.specs.{Frames.Start, Models.context_of}
+use Rattle.latex2mathml_tex.specs.Frames.{Start}
+use Rattle.latex2mathml_tex_atoms.specs.Models.{context_of}
 use Rattle.latex2mathml_tex.specs.Steps.{Begins, BeginsIn, Follows, HasElements, Holds, Advances, TookValue, to_do}
-use Rattle.latex2mathml_tex.specs.declared.{atoms.Context.Context, parse.Parser.Parser, parse.State.State}
+use Rattle.latex2mathml_tex_atoms.specs.declared.atoms.Context.{Context}
+use Rattle.latex2mathml_tex.specs.declared.{parse.Parser.Parser, parse.State.State}
 use Rattle.latex2mathml_tex.specs.declared.parse.State.TheVariants as state
 use Rattle.latex2mathml_tex.proofs.RuleSteps.{begun}
 use Rattle.latex2mathml_tex.proofs.Values.{value_refused, value_refused_within, value_taken, value_within}

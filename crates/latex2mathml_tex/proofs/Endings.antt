@@ -9,13 +9,17 @@ use Rattle.latex2mathml_tex_grammar.specs.Makes.{between_delimiters, core, fence
 use Rattle.latex2mathml_tex_grammar.specs.Refusal.{MissingDelimiter}
 use Rattle.latex2mathml_tex_grammar.specs.Rows.{row_element}
 use Rattle.latex2mathml_tex_grammar.specs.Rules.{gives}
-use Rattle.latex2mathml_tex_units.specs.{Delimiters.delimiter_text, Errors.refusal_of, Left.units_at, Meanings.style_of}
-use Rattle.latex2mathml_tex.specs.{Models.core_with, Models.row_count, Models.row_with, Models.top, Shapes.mapped_first}
+use Rattle.latex2mathml_tex_commands.specs.{Delimiters.delimiter_text, Meanings.style_of}
+use Rattle.latex2mathml_tex_units.specs.{Errors.refusal_of, Left.units_at}
+use Rattle.latex2mathml_tex_atoms.specs.{Models.core_with, Models.row_count, Models.row_with, Models.top, Shapes.mapped_first}
 use Rattle.latex2mathml_tex.specs.Frames.{Start, element_count}
-use Rattle.latex2mathml_tex.specs.Innermost.{IsInnermost, empty_row, none_begun, on_top}
+use Rattle.latex2mathml_tex.specs.Innermost.{IsInnermost, none_begun, on_top}
+use Rattle.latex2mathml_tex_atoms.specs.Models.{empty_row}
 use Rattle.latex2mathml_tex.specs.Steps.{CanMake, ClosesRow, Follows, HasElements, Holds, InnermostIs, core_made, elements_of, left_of, level, to_do}
-use Rattle.latex2mathml_tex_units.specs.declared.{input.Input.Input, meaning.Style.Style}
-use Rattle.latex2mathml_tex.specs.declared.{atoms.Context.Context, atoms.Core.Core as CodeCore, atoms.Row.Row as CodeRow, parse.Parser.Parser}
+use Rattle.latex2mathml_tex_units.specs.declared.input.Input.{Input}
+use Rattle.latex2mathml_tex_commands.specs.declared.meaning.Style.{Style}
+use Rattle.latex2mathml_tex_atoms.specs.declared.{atoms.Context.Context, atoms.Core.Core as CodeCore, atoms.Row.Row as CodeRow}
+use Rattle.latex2mathml_tex.specs.declared.parse.Parser.{Parser}
 use Rattle.latex2mathml_tex.specs.declared.parse.State.TheVariants as state
 use Rattle.latex2mathml_tex.specs.declared.parse.frames.{Ending.Ending, Frame.Frame}
 use Rattle.latex2mathml_tex.specs.declared.parse.frames.Ending.TheVariants as ending

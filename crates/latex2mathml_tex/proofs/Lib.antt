@@ -1,7 +1,6 @@
 pub mod Answering
 pub mod Beginning
 pub mod Beginnings
-pub mod Boxing
 pub mod Closing
 pub mod ColoredBoxes
 pub mod Digits
@@ -13,7 +12,6 @@ pub mod Marks
 pub mod NoAtom
 pub mod Opening
 pub mod Operands
-pub mod Outlined
 pub mod Outlining
 pub mod Putting
 pub mod Replacing
@@ -22,7 +20,6 @@ pub mod Rows
 pub mod RuleSteps
 pub mod Scripting
 pub mod Seconds
-pub mod Shaping
 pub mod Spaced
 pub mod TableRules
 pub mod Tabled

@@ -6,16 +6,17 @@ use Rattle.latex2mathml_builder.specs.{Built.Built, Built.elements_in, Stacks.is
 use Rattle.latex2mathml_tex_grammar.specs.{Atoms.atom, Atoms.element_as, Makes.Core, Makes.classed, Makes.core, Makes.no_letters, Makes.struck, Makes.text}
 use Rattle.latex2mathml_tex_grammar.specs.Refusal.{NothingToNegate, refusal_at}
 use Rattle.latex2mathml_tex_grammar.specs.Rules.{gives, refuses, slashed, struck_atom}
-use Rattle.latex2mathml_tex_units.specs.Meanings.{class_of, style_of}
-use Rattle.latex2mathml_tex.specs.{Models.core_with, Models.kind_of, Models.operand_with, Models.top, Shapes.IsPut, Shapes.changed_at}
+use Rattle.latex2mathml_tex_commands.specs.Meanings.{class_of, style_of}
+use Rattle.latex2mathml_tex_atoms.specs.{Models.core_with, Models.kind_of, Models.operand_with, Models.top, Shapes.IsPut, Shapes.changed_at}
 use Rattle.latex2mathml_tex.specs.Frames.{Start, last_count, made_of}
 use Rattle.latex2mathml_tex.specs.Steps.{Begins, HasElements, Holds, elements_of, level}
-use Rattle.latex2mathml_tex_units.specs.declared.meaning.{Class.Class as CodeClass, Style.Style as CodeStyle}
-use Rattle.latex2mathml_tex.specs.declared.{atoms.Core.Core as CodeCore, atoms.Kind.Kind as CodeKind, atoms.Operand.Operand as CodeOperand, parse.Parser.Parser, parse.State.State}
-use Rattle.latex2mathml_tex.specs.declared.atoms.Kind.TheVariants as kind
+use Rattle.latex2mathml_tex_commands.specs.declared.meaning.{Class.Class as CodeClass, Style.Style as CodeStyle}
+use Rattle.latex2mathml_tex_atoms.specs.declared.{atoms.Core.Core as CodeCore, atoms.Kind.Kind as CodeKind, atoms.Operand.Operand as CodeOperand}
+use Rattle.latex2mathml_tex.specs.declared.{parse.Parser.Parser, parse.State.State}
+use Rattle.latex2mathml_tex_atoms.specs.declared.atoms.Kind.TheVariants as kind
 use Rattle.latex2mathml_tex_units.specs.declared.error.TexErrorKind.TheVariants as error
-use Rattle.latex2mathml_tex_units.specs.declared.meaning.Class.TheVariants as class
-use Rattle.latex2mathml_tex_units.specs.declared.meaning.LimitPlace.TheVariants as place
+use Rattle.latex2mathml_tex_commands.specs.declared.meaning.Class.TheVariants as class
+use Rattle.latex2mathml_tex_commands.specs.declared.meaning.LimitPlace.TheVariants as place
 use Rattle.latex2mathml_tex.specs.declared.parse.State.TheVariants as state
 use Rattle.latex2mathml_tex.specs.declared.parse.frames.Last.{Last}
 use Rattle.latex2mathml_tex.specs.declared.parse.frames.Last.TheVariants as last_is

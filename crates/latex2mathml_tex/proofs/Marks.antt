@@ -2,8 +2,8 @@
 use Rattle.std.proofs.Common.{◌≡◌, ℕ, zero, suc, ◌+◌, ◌<◌, ◌≤◌, Bool, true, false, List, [], ◌∷◌, Option, Some, None, drop, take, length, reverse, refl, sym, ap, ◌∙◌, subst, arith}
 use Rattle.latex2mathml_elements.specs.Element.{Element}
 use Rattle.latex2mathml_builder.specs.Built.{Built, elements_in}
-use Rattle.latex2mathml_builder.specs.declared.attributes.Side.{Side}
-use Rattle.latex2mathml_builder.specs.declared.attributes.Side.TheVariants as side
+use Rattle.latex2mathml_attributes.specs.declared.attributes.Side.{Side}
+use Rattle.latex2mathml_attributes.specs.declared.attributes.Side.TheVariants as side
 use Rattle.latex2mathml_tex_grammar.specs.{Atoms.Atom, Meaning.LimitPlace, Next.past_space, Symbols.Class, Symbols.InScript}
 use Rattle.latex2mathml_tex_grammar.specs.Symbols as class
 use Rattle.latex2mathml_tex_grammar.specs.Makes.{Scripts, behind_primes, prime_mark}
@@ -14,18 +14,21 @@ use Rattle.latex2mathml_tex_grammar.specs.Rules.{styled}
 use Rattle.latex2mathml_tex_grammar.specs.Starts as starts
 use Rattle.latex2mathml_tex_grammar.specs.Starts.{GoesOn, TakesOperand, Forbidden, mark_of, step_of, step_of_mark}
 use Rattle.latex2mathml_tex_grammar.specs.Units.{Unit, Units, Next}
-use Rattle.latex2mathml_tex.specs.Frames.{RowMade, ScriptMade, Start, Whole, base_of, behind_mark, context_at, element_count, enter, has_script, inside, inside_all, primes_put, with_script, within}
+use Rattle.latex2mathml_tex.specs.Frames.{RowMade, ScriptMade, Start, Whole, base_of, behind_mark, context_at, element_count, enter, inside, inside_all, primes_put, with_script, within}
+use Rattle.latex2mathml_tex_atoms.specs.Models.{has_script}
 use Rattle.latex2mathml_tex_units.specs.Errors.{second_on}
 use Rattle.latex2mathml_tex.specs.Innermost.{frame_context}
-use Rattle.latex2mathml_tex_units.specs.declared.meaning.Style.TheVariants as code_style
+use Rattle.latex2mathml_tex_commands.specs.declared.meaning.Style.TheVariants as code_style
 use Rattle.latex2mathml_tex.proofs.Opening.{context_is}
 use Rattle.latex2mathml_tex.specs.Levels.{AtomMade, CoreMade, Leads, Level, OperandMade, PartMade, Refuses, ScriptsLead, row, operand, part, words}
 use Rattle.latex2mathml_tex.specs.Levels.{core as core_level}
-use Rattle.latex2mathml_tex_units.specs.Meanings.{limit_place_of, style_of}
-use Rattle.latex2mathml_tex.specs.Models.{context_of, element_above, element_below, row_count, script_count, scripts_with, top}
+use Rattle.latex2mathml_tex_commands.specs.Meanings.{limit_place_of, style_of}
+use Rattle.latex2mathml_tex_atoms.specs.Models.{context_of, element_above, element_below, row_count, script_count, scripts_with, top}
 use Rattle.latex2mathml_tex.specs.Steps.{Holds, InnermostIs, TookMark, TookScript, elements_of, left_of, level, level_within, mark_model}
-use Rattle.latex2mathml_tex_units.specs.declared.{error.TexErrorKind.TexErrorKind, meaning.LimitPlace.LimitPlace as CodeLimitPlace}
-use Rattle.latex2mathml_tex.specs.declared.{atoms.Context.Context, atoms.Core.Core as CodeCore, atoms.Scripts.Scripts as CodeScripts, parse.Parser.Parser, parse.scripts.Mark.Mark}
+use Rattle.latex2mathml_tex_units.specs.declared.error.TexErrorKind.{TexErrorKind}
+use Rattle.latex2mathml_tex_commands.specs.declared.meaning.LimitPlace.{LimitPlace as CodeLimitPlace}
+use Rattle.latex2mathml_tex_atoms.specs.declared.{atoms.Context.Context, atoms.Core.Core as CodeCore, atoms.Scripts.Scripts as CodeScripts}
+use Rattle.latex2mathml_tex.specs.declared.{parse.Parser.Parser, parse.scripts.Mark.Mark}
 use Rattle.latex2mathml_tex_units.specs.declared.error.TexErrorKind.TheVariants as error
 use Rattle.latex2mathml_tex.specs.declared.parse.State.TheVariants as state
 use Rattle.latex2mathml_tex.specs.declared.parse.frames.{Ending.Ending, Frame.Frame}

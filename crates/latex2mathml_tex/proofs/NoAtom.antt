@@ -5,14 +5,17 @@ use Rattle.std.specs.declared.alloc.AllocError.{AllocError}
 use Rattle.latex2mathml_tex_grammar.specs.{Next.past_space, Reading.Refused, Refusal.Refusal}
 use Rattle.latex2mathml_tex_grammar.specs.Starts.{ends, left_behind}
 use Rattle.latex2mathml_tex_grammar.specs.Units.{Piece, Unit, Units, Next, End, Stop}
-use Rattle.latex2mathml_tex_units.specs.{Errors.refusal_of, Left.put_back, Left.unit_count, Left.units_at, Meanings.style_of, Taking.piece_of, Taking.unit_of}
+use Rattle.latex2mathml_tex_units.specs.{Errors.refusal_of, Left.put_back, Left.unit_count, Left.units_at, Taking.piece_of, Taking.unit_of}
+use Rattle.latex2mathml_tex_commands.specs.Meanings.{style_of}
 use Rattle.latex2mathml_tex.specs.Frames.{Start, Whole, element_count, ending_count, ending_of, within}
 use Rattle.latex2mathml_tex.specs.Innermost.{IsInnermost, none_begun, on_top}
 use Rattle.latex2mathml_tex.specs.Levels.{Leads, Level, Refuses}
-use Rattle.latex2mathml_tex.specs.Models.{row_count}
+use Rattle.latex2mathml_tex_atoms.specs.Models.{row_count}
 use Rattle.latex2mathml_tex.specs.Steps.{Awaits, CanMake, EndsRow, EndsText, HasElements, Holds, IsLeft, Advances, core_made, elements_of, ending_weight, frame_weight, left_of, row_makes}
-use Rattle.latex2mathml_tex_units.specs.declared.{input.Input.Input, meaning.Style.Style, unit.Next.Next as CodeNext, unit.Unit.Unit as CodeUnit}
-use Rattle.latex2mathml_tex.specs.declared.{atoms.Context.Context, atoms.Row.Row as CodeRow, parse.Parser.Parser, parse.State.State}
+use Rattle.latex2mathml_tex_units.specs.declared.{input.Input.Input, unit.Next.Next as CodeNext, unit.Unit.Unit as CodeUnit}
+use Rattle.latex2mathml_tex_commands.specs.declared.meaning.Style.{Style}
+use Rattle.latex2mathml_tex_atoms.specs.declared.{atoms.Context.Context, atoms.Row.Row as CodeRow}
+use Rattle.latex2mathml_tex.specs.declared.{parse.Parser.Parser, parse.State.State}
 use Rattle.latex2mathml_tex_units.specs.declared.unit.Next.TheVariants as next
 use Rattle.latex2mathml_tex.specs.declared.parse.State.TheVariants as state
 use Rattle.latex2mathml_tex.specs.declared.parse.frames.{Ending.Ending, Frame.Frame, Frames.Frames}

@@ -6,10 +6,10 @@ use Rattle.latex2mathml_tex_grammar.specs.{Rules.Context as RuleContext, Rules.R
 use Rattle.latex2mathml_tex.specs.Frames.{Start, context_at, enter, inside, inside_all, whole_level, within}
 use Rattle.latex2mathml_tex.specs.Innermost.{IsInnermost, begun_row, frame_context, none_begun, on_top}
 use Rattle.latex2mathml_tex.specs.Levels.{Level}
-use Rattle.latex2mathml_tex_units.specs.Meanings.{style_of}
-use Rattle.latex2mathml_tex.specs.Models.{context_of}
+use Rattle.latex2mathml_tex_commands.specs.Meanings.{style_of}
+use Rattle.latex2mathml_tex_atoms.specs.Models.{context_of}
 use Rattle.latex2mathml_tex.specs.Steps.{Begins, BeginsIn, level}
-use Rattle.latex2mathml_tex_units.specs.declared.meaning.Style.{Style}
+use Rattle.latex2mathml_tex_commands.specs.declared.meaning.Style.{Style}
 use Rattle.latex2mathml_tex.specs.declared.parse.Parser.{Parser}
 use Rattle.latex2mathml_tex.specs.declared.parse.frames.Frame.{Frame}
 use Rattle.latex2mathml_tex.specs.declared.parse.frames.Frame.TheVariants as frame

@@ -3,21 +3,22 @@ use Rattle.std.proofs.Common.{◌≡◌, ◌⊎◌, inl, inr, ℕ, ◌+◌, ◌-
 use Rattle.std.proofs.lemmas.List.{drop-drop, length-drop, length-take, reverse-append}
 use Rattle.latex2mathml_elements.specs.Element.{Element}
 use Rattle.latex2mathml_builder.specs.Built.{Built, elements_in}
-use Rattle.latex2mathml_builder.specs.declared.attributes.Side.{Side}
+use Rattle.latex2mathml_attributes.specs.declared.attributes.Side.{Side}
 use Rattle.latex2mathml_tex_grammar.specs.Atoms.{Atom, Blank, Kind, Nothing, is_parted}
 use Rattle.latex2mathml_tex_grammar.specs.{Rules.gives, Makes.Core, Makes.no_scripts, Makes.takes_limits, Reading.Read, Symbols.Style, Units.Units}
 use Rattle.latex2mathml_tex_grammar.specs.Rows.{empty_row, operand_of, row_element, single, with_atom}
 use Rattle.latex2mathml_tex.specs.Frames.{ScriptMade, Start, inside, last_count, made_of, primes_put, within}
 use Rattle.latex2mathml_tex.specs.Innermost.{IsInnermost, none_begun, on_top}
 use Rattle.latex2mathml_tex.specs.Levels.{CoreMade, OperandMade, RuleLeads, ScriptsLead}
-use Rattle.latex2mathml_tex_units.specs.Meanings.{style_of}
-use Rattle.latex2mathml_tex.specs.Models.{core_with, kind_of, operand_with, row_with, script_count, top}
+use Rattle.latex2mathml_tex_commands.specs.Meanings.{style_of}
+use Rattle.latex2mathml_tex_atoms.specs.Models.{core_with, kind_of, operand_with, row_with, script_count, top}
 use Rattle.latex2mathml_tex.specs.Steps.{Begins, Follows, Holds, InnermostIs, Ready, TookScript, accepts, elements_of, first_accepts, left_of, operand_made, to_do}
-use Rattle.latex2mathml_tex_units.specs.declared.meaning.Style.{Style as CodeStyle}
-use Rattle.latex2mathml_tex.specs.declared.{atoms.Context.Context, atoms.Core.Core as CodeCore, atoms.Operand.Operand as CodeOperand, atoms.Row.Row as CodeRow, atoms.Scripts.Scripts, parse.Parser.Parser}
+use Rattle.latex2mathml_tex_commands.specs.declared.meaning.Style.{Style as CodeStyle}
+use Rattle.latex2mathml_tex_atoms.specs.declared.{atoms.Context.Context, atoms.Core.Core as CodeCore, atoms.Operand.Operand as CodeOperand, atoms.Row.Row as CodeRow, atoms.Scripts.Scripts}
+use Rattle.latex2mathml_tex.specs.declared.parse.Parser.{Parser}
 use Rattle.latex2mathml_tex.specs.declared.parse.State.TheVariants as state
 use Rattle.latex2mathml_tex.specs.Innermost.{frame_context}
-use Rattle.latex2mathml_tex_units.specs.declared.meaning.Alphabet.{Alphabet}
+use Rattle.latex2mathml_tex_commands.specs.declared.meaning.Alphabet.{Alphabet}
 use Rattle.latex2mathml_tex.specs.declared.parse.frames.{Ending.Ending, First.First, Frame.Frame, Frames.Frames, Last.Last}
 use Rattle.latex2mathml_tex.specs.declared.parse.frames.Frame.TheVariants as frame
 use Rattle.latex2mathml_tex.proofs.Opening.{into_frame, out_of_frame}

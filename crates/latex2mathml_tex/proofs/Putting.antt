@@ -5,10 +5,12 @@ use Rattle.latex2mathml_builder.specs.Built.{Built, elements_in}
 use Rattle.latex2mathml_tex_grammar.specs.{Atoms.Plain, Atoms.atom, Makes.Core, Makes.core, Makes.number, Next.digits_next, Next.follows, Next.next_are, Symbols.Alphabet, Symbols.Ordinary, Units.Piece}
 use Rattle.latex2mathml_tex_grammar.specs.Rules.{Rule, gives, if_follows, takes_digits, takes_if}
 use Rattle.latex2mathml_tex_units.specs.Left.{unit_count, units_at}
-use Rattle.latex2mathml_tex.specs.{Frames.Start, Models.core_with, Shapes.IsPut}
+use Rattle.latex2mathml_tex.specs.Frames.{Start}
+use Rattle.latex2mathml_tex_atoms.specs.{Models.core_with, Shapes.IsPut}
 use Rattle.latex2mathml_tex.specs.Steps.{Begins, CanBegin, Follows, Holds, elements_of, left_of, to_do}
 use Rattle.latex2mathml_tex_units.specs.declared.input.Input.{Input}
-use Rattle.latex2mathml_tex.specs.declared.{atoms.Core.Core as CodeCore, parse.Parser.Parser}
+use Rattle.latex2mathml_tex_atoms.specs.declared.atoms.Core.{Core as CodeCore}
+use Rattle.latex2mathml_tex.specs.declared.parse.Parser.{Parser}
 use Rattle.latex2mathml_tex.specs.declared.parse.State.TheVariants as state
 use Rattle.latex2mathml_tex.proofs.Leading.{digits, follows_next, given, none_follows, not_taken, taken}
 

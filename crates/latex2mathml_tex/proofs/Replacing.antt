@@ -2,7 +2,7 @@
 use Rattle.std.proofs.Common.{◌≡◌, ◌-◌, ◌∙◌, ◌++◌, ◌∷◌, List, [], ap, arith, length, length-append, slice_index_or, slice_set}
 use Rattle.std.proofs.Math.Seq.{get_or-append_seam, set-append_seam}
 use Rattle.latex2mathml_tex.specs.Innermost.{IsInnermost, none_begun, on_top}
-use Rattle.latex2mathml_tex_units.specs.declared.meaning.Style.{Style}
+use Rattle.latex2mathml_tex_commands.specs.declared.meaning.Style.{Style}
 use Rattle.latex2mathml_tex.specs.declared.parse.frames.Frame.{Frame}
 
 pub replaced : (style : Style) (fs others : List Frame) (f g : Frame) → (length fs ≡ 0 → ⊥) → IsInnermost style fs f others → slice_set fs (length fs - 1) g ≡ others ++ g ∷ []

@@ -13,13 +13,16 @@ use Rattle.latex2mathml_tex_grammar.specs.Rests.{Rest, GoesOnIn, NoRest, finishe
 use Rattle.latex2mathml_tex_grammar.specs.Rules.{Context as RuleContext}
 use Rattle.latex2mathml_tex_grammar.specs.Units.{Units}
 use Rattle.latex2mathml_tex.specs.Frames.{RowMade, Start, Whole, ending_count, ending_of, inside, within}
-use Rattle.latex2mathml_tex_units.specs.{Errors.refusal_of, Meanings.style_of}
+use Rattle.latex2mathml_tex_units.specs.Errors.{refusal_of}
+use Rattle.latex2mathml_tex_commands.specs.Meanings.{style_of}
 use Rattle.latex2mathml_tex.specs.Innermost.{IsInnermost}
 use Rattle.latex2mathml_tex.specs.Levels.{FollowsChange, Leads, Refuses, RestLeads}
-use Rattle.latex2mathml_tex.specs.Models.{context_of, row_count, row_with}
+use Rattle.latex2mathml_tex_atoms.specs.Models.{context_of, row_count, row_with}
 use Rattle.latex2mathml_tex.specs.Steps.{BeginsRest, CanBegin, CanMake, Closes, EndsRow, IsLeft, Follows, HasElements, Holds, NoValue, TookValue, has_none, is_missing, elements_of, left_of, level, row_makes, to_do}
-use Rattle.latex2mathml_tex_units.specs.declared.{meaning.Style.Style as CodeStyle, unit.Unit.Unit as CodeUnit}
-use Rattle.latex2mathml_tex.specs.declared.{atoms.Context.Context, atoms.Row.Row as CodeRow, parse.Parser.Parser}
+use Rattle.latex2mathml_tex_commands.specs.declared.meaning.Style.{Style as CodeStyle}
+use Rattle.latex2mathml_tex_units.specs.declared.unit.Unit.{Unit as CodeUnit}
+use Rattle.latex2mathml_tex_atoms.specs.declared.{atoms.Context.Context, atoms.Row.Row as CodeRow}
+use Rattle.latex2mathml_tex.specs.declared.parse.Parser.{Parser}
 use Rattle.latex2mathml_tex.specs.declared.parse.State.TheVariants as state
 use Rattle.latex2mathml_tex.specs.declared.parse.frames.{Ending.Ending, Frame.Frame, Frames.Frames}
 use Rattle.latex2mathml_tex.specs.declared.parse.frames.Ending.TheVariants as ending

@@ -12,15 +12,17 @@ use Rattle.latex2mathml_tex_units.specs.{Errors.refusal_of, Left.unit_count, Lef
 use Rattle.latex2mathml_tex.specs.Frames.{RowMade, Start, base_of, element_count, ending_count, ending_of, inside, within}
 use Rattle.latex2mathml_tex.specs.Innermost.{IsInnermost, frame_row, none_begun, on_top}
 use Rattle.latex2mathml_tex.specs.Levels.{AtomMade, Leads, Refuses}
-use Rattle.latex2mathml_tex_units.specs.Meanings.{style_of}
-use Rattle.latex2mathml_tex.specs.Models.{context_of, core_with, row_count, row_rest, row_with, script_count, scripts_with, top}
+use Rattle.latex2mathml_tex_commands.specs.Meanings.{style_of}
+use Rattle.latex2mathml_tex_atoms.specs.Models.{context_of, core_with, row_count, row_rest, row_with, script_count, scripts_with, top}
 use Rattle.latex2mathml_tex.specs.Steps.{Awaits, BeginsDivider, CanMake, Follows, HasElements, Holds, Advances, MadeAtom, TookMark, accepts, are_nested, atom_made, core_made, elements_of, first_accepts, frame_weight, left_of, level, row_makes, to_do}
 use Rattle.std.specs.declared.alloc.AllocError.{AllocError}
-use Rattle.latex2mathml_tex_units.specs.declared.{error.TexError.TexError, input.Input.Input, meaning.Style.Style}
-use Rattle.latex2mathml_tex.specs.declared.{atoms.Context.Context, atoms.Core.Core as CodeCore, atoms.Row.Row as CodeRow, atoms.Scripts.Scripts as CodeScripts, parse.Parser.Parser, parse.State.State, parse.scripts.Mark.Mark}
-use Rattle.latex2mathml_tex.specs.declared.atoms.Kind.TheVariants as kind
-use Rattle.latex2mathml_tex_units.specs.declared.meaning.Class.TheVariants as class
-use Rattle.latex2mathml_tex_units.specs.declared.meaning.LimitPlace.TheVariants as code_place
+use Rattle.latex2mathml_tex_units.specs.declared.{error.TexError.TexError, input.Input.Input}
+use Rattle.latex2mathml_tex_commands.specs.declared.meaning.Style.{Style}
+use Rattle.latex2mathml_tex_atoms.specs.declared.{atoms.Context.Context, atoms.Core.Core as CodeCore, atoms.Row.Row as CodeRow, atoms.Scripts.Scripts as CodeScripts}
+use Rattle.latex2mathml_tex.specs.declared.{parse.Parser.Parser, parse.State.State, parse.scripts.Mark.Mark}
+use Rattle.latex2mathml_tex_atoms.specs.declared.atoms.Kind.TheVariants as kind
+use Rattle.latex2mathml_tex_commands.specs.declared.meaning.Class.TheVariants as class
+use Rattle.latex2mathml_tex_commands.specs.declared.meaning.LimitPlace.TheVariants as code_place
 use Rattle.latex2mathml_tex.specs.declared.parse.State.TheVariants as state
 use Rattle.latex2mathml_tex.specs.declared.parse.frames.{Ending.Ending, Frame.Frame}
 use Rattle.latex2mathml_tex.specs.declared.parse.frames.Ending.TheVariants as ending

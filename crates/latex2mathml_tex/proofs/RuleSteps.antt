@@ -4,11 +4,14 @@ use Rattle.std.specs.Option.{unwrap_or}
 use Rattle.latex2mathml_tex_grammar.specs.{Delimiters.delimiter_of, Next.next_are, Next.past_space, Next.refusal_here}
 use Rattle.latex2mathml_tex_grammar.specs.Refusal.{MissingDelimiter, Refusal}
 use Rattle.latex2mathml_tex_grammar.specs.Rules.{Rule, own_style, refuses, takes_delimiter}
-use Rattle.latex2mathml_tex_units.specs.{Errors.refusal_of, Left.unit_count, Left.units_at, Meanings.style_of}
+use Rattle.latex2mathml_tex_units.specs.{Errors.refusal_of, Left.unit_count, Left.units_at}
+use Rattle.latex2mathml_tex_commands.specs.Meanings.{style_of}
 use Rattle.latex2mathml_tex.specs.Frames.{Start}
 use Rattle.latex2mathml_tex.specs.Steps.{Begins, BeginsIn, CanBegin, Follows, Holds, left_of, level, to_do}
-use Rattle.latex2mathml_tex_units.specs.declared.{error.TexError.TexError, input.Input.Input, meaning.Style.Style}
-use Rattle.latex2mathml_tex.specs.declared.{atoms.Context.Context, parse.Parser.Parser, parse.State.State}
+use Rattle.latex2mathml_tex_units.specs.declared.{error.TexError.TexError, input.Input.Input}
+use Rattle.latex2mathml_tex_commands.specs.declared.meaning.Style.{Style}
+use Rattle.latex2mathml_tex_atoms.specs.declared.atoms.Context.{Context}
+use Rattle.latex2mathml_tex.specs.declared.{parse.Parser.Parser, parse.State.State}
 use Rattle.latex2mathml_tex.specs.declared.parse.State.TheVariants as state
 use Rattle.latex2mathml_tex_units.proofs.Nexts.{no_more_past_space}
 use Rattle.latex2mathml_tex.proofs.{Leading.delimited, Leading.refused, Leading.undelimited, Marks.core_refuses, Rows.refused_here, Rows.refused_step}

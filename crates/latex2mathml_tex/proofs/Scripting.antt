@@ -6,13 +6,13 @@ use Rattle.latex2mathml_tex_grammar.specs.Atoms.{Atom, Kind, atom}
 use Rattle.latex2mathml_tex_grammar.specs.Makes.{Scripts, are_stacked, fixed_base, scripted, scripted_atom, scripted_kind, superscript, with_scripts}
 use Rattle.latex2mathml_tex_grammar.specs.Meaning.{LimitPlace}
 use Rattle.latex2mathml_tex_grammar.specs.Symbols.{Style}
-use Rattle.latex2mathml_tex.proofs.Shaping.{length_changed}
-use Rattle.latex2mathml_tex_units.specs.Meanings.{limit_place_of}
-use Rattle.latex2mathml_tex.specs.Models.{element_above, element_below, one_if, script_count, scripts_with, top}
-use Rattle.latex2mathml_tex.specs.Shapes.{changed_at}
-use Rattle.latex2mathml_tex.specs.declared.atoms.Scripts.{Scripts as CodeScripts}
-use Rattle.latex2mathml_tex_units.specs.declared.meaning.LimitPlace.{LimitPlace as CodeLimitPlace}
-use Rattle.latex2mathml_tex_units.specs.declared.meaning.LimitPlace.TheVariants as code_limit_place
+use Rattle.latex2mathml_tex_atoms.proofs.Shaping.{length_changed}
+use Rattle.latex2mathml_tex_commands.specs.Meanings.{limit_place_of}
+use Rattle.latex2mathml_tex_atoms.specs.Models.{element_above, element_below, one_if, script_count, scripts_with, top}
+use Rattle.latex2mathml_tex_atoms.specs.Shapes.{changed_at}
+use Rattle.latex2mathml_tex_atoms.specs.declared.atoms.Scripts.{Scripts as CodeScripts}
+use Rattle.latex2mathml_tex_commands.specs.declared.meaning.LimitPlace.{LimitPlace as CodeLimitPlace}
+use Rattle.latex2mathml_tex_commands.specs.declared.meaning.LimitPlace.TheVariants as code_limit_place
 
 -- a base whose limits may move stays what it is
 pub not_fixed : (limits : CodeLimitPlace) → (limits ≡ code_limit_place.Stacked → ⊥) → (x : Element) → fixed_base (limit_place_of limits) x ≡ x

@@ -1,14 +1,15 @@
 -- The last of two operands is due behind the first one.
 use Rattle.std.proofs.Common.{◌≡◌, ℕ, Option, drop, ap, ◌∙◌}
-use Rattle.latex2mathml_builder.specs.declared.attributes.Side.{Side}
+use Rattle.latex2mathml_attributes.specs.declared.attributes.Side.{Side}
 use Rattle.latex2mathml_tex_grammar.specs.Reading.{Read}
 use Rattle.latex2mathml_tex.specs.Frames.{Start, after_first, context_at}
 use Rattle.latex2mathml_tex.specs.Levels.{CoreMade, Leads, Then}
-use Rattle.latex2mathml_tex.specs.Models.{context_of, operand_with, top}
+use Rattle.latex2mathml_tex_atoms.specs.Models.{context_of, operand_with, top}
 use Rattle.latex2mathml_tex.specs.Steps.{FirstRead, InnermostIs, elements_of, left_of, level, level_within}
 use Rattle.latex2mathml_tex.specs.Innermost.{frame_context}
-use Rattle.latex2mathml_tex_units.specs.declared.meaning.{FractionRule.FractionRule, Style.Style}
-use Rattle.latex2mathml_tex.specs.declared.{atoms.Context.Context, atoms.Operand.Operand, outlines.Outline.Outline, parse.Parser.Parser}
+use Rattle.latex2mathml_tex_commands.specs.declared.meaning.{FractionRule.FractionRule, Style.Style}
+use Rattle.latex2mathml_tex_atoms.specs.declared.{atoms.Context.Context, atoms.Operand.Operand, outlines.Outline.Outline}
+use Rattle.latex2mathml_tex.specs.declared.parse.Parser.{Parser}
 use Rattle.latex2mathml_tex.specs.declared.parse.frames.{First.First, Frame.Frame, Last.Last}
 use Rattle.latex2mathml_tex.specs.declared.parse.frames.First.TheVariants as first
 use Rattle.latex2mathml_tex.specs.declared.parse.frames.Frame.TheVariants as frame

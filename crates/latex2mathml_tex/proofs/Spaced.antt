@@ -7,7 +7,8 @@ use Rattle.latex2mathml_tex.specs.{Frames.Start, Levels.AtomMade, Levels.Level}
 use Rattle.latex2mathml_tex.specs.Levels as levels
 use Rattle.latex2mathml_tex.specs.Steps.{MadeAtom, left_of, level}
 use Rattle.latex2mathml_tex_units.specs.declared.input.Input.{Input}
-use Rattle.latex2mathml_tex.specs.declared.{atoms.Core.Core, parse.Parser.Parser}
+use Rattle.latex2mathml_tex_atoms.specs.declared.atoms.Core.{Core}
+use Rattle.latex2mathml_tex.specs.declared.parse.Parser.{Parser}
 use Rattle.latex2mathml_tex_grammar.proofs.Spaces.{past_twice}
 
 respaced : {e : Ending} {c : Context} {row : Row} {o : Outcome Row} (l m : Units) → past_space m ≡ past_space l → ReadsAtoms e c row l o → ReadsAtoms e c row m o

@@ -7,9 +7,10 @@ use Rattle.latex2mathml_elements.specs.Attributes as attributes
 use Rattle.latex2mathml_elements.specs.Attributes.{Attributes}
 use Rattle.latex2mathml_elements.specs.Columns.{Columns, Alike, Dense, InPairs}
 use Rattle.latex2mathml_elements.specs.Element.{Element, table}
-use Rattle.latex2mathml_builder.specs.{Built.Built, Built.elements_in, Columns.columns_of, Stacks.table_with}
-use Rattle.latex2mathml_builder.specs.declared.columns.Columns.{Columns as CodeColumns}
-use Rattle.latex2mathml_builder.specs.{Names.math_style_of, declared.attributes.MathStyle.MathStyle}
+use Rattle.latex2mathml_builder.specs.{Built.Built, Built.elements_in, Stacks.table_with}
+use Rattle.latex2mathml_attributes.specs.Columns.{columns_of}
+use Rattle.latex2mathml_attributes.specs.declared.columns.Columns.{Columns as CodeColumns}
+use Rattle.latex2mathml_attributes.specs.{Names.math_style_of, declared.attributes.MathStyle.MathStyle}
 use Rattle.latex2mathml_tex_grammar.specs.{Atoms.Plain, Atoms.atom, Makes.core, Refusal.Refusal}
 use Rattle.latex2mathml_tex_grammar.specs.Reading.{ReadsRows}
 use Rattle.latex2mathml_tex_grammar.specs.Rules.{ByBrace, ByName, ByText, Context as RuleContext, Rule, ended_table, gives, passes_over, reads_rows, rows_of_text, rows_rule, styled, takes_found}
@@ -18,14 +19,18 @@ use Rattle.latex2mathml_tex_grammar.specs.Symbols as symbols
 use Rattle.latex2mathml_tex_grammar.specs.Tables.{Lines, a_table, between_any, rows_of, rows_onto, said_style}
 use Rattle.latex2mathml_tex.specs.Frames.{Start, context_at}
 use Rattle.latex2mathml_tex.specs.Levels.{CoreMade, Refuses, RuleLeads}
-use Rattle.latex2mathml_tex_units.specs.{Errors.refusal_of, Left.unit_count, Left.units_at, Meanings.style_of}
-use Rattle.latex2mathml_tex.specs.Models.{context_of}
+use Rattle.latex2mathml_tex_units.specs.{Errors.refusal_of, Left.unit_count, Left.units_at}
+use Rattle.latex2mathml_tex_commands.specs.Meanings.{style_of}
+use Rattle.latex2mathml_tex_atoms.specs.Models.{context_of}
 use Rattle.latex2mathml_tex.specs.Steps.{Begins, BeginsIn, EndsRows, Follows, GoesOnTable, HasElements, Holds, InnermostIs, Advances, MakesTable, TookText, elements_of, frame_weight, left_of, level, to_do}
 use Rattle.latex2mathml_tex_units.specs.Environments.{delimiter_texts, environment_of}
 use Rattle.latex2mathml_tex.specs.Tables.{behind_rows}
-use Rattle.latex2mathml_tex.specs.{Innermost.frame_context, Models.core_with}
-use Rattle.latex2mathml_tex_units.specs.declared.{environments.Environment.Environment, error.TexError.TexError, input.Input.Input, meaning.Style.Style}
-use Rattle.latex2mathml_tex.specs.declared.{atoms.Context.Context, atoms.Core.Core as CodeCore, parse.Parser.Parser, parse.State.State}
+use Rattle.latex2mathml_tex.specs.Innermost.{frame_context}
+use Rattle.latex2mathml_tex_atoms.specs.Models.{core_with}
+use Rattle.latex2mathml_tex_units.specs.declared.{environments.Environment.Environment, error.TexError.TexError, input.Input.Input}
+use Rattle.latex2mathml_tex_commands.specs.declared.meaning.Style.{Style}
+use Rattle.latex2mathml_tex_atoms.specs.declared.{atoms.Context.Context, atoms.Core.Core as CodeCore}
+use Rattle.latex2mathml_tex.specs.declared.{parse.Parser.Parser, parse.State.State}
 use Rattle.latex2mathml_tex.specs.declared.parse.frames.Frame.{Frame}
 use Rattle.latex2mathml_tex.specs.declared.parse.State.TheVariants as state
 use Rattle.latex2mathml_tex.specs.declared.parse.frames.Table.{Table}

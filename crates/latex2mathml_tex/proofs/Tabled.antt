@@ -3,7 +3,8 @@ use Rattle.std.proofs.Common.{◌≡◌, ℕ, zero, suc, ◌+◌, ◌<◌, ◌�
 use Rattle.std.proofs.lemmas.List.{drop-drop, length-drop, length-take-le}
 use Rattle.latex2mathml_elements.specs.Columns.{Columns, column_at}
 use Rattle.latex2mathml_elements.specs.Element.{Element}
-use Rattle.latex2mathml_builder.specs.{Built.Built, Built.elements_in, Columns.columns_of}
+use Rattle.latex2mathml_builder.specs.Built.{Built, elements_in}
+use Rattle.latex2mathml_attributes.specs.Columns.{columns_of}
 use Rattle.latex2mathml_tex_grammar.specs.{Environments.before_cell, Rows.Row, Rows.row_element, Scanning.past_break}
 use Rattle.latex2mathml_tex_grammar.specs.Reading.{Outcome, Read, Refused, ReadsAtoms, ReadsRows, cell_read, cell_refused, next_cell, next_row, table_ends, text_ends_table}
 use Rattle.latex2mathml_tex_grammar.specs.Rules.{Context as RuleContext, InCell, TableEnd, in_context, styled}
@@ -11,14 +12,18 @@ use Rattle.latex2mathml_tex_grammar.specs.Starts.{PartsCells, EndsRow, EndsTable
 use Rattle.latex2mathml_tex_grammar.specs.Tables.{Lines, a_row, begun_cell, with_last}
 use Rattle.latex2mathml_tex_grammar.specs.Units.{Units, End}
 use Rattle.latex2mathml_tex.specs.Frames.{Start, context_at, inside}
-use Rattle.latex2mathml_tex.specs.Innermost.{empty_row, frame_context}
+use Rattle.latex2mathml_tex.specs.Innermost.{frame_context}
+use Rattle.latex2mathml_tex_atoms.specs.Models.{empty_row}
 use Rattle.latex2mathml_tex.specs.Levels.{CoreMade, Leads, Level, RuleLeads}
-use Rattle.latex2mathml_tex_units.specs.{Left.units_at, Meanings.style_of, Taking.piece_of, Taking.unit_of}
-use Rattle.latex2mathml_tex.specs.Models.{before_of, context_of, row_count, row_with}
+use Rattle.latex2mathml_tex_units.specs.{Left.units_at, Taking.piece_of, Taking.unit_of}
+use Rattle.latex2mathml_tex_commands.specs.Meanings.{style_of}
+use Rattle.latex2mathml_tex_atoms.specs.Models.{before_of, context_of, row_count, row_with}
 use Rattle.latex2mathml_tex.specs.Steps.{CanMake, ClosesCell, EndsCells, EndsRows, GoesOnTable, InnermostIs, core_made, elements_of, left_of, level, level_within}
 use Rattle.latex2mathml_tex.specs.Tables.{CellMade, RowsLead, TableMade, behind_rows, cell_context, cells_of, rows_of, style_in, table_end}
-use Rattle.latex2mathml_tex_units.specs.declared.{input.Input.Input, meaning.Style.Style, unit.Unit.Unit as CodeUnit}
-use Rattle.latex2mathml_tex.specs.declared.{atoms.Context.Context, atoms.Row.Row as CodeRow, parse.Parser.Parser}
+use Rattle.latex2mathml_tex_units.specs.declared.{input.Input.Input, unit.Unit.Unit as CodeUnit}
+use Rattle.latex2mathml_tex_commands.specs.declared.meaning.Style.{Style}
+use Rattle.latex2mathml_tex_atoms.specs.declared.{atoms.Context.Context, atoms.Row.Row as CodeRow}
+use Rattle.latex2mathml_tex.specs.declared.parse.Parser.{Parser}
 use Rattle.latex2mathml_tex.specs.declared.parse.frames.{Frame.Frame, Table.Table}
 use Rattle.latex2mathml_tex.specs.declared.parse.frames.Ending.TheVariants as ending
 use Rattle.latex2mathml_tex.specs.declared.parse.frames.Frame.TheVariants as frame

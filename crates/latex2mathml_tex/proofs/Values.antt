@@ -4,11 +4,13 @@ use Rattle.std.specs.declared.alloc.AllocError.{AllocError}
 use Rattle.latex2mathml_tex_grammar.specs.{Makes.Core, Reading.Outcome, Reading.Refused, Refusal.Refusal}
 use Rattle.latex2mathml_tex_grammar.specs.Rules.{Rule, takes_found, with_value}
 use Rattle.latex2mathml_tex_grammar.specs.Scanning.{Spot}
-use Rattle.latex2mathml_tex_units.specs.{Meanings.style_of, Errors.refusal_of, Left.unit_count}
+use Rattle.latex2mathml_tex_commands.specs.Meanings.{style_of}
+use Rattle.latex2mathml_tex_units.specs.{Errors.refusal_of, Left.unit_count}
 use Rattle.latex2mathml_tex.specs.{Frames.Start, Levels.CoreMade, Levels.RuleLeads}
 use Rattle.latex2mathml_tex.specs.Steps.{BeginsIn, CanBegin, Follows, HasElements, Holds, Advances, NoValue, TookText, TookValue, has_none, is_missing, left_of, level, to_do}
 use Rattle.latex2mathml_tex_units.specs.declared.error.TexError.{TexError}
-use Rattle.latex2mathml_tex.specs.declared.{atoms.Context.Context, parse.Parser.Parser, parse.State.State}
+use Rattle.latex2mathml_tex_atoms.specs.declared.atoms.Context.{Context}
+use Rattle.latex2mathml_tex.specs.declared.{parse.Parser.Parser, parse.State.State}
 use Rattle.latex2mathml_tex.specs.declared.parse.State.TheVariants as state
 use Rattle.latex2mathml_tex.proofs.Leading.{found, not_found, refused}
 use Rattle.latex2mathml_tex_units.proofs.Scanned.{no_more_scanned}

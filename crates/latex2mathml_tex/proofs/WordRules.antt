@@ -9,15 +9,18 @@ use Rattle.latex2mathml_tex_grammar.specs.Refusal.{CharacterInWords, CommandInWo
 use Rattle.latex2mathml_tex_grammar.specs.Units as grammar
 use Rattle.latex2mathml_tex_grammar.specs.Units.{Character, Command, Open, Piece}
 use Rattle.latex2mathml_tex_grammar.specs.Words.{BeginsFormula, IsWord, NoWord, Shown, meaning_rule, word_character, word_rule, word_space}
-use Rattle.latex2mathml_tex_units.specs.{Errors.refusal_of, Meanings.alphabet_of}
-use Rattle.latex2mathml_tex.specs.{Frames.Start, Innermost.empty_row, Levels.Leads, Levels.PartMade, Models.words_with}
-use Rattle.latex2mathml_tex_units.specs.Meanings
+use Rattle.latex2mathml_tex_units.specs.Errors.{refusal_of}
+use Rattle.latex2mathml_tex_commands.specs.Meanings.{alphabet_of}
+use Rattle.latex2mathml_tex.specs.{Frames.Start, Levels.Leads, Levels.PartMade}
+use Rattle.latex2mathml_tex_atoms.specs.Models.{empty_row, words_with}
+use Rattle.latex2mathml_tex_commands.specs.Meanings
 use Rattle.latex2mathml_tex.specs.Steps.{BeginsWordOf, HasElements, Holds, Advances, elements_of, left_of, level, level_within}
-use Rattle.latex2mathml_tex.specs.declared.{atoms.Row.Row as CodeRow, atoms.Words.Words as CodeWords, parse.Parser.Parser, parse.State.State, parse.frames.Frames.Frames}
-use Rattle.latex2mathml_tex_units.specs.declared.meaning.{Alphabet.Alphabet as CodeAlphabet, Change.Change as CodeChange, Meaning.Meaning as CodeMeaning, Symbol.Symbol as CodeSymbol}
-use Rattle.latex2mathml_tex_units.specs.declared.meaning.Change.TheVariants as code_change
-use Rattle.latex2mathml_tex_units.specs.declared.meaning.Meaning.TheVariants as code_meaning
-use Rattle.latex2mathml_tex_units.specs.declared.meaning.Style.TheVariants as code_style
+use Rattle.latex2mathml_tex_atoms.specs.declared.{atoms.Row.Row as CodeRow, atoms.Words.Words as CodeWords}
+use Rattle.latex2mathml_tex.specs.declared.{parse.Parser.Parser, parse.State.State, parse.frames.Frames.Frames}
+use Rattle.latex2mathml_tex_commands.specs.declared.meaning.{Alphabet.Alphabet as CodeAlphabet, Change.Change as CodeChange, Meaning.Meaning as CodeMeaning, Symbol.Symbol as CodeSymbol}
+use Rattle.latex2mathml_tex_commands.specs.declared.meaning.Change.TheVariants as code_change
+use Rattle.latex2mathml_tex_commands.specs.declared.meaning.Meaning.TheVariants as code_meaning
+use Rattle.latex2mathml_tex_commands.specs.declared.meaning.Style.TheVariants as code_style
 use Rattle.latex2mathml_tex.specs.declared.parse.State.TheVariants as state
 use Rattle.latex2mathml_tex.specs.declared.parse.frames.Ending.TheVariants as ending
 use Rattle.latex2mathml_tex.specs.declared.parse.frames.Frame.TheVariants as frame

@@ -4,11 +4,14 @@ use Rattle.latex2mathml_tex_grammar.specs.Refusal.{MissingArgument, Refusal, ref
 use Rattle.latex2mathml_tex_grammar.specs.Units as grammar
 use Rattle.latex2mathml_tex_grammar.specs.Units.{Close, Units, Next, End, Stop}
 use Rattle.latex2mathml_tex_grammar.specs.{Starts.is_close, Words.word_rule}
-use Rattle.latex2mathml_tex_units.specs.{Errors.refusal_of, Left.units_at, Meanings.alphabet_of, Taking.piece_of, Taking.unit_of}
+use Rattle.latex2mathml_tex_units.specs.{Errors.refusal_of, Left.units_at, Taking.piece_of, Taking.unit_of}
+use Rattle.latex2mathml_tex_commands.specs.Meanings.{alphabet_of}
 use Rattle.latex2mathml_tex.specs.{Frames.Start, Innermost.IsInnermost}
 use Rattle.latex2mathml_tex.specs.Steps.{BeginsWordOf, Holds, left_of, level}
-use Rattle.latex2mathml_tex_units.specs.declared.{input.Input.Input, meaning.Alphabet.Alphabet as CodeAlphabet, meaning.Style.Style, unit.Piece.Piece, unit.Unit.Unit}
-use Rattle.latex2mathml_tex.specs.declared.{atoms.Words.Words as CodeWords, parse.Parser.Parser, parse.frames.Frame.Frame}
+use Rattle.latex2mathml_tex_units.specs.declared.{input.Input.Input, unit.Piece.Piece, unit.Unit.Unit}
+use Rattle.latex2mathml_tex_commands.specs.declared.{meaning.Alphabet.Alphabet as CodeAlphabet, meaning.Style.Style}
+use Rattle.latex2mathml_tex_atoms.specs.declared.atoms.Words.{Words as CodeWords}
+use Rattle.latex2mathml_tex.specs.declared.{parse.Parser.Parser, parse.frames.Frame.Frame}
 use Rattle.latex2mathml_tex.specs.declared.parse.State.TheVariants as state
 use Rattle.latex2mathml_tex_units.specs.declared.unit.Piece.TheVariants as code_piece
 use Rattle.latex2mathml_tex.proofs.Leading.{word_ended, word_halted, word_is_missing}

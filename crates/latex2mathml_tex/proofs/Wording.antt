@@ -13,17 +13,19 @@ use Rattle.latex2mathml_tex_grammar.specs.Words.{Word, Words, Shown, Formula, No
 use Rattle.latex2mathml_tex_units.specs.{Errors.refusal_of, Left.units_at}
 use Rattle.latex2mathml_tex.specs.Frames.{Start, Whole, inside}
 use Rattle.latex2mathml_tex.specs.Levels.{Level, PartMade, WordLeads, words}
-use Rattle.latex2mathml_tex_units.specs.Meanings.{alphabet_of, style_of}
-use Rattle.latex2mathml_tex.specs.{Models.core_with, Models.row_with, Models.top, Models.words_with, Shapes.IsPut}
+use Rattle.latex2mathml_tex_commands.specs.Meanings.{alphabet_of, style_of}
+use Rattle.latex2mathml_tex_atoms.specs.{Models.core_with, Models.row_with, Models.top, Models.words_with, Shapes.IsPut}
 use Rattle.latex2mathml_tex.specs.Steps.{Begins, BeginsWordOf, CanMake, Follows, Holds, WordGiven, elements_of, left_of, level, to_do, words_made}
-use Rattle.latex2mathml_tex_units.specs.declared.{input.Input.Input, meaning.Alphabet.Alphabet as CodeAlphabet}
-use Rattle.latex2mathml_tex.specs.declared.{atoms.Core.Core as CodeCore, atoms.Row.Row as CodeRow, atoms.Words.Words as CodeWords, parse.Parser.Parser}
+use Rattle.latex2mathml_tex_units.specs.declared.input.Input.{Input}
+use Rattle.latex2mathml_tex_commands.specs.declared.meaning.Alphabet.{Alphabet as CodeAlphabet}
+use Rattle.latex2mathml_tex_atoms.specs.declared.{atoms.Core.Core as CodeCore, atoms.Row.Row as CodeRow, atoms.Words.Words as CodeWords}
+use Rattle.latex2mathml_tex.specs.declared.parse.Parser.{Parser}
 use Rattle.latex2mathml_tex.specs.declared.parse.State.TheVariants as state
 use Rattle.latex2mathml_tex.specs.declared.parse.frames.Frame.{Frame}
 use Rattle.latex2mathml_tex.specs.declared.parse.frames.Frame.TheVariants as frame
 use Rattle.std.proofs.lemmas.List.{reverse-append}
 use Rattle.latex2mathml_tex.specs.Innermost.{IsInnermost, none_begun, on_top}
-use Rattle.latex2mathml_tex_units.specs.declared.meaning.Style.{Style as CodeStyle}
+use Rattle.latex2mathml_tex_commands.specs.declared.meaning.Style.{Style as CodeStyle}
 use Rattle.latex2mathml_tex.specs.declared.parse.frames.Frames.{Frames}
 use Rattle.latex2mathml_tex_grammar.specs.Starts.{is_close}
 use Rattle.latex2mathml_tex.proofs.Leading.{given, word_given, word_refused_at, words_ended, words_halted, words_in_alphabet_due, words_unended, word_due}

@@ -2,7 +2,7 @@
 -- the first of the elements that stand beside it, the uppermost first.
 use Rattle.std.specs.Prelude.{◌≡◌, ℕ, zero, suc, ◌+◌, Bool, true, IsFalse, List, [], ◌∷◌, drop, reverse, option_map, Some}
 use Rattle.latex2mathml_elements.specs.{Attributes.Above, Attributes.plain, Element.Element, Element.Mover, Element.Munderover, Element.pair, Element.triple}
-use Rattle.latex2mathml_builder.specs.Names.{side_of, stretch_of}
+use Rattle.latex2mathml_attributes.specs.Names.{side_of, stretch_of}
 use Rattle.latex2mathml_tex_grammar.specs.Makes as makes
 use Rattle.latex2mathml_tex_grammar.specs.Makes.{Core, core, group, classed, operator_name, accent, brace, stack, fraction, outlined_fraction, square_root, root, between_delimiters, struck, boxed_atom}
 use Rattle.latex2mathml_tex_grammar.specs.Reading.{Outcome, Read, Refused, ReadsAtoms, ReadsRule}
@@ -11,13 +11,14 @@ use Rattle.latex2mathml_tex_grammar.specs.Rows.{Operand, Row, as_base, empty_row
 use Rattle.latex2mathml_tex_grammar.specs.Rules as rules
 use Rattle.latex2mathml_tex_grammar.specs.Rules.{Context, Rule, gives, of_one, rows_of_text, slashed, struck_atom, takes_delimiter, WholeText, InBraces, InBrackets, InDollars, InDelimiters, InCell}
 use Rattle.latex2mathml_tex_grammar.specs.Words.{words_atom}
-use Rattle.latex2mathml_tex.specs.{Levels.AtomMade, Levels.as_operand, Levels.as_words, Levels.CoreMade, Levels.Level, Levels.OperandMade, Levels.PartMade, Levels.RuleLeads, Levels.ScriptsLead, Levels.Then}
+use Rattle.latex2mathml_tex.specs.Levels.{AtomMade, as_operand, as_words, CoreMade, Level, OperandMade, PartMade, RuleLeads, ScriptsLead, Then}
 use Rattle.latex2mathml_tex.specs.Levels as level
-use Rattle.latex2mathml_tex_units.specs.Meanings.{alphabet_of, box_of, class_of, fraction_rule_of, limit_place_of, style_of}
-use Rattle.latex2mathml_tex.specs.Models.{context_of, core_with, row_count, row_with, script_count, scripts_with, top, words_with}
-use Rattle.latex2mathml_tex.specs.{Outlines.outline_of, Tables.TableMade, Tables.table_end}
-use Rattle.latex2mathml_tex_units.specs.Delimiters.{delimiter_text}
-use Rattle.latex2mathml_tex.specs.declared.atoms.{Core.Core as CodeCore, Scripts.Scripts}
+use Rattle.latex2mathml_tex_commands.specs.Meanings.{alphabet_of, box_of, class_of, fraction_rule_of, limit_place_of, style_of}
+use Rattle.latex2mathml_tex_atoms.specs.Models.{context_of, core_with, has_script, row_count, row_with, script_count, scripts_with, top, words_with}
+use Rattle.latex2mathml_tex_atoms.specs.Outlines.{outline_of}
+use Rattle.latex2mathml_tex.specs.Tables.{TableMade, table_end}
+use Rattle.latex2mathml_tex_commands.specs.Delimiters.{delimiter_text}
+use Rattle.latex2mathml_tex_atoms.specs.declared.atoms.{Core.Core as CodeCore, Scripts.Scripts}
 use Rattle.latex2mathml_tex.specs.declared.parse.Form.{Form}
 use Rattle.latex2mathml_tex.specs.declared.parse.Form.TheVariants as form
 use Rattle.latex2mathml_tex.specs.declared.parse.frames.{Ending.Ending, First.First, Frame.Frame, Last.Last}
@@ -25,8 +26,8 @@ use Rattle.latex2mathml_tex.specs.declared.parse.frames.Ending.TheVariants as en
 use Rattle.latex2mathml_tex.specs.declared.parse.frames.First.TheVariants as first
 use Rattle.latex2mathml_tex.specs.declared.parse.frames.Frame.TheVariants as frame
 use Rattle.latex2mathml_tex.specs.declared.parse.frames.Last.TheVariants as last
-use Rattle.latex2mathml_builder.specs.declared.attributes.Side.{Side}
-use Rattle.latex2mathml_builder.specs.declared.attributes.Side.TheVariants as side
+use Rattle.latex2mathml_attributes.specs.declared.attributes.Side.{Side}
+use Rattle.latex2mathml_attributes.specs.declared.attributes.Side.TheVariants as side
 
 -- what units come to, read in this form
 abbrev pub ReadsAs : Form → Style → Units → Outcome Row → Type 0
@@ -137,11 +138,6 @@ past_primes s scripts xs = drop (primes_put s scripts.primes) xs
 -- the atom that scripts stand on
 abbrev pub base_of : CodeCore → Scripts → List Element → Core
 base_of c scripts xs = core_with c (top (drop (script_count scripts) xs))
-
--- whether a script stands on this side
-abbrev pub has_script : Side → Scripts → Bool
-has_script side.Below scripts = scripts.below
-has_script side.Above scripts = scripts.above
 
 -- where the outcome of a script's operand leads; it is read where no script stands on this side
 abbrev pub ScriptMade : Level → CodeCore → Scripts → Side → List Element → Outcome Operand → Type 0

@@ -1,17 +1,12 @@
 -- The innermost frame of a stack of frames.
-use Rattle.std.specs.Prelude.{◌≡◌, List, [], ◌∷◌, ◌++◌, false, None}
-use Rattle.latex2mathml_tex.specs.declared.atoms.{Context.Context, Row.Row}
-use Rattle.latex2mathml_tex.specs.declared.atoms.Before.TheVariants as before
-use Rattle.latex2mathml_tex_units.specs.declared.meaning.Class.TheVariants as class
-use Rattle.latex2mathml_tex_units.specs.declared.meaning.Style.{Style}
-use Rattle.latex2mathml_tex_units.specs.declared.meaning.Style.TheVariants as style
+use Rattle.std.specs.Prelude.{◌≡◌, List, [], ◌∷◌, ◌++◌, None}
+use Rattle.latex2mathml_tex_atoms.specs.declared.atoms.{Context.Context, Row.Row}
+use Rattle.latex2mathml_tex_atoms.specs.Models.{empty_row}
+use Rattle.latex2mathml_tex_commands.specs.declared.meaning.Style.{Style}
+use Rattle.latex2mathml_tex_commands.specs.declared.meaning.Style.TheVariants as style
 use Rattle.latex2mathml_tex.specs.declared.parse.frames.Frame.{Frame}
 use Rattle.latex2mathml_tex.specs.declared.parse.frames.Ending.TheVariants as ending
 use Rattle.latex2mathml_tex.specs.declared.parse.frames.Frame.TheVariants as frame
-
--- a row without atoms
-abbrev pub empty_row : Row
-empty_row = record { count = 0; before = before.Nothing; ends_in_word = false; high = false; class = class.Ordinary; restyled = None; settled = 0; under = None }
 
 -- the row of a whole formula of this style, before its first atom
 abbrev pub begun_row : Style → Frame

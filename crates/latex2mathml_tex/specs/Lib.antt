@@ -2,11 +2,8 @@ pub mod Answers
 pub mod Frames
 pub mod Innermost
 pub mod Levels
-pub mod Models
 pub mod Numbers
-pub mod Outlines
 pub mod ReadRows
-pub mod Shapes
 pub mod Steps
 pub mod Tables
 pub mod TakenBy

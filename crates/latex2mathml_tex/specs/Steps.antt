@@ -3,20 +3,20 @@ use Rattle.std.specs.Prelude.{◌≡◌, ℕ, ◌+◌, ◌*◌, ◌<◌, ◌≤�
 use Rattle.std.specs.declared.alloc.AllocError.{AllocError}
 use Rattle.latex2mathml_elements.specs.Element.{Element}
 use Rattle.latex2mathml_builder.specs.Built.{elements_in}
-use Rattle.latex2mathml_builder.specs.declared.attributes.Side.{Side}
+use Rattle.latex2mathml_attributes.specs.declared.attributes.Side.{Side}
 use Rattle.latex2mathml_tex_grammar.specs.Atoms.{Atom}
 use Rattle.latex2mathml_tex_grammar.specs.Makes.{Scripts, core, divider}
 use Rattle.latex2mathml_tex_grammar.specs.Meaning.{Change}
 use Rattle.latex2mathml_tex_grammar.specs.Next.{past_space}
 use Rattle.latex2mathml_tex_grammar.specs.Reading.{Read, Refused, Outcome, ReadsRows}
 use Rattle.latex2mathml_tex_grammar.specs.{Refusal.Refusal, Rests.finished, Rows.Row, Starts.unended}
-use Rattle.latex2mathml_builder.specs.Columns.{columns_of}
+use Rattle.latex2mathml_attributes.specs.Columns.{columns_of}
 use Rattle.latex2mathml_tex_units.specs.Environments.{delimiter_texts}
 use Rattle.latex2mathml_tex.specs.Tables.{RowsLead, after_rows, behind_rows, cell_context, cells_of, rows_of, table_end}
 use Rattle.latex2mathml_tex_grammar.specs.Tables.{Lines, a_table, with_last}
 use Rattle.latex2mathml_tex_grammar.specs.Scanning.{Spot, Given, Missing, scan}
-use Rattle.latex2mathml_builder.specs.declared.columns.Columns.{Columns}
-use Rattle.latex2mathml_tex_units.specs.declared.meaning.Style.{Style}
+use Rattle.latex2mathml_attributes.specs.declared.columns.Columns.{Columns}
+use Rattle.latex2mathml_tex_commands.specs.declared.meaning.Style.{Style}
 use Rattle.latex2mathml_tex_grammar.specs.Rules.{Rule, a_number, gives, rule, takes_delimiter}
 use Rattle.latex2mathml_tex_grammar.specs.{Symbols.Alphabet, Symbols.Class, Words.Word, Words.with_word}
 use Rattle.latex2mathml_tex_grammar.specs.Starts as starts
@@ -27,13 +27,15 @@ use Rattle.latex2mathml_tex.specs.Innermost.{IsInnermost}
 use Rattle.latex2mathml_tex.specs.Frames.{RowMade, ScriptMade, Start, Whole, after_first, base_of, context_at, element_count, ending_count, ending_of, inside, primes_put, within}
 use Rattle.latex2mathml_tex_units.specs.Left.{unit_count, units_at}
 use Rattle.latex2mathml_tex.specs.Levels.{AtomMade, CoreMade, Leads, Level, OperandMade, PartMade, RestLeads, RuleLeads, ScriptsLead, Then, WordLeads, as_atom}
-use Rattle.latex2mathml_tex_units.specs.Meanings.{alphabet_of, limit_place_of, style_of}
-use Rattle.latex2mathml_tex.specs.Models.{context_of, core_with, operand_with, row_count, row_with, script_count, scripts_with, top, words_with}
+use Rattle.latex2mathml_tex_commands.specs.Meanings.{alphabet_of, limit_place_of, style_of}
+use Rattle.latex2mathml_tex_atoms.specs.Models.{context_of, core_with, operand_with, row_count, row_with, script_count, scripts_with, top, words_with}
 use Rattle.latex2mathml_tex.specs.Numbers.{after_point}
-use Rattle.latex2mathml_tex_units.specs.declared.{meaning.Alphabet.Alphabet as CodeAlphabet, meaning.Style.Style as CodeStyle, unit.Unit.Unit}
-use Rattle.latex2mathml_tex.specs.declared.{atoms.Context.Context, atoms.Core.Core as CodeCore, atoms.Operand.Operand as CodeOperand, atoms.Row.Row as CodeRow, atoms.Scripts.Scripts as CodeScripts, atoms.Words.Words as CodeWords, parse.Form.Form, parse.Parser.Parser, parse.State.State, parse.scripts.Mark.Mark}
+use Rattle.latex2mathml_tex_commands.specs.declared.{meaning.Alphabet.Alphabet as CodeAlphabet, meaning.Style.Style as CodeStyle}
+use Rattle.latex2mathml_tex_units.specs.declared.unit.Unit.{Unit}
+use Rattle.latex2mathml_tex_atoms.specs.declared.{atoms.Context.Context, atoms.Core.Core as CodeCore, atoms.Operand.Operand as CodeOperand, atoms.Row.Row as CodeRow, atoms.Scripts.Scripts as CodeScripts, atoms.Words.Words as CodeWords}
+use Rattle.latex2mathml_tex.specs.declared.{parse.Form.Form, parse.Parser.Parser, parse.State.State, parse.scripts.Mark.Mark}
 use Rattle.latex2mathml_tex.specs.declared.parse.scripts.Mark.TheVariants as mark
-use Rattle.latex2mathml_builder.specs.declared.attributes.Side.TheVariants as side
+use Rattle.latex2mathml_attributes.specs.declared.attributes.Side.TheVariants as side
 use Rattle.latex2mathml_tex.specs.declared.parse.State.TheVariants as state
 use Rattle.latex2mathml_tex.specs.declared.parse.frames.{Ending.Ending, First.First, Frame.Frame, Table.Table, TableKind.TableKind}
 use Rattle.latex2mathml_tex.specs.declared.parse.frames.Ending.TheVariants as ending

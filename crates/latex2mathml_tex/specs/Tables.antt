@@ -2,7 +2,7 @@
 use Rattle.std.specs.Prelude.{◌≡◌, ℕ, List, drop, None, take}
 use Rattle.std.specs.Str.{bytes_eq}
 use Rattle.latex2mathml_elements.specs.Columns.{Columns as DefinedColumns}
-use Rattle.latex2mathml_builder.specs.Columns.{columns_of}
+use Rattle.latex2mathml_attributes.specs.Columns.{columns_of}
 use Rattle.latex2mathml_tex_grammar.specs.{Next.past_space, Reading.ReadsBehindCell, Rows.Row, Tables.Lines, Tables.a_table}
 use Rattle.latex2mathml_tex_grammar.specs.Makes.{Core}
 use Rattle.latex2mathml_tex_grammar.specs.Reading.{Outcome, Read, Refused}
@@ -12,7 +12,8 @@ use Rattle.latex2mathml_tex_grammar.specs.Scanning.{BeforeArgument, Name}
 use Rattle.latex2mathml_tex_grammar.specs.Starts as starts
 use Rattle.latex2mathml_tex_grammar.specs.Symbols as symbols
 use Rattle.latex2mathml_tex_grammar.specs.Units.{Unit, Units, Next, End}
-use Rattle.latex2mathml_tex_units.specs.{Environments.environment_of, Meanings.style_of}
+use Rattle.latex2mathml_tex_units.specs.Environments.{environment_of}
+use Rattle.latex2mathml_tex_commands.specs.Meanings.{style_of}
 use Rattle.latex2mathml_tex.specs.Levels.{RuleLeads}
 use Rattle.latex2mathml_tex.specs.declared.parse.frames.{Table.Table, TableKind.TableKind}
 use Rattle.latex2mathml_tex.specs.declared.parse.frames.TableKind.TheVariants as kind

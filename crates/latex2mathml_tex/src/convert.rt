@@ -8,21 +8,23 @@ ghost use Rattle.latex2mathml_builder.specs.Built.{elements_in, nothing, uppermo
 ghost use Rattle.latex2mathml_trees.specs.MathSchema.{IsMathElement};
 ghost use Rattle.latex2mathml_tex_units.specs.{Errors.IfRefused, Errors.is_outside_error, MacroTables.AreDefined, MacroTables.Holding};
 ghost use Rattle.latex2mathml_tex.specs.Answers.{IsAnswer, IsAnswerWithSource, IsRefusal, style_in};
-ghost use Rattle.latex2mathml_tex_units.specs.{Left.units_at, Meanings.style_of, Whole.whole_units};
-ghost use Rattle.latex2mathml_tex.specs.{Frames.ReadsAs, Models.top, ReadRows.AreUppermost, ReadRows.HasRead, Steps.left_of};
+ghost use Rattle.latex2mathml_tex_units.specs.{Left.units_at, Whole.whole_units};
+ghost use Rattle.latex2mathml_tex_commands.specs.Meanings.{style_of};
+ghost use Rattle.latex2mathml_tex.specs.{Frames.ReadsAs, ReadRows.AreUppermost, ReadRows.HasRead, Steps.left_of};
+ghost use Rattle.latex2mathml_tex_atoms.specs.Models.{top};
 ghost use Rattle.latex2mathml_tex_grammar.specs.{Formulas.IsReading, Formulas.ReadsFormula, Formulas.source_text, Makes.is_display, Reading.Refused, Rows.Row};
 
 use crate::annotation::{append_alternative, append_annotation};
 use crate::parse::frames::Frames;
 use crate::parse::{Form, Parser};
-use crate::shapes::put_row;
 use latex2mathml_builder::builder::Builder;
 use latex2mathml_builder::works::Works;
+use latex2mathml_tex_atoms::shapes::put_row;
+use latex2mathml_tex_commands::meaning::Style;
 use latex2mathml_tex_units::error::{TexError, TexErrorKind};
 use latex2mathml_tex_units::macros::expander::Expander;
 use latex2mathml_tex_units::macros::table::Macros;
 use latex2mathml_tex_units::macros::whole::Whole;
-use latex2mathml_tex_units::meaning::Style;
 use latex2mathml_tex_units::unit::Unit;
 use latex2mathml_tokens::DisplayStyle;
 use std::alloc::{AllocError, Global};

@@ -10,14 +10,8 @@
 #![tactic(auto)]
 
 mod annotation;
-mod atoms;
-mod boxes;
 mod convert;
-mod fractions;
-mod outlines;
 mod parse;
-mod rests;
-mod shapes;
 
 pub use convert::{Converter, tex_to_mathml, tex_to_mathml_with_source};
 pub use latex2mathml_tex_units::error::{TexError, TexErrorKind};

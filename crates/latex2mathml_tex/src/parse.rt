@@ -3,7 +3,8 @@
 ghost use Rattle.std.specs.Prelude.{◌≡◌, ◌≢◌, ◌+◌, ℕ, [], IfOk, IsTrue, Some};
 ghost use Rattle.latex2mathml_tex_grammar.specs.{Next.past_space, Next.refusal_here};
 ghost use Rattle.latex2mathml_tex_grammar.specs.Refusal.{MissingDelimiter, refusal_at};
-ghost use Rattle.latex2mathml_tex_units.specs.{Errors.refusal_of, Left.units_at, Meanings.style_of, Taking.kind_of, Whole.whole_units};
+ghost use Rattle.latex2mathml_tex_units.specs.{Errors.refusal_of, Left.units_at, Taking.kind_of, Whole.whole_units};
+ghost use Rattle.latex2mathml_tex_commands.specs.Meanings.{style_of};
 ghost use Rattle.latex2mathml_tex.specs.{Frames.Start, Frames.element_count, Levels.Leads};
 ghost use Rattle.latex2mathml_tex.specs.Steps.{CanMake, Holds, HoldsIn, Advances, LeadsOn, Ready, accepts, core_made, frame_weight, last_state, left_of, level_within, makes, start_of, state_weight};
 
@@ -23,13 +24,13 @@ mod tables;
 mod values;
 mod words;
 
-use crate::atoms::{Core, Operand, Scripts, Words};
 use crate::parse::frames::{Frame, Frames};
 use latex2mathml_builder::builder::Builder;
+use latex2mathml_tex_atoms::atoms::{Core, Operand, Scripts, Words};
+use latex2mathml_tex_commands::meaning::{Alphabet, Style};
 use latex2mathml_tex_units::error::{TexError, TexErrorKind};
 use latex2mathml_tex_units::input::Input;
 use latex2mathml_tex_units::macros::whole::Whole;
-use latex2mathml_tex_units::meaning::{Alphabet, Style};
 use latex2mathml_tex_units::unit::{Fault, Next};
 use std::alloc::{AllocError, Global};
 use std::mem;

@@ -19,7 +19,7 @@ use Rattle.clap.specs.declared.parser.matches.ArgMatches.{ArgMatches}
 use Rattle.latex2mathml_tex_program.specs.Requests.{IsAsked, IsDisplay, IsGiven, definitions_rule, display_rule, flag_rule, program}
 use Rattle.latex2mathml_tex_program.specs.declared.request.Request.{Request}
 
--- memory was wanting
+-- memory ran out
 pub no_memory : (kinds : Kinds) (P : Request → Type 0) (result : Result Request Error)
     → IsErrAnd result (λ e. kind_of e ≡ OutOfMemory)
     → FailsBy kinds result × IfOk result P

@@ -65,7 +65,7 @@ IsAsked rows request =
     × (option_map (λ name. name.now) request.definitions ≡ first_of (codes "definitions") rows)
 
 -- The answer to the words: the request, or an error whose kind says what is wrong with them or what else they ask for. Memory
--- may be wanting in place of anything.
+-- may run out in place of anything.
 abbrev pub IsRequested : List Text → Result Request Error → Type 0
 IsRequested words result =
     (choice : ValueParser)

@@ -4,7 +4,7 @@ use Rattle.std.proofs.Math.Seq.{take-suc}
 use Rattle.std.proofs.lemmas.{Bool.Decides.nat_tests, List.length-take-le}
 use Rattle.std.specs.Str.{bytes_eq}
 use Rattle.latex2mathml_elements.specs.Columns.{Column, Columns, Listed}
-use Rattle.latex2mathml_builder.specs.Columns.{has_room, listed_behind}
+use Rattle.latex2mathml_attributes.specs.Columns.{has_room, listed_behind}
 use Rattle.latex2mathml_tex_grammar.specs.Environments.{column_of, columns_of, entry_environment}
 use Rattle.latex2mathml_tex_units.specs.{Environments.entry_of, Environments.environment_of, declared.environments.Environment.Environment}
 

@@ -2,7 +2,8 @@
 use Rattle.std.specs.Prelude.{ℕ, List, [], ◌∷◌, option_map, Option}
 use Rattle.latex2mathml_elements.specs.Columns.{Centered, LeftAligned, RightAligned, Dense, Columns, Alike, InPairs, Listed}
 use Rattle.latex2mathml_tex_grammar.specs.Environments as environments
-use Rattle.latex2mathml_tex_units.specs.{Delimiters.delimiter_text, Meanings.style_of, Scans.argument_of}
+use Rattle.latex2mathml_tex_commands.specs.{Delimiters.delimiter_text, Meanings.style_of}
+use Rattle.latex2mathml_tex_units.specs.Scans.{argument_of}
 use Rattle.latex2mathml_tex_units.specs.declared.environments.{Bracket.Bracket, Environment.Environment, Layout.Layout}
 use Rattle.latex2mathml_tex_units.specs.declared.environments.Bracket.TheVariants as bracket
 use Rattle.latex2mathml_tex_units.specs.declared.environments.Layout.TheVariants as layout

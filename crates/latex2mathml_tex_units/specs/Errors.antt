@@ -1,7 +1,7 @@
 -- The refusals that errors report.
 use Rattle.std.specs.Prelude.{Bool, true, false, IfErr, IfSome, Option, Result, Ok, Err, Some, None, option_map, string_bytes}
-use Rattle.latex2mathml_builder.specs.declared.attributes.Side.{Side}
-use Rattle.latex2mathml_builder.specs.declared.attributes.Side.TheVariants as side
+use Rattle.latex2mathml_attributes.specs.declared.attributes.Side.{Side}
+use Rattle.latex2mathml_attributes.specs.declared.attributes.Side.TheVariants as side
 use Rattle.latex2mathml_tex_grammar.specs.Refusal as refusal
 use Rattle.latex2mathml_tex_units.specs.declared.error.{TexError.TexError, TexErrorKind.TexErrorKind}
 use Rattle.latex2mathml_tex_units.specs.declared.error.TexErrorKind.TheVariants as kind

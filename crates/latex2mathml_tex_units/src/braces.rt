@@ -3,7 +3,8 @@ ghost use Rattle.std.specs.Prelude.{◌≡◌, ◌≤◌, ◌∷◌, ◌++◌, �
 ghost use Rattle.latex2mathml_tex_grammar.specs.{Delimiters.delimiter_of, Next.next_are};
 ghost use Rattle.latex2mathml_tex_grammar.specs.Refusal.{MissingDelimiter, refusal_at};
 ghost use Rattle.latex2mathml_tex_grammar.specs.Rules.{a_left_brace, a_right_brace, an_outer_delimiter, empty_braces};
-ghost use Rattle.latex2mathml_tex_units.specs.{Delimiters.delimiter_text, Left.unit_count, Left.units_at};
+ghost use Rattle.latex2mathml_tex_commands.specs.Delimiters.{delimiter_text};
+ghost use Rattle.latex2mathml_tex_units.specs.Left.{unit_count, units_at};
 ghost use Rattle.latex2mathml_tex_units.specs.HandedOn.{HandsOn, Stops};
 
 use crate::input::Input;

@@ -1,16 +1,18 @@
 //! Delimiters, and the relations that have a sign of their own when negated.
-ghost use Rattle.std.specs.Prelude.{◌≡◌, option_map};
-ghost use Rattle.latex2mathml_tex_grammar.specs.Delimiters.{delimiter_characters, delimiter_commands, delimiter_of, entry_of_character, entry_of_name, negated_characters, negated_commands, negated_of, text_of};
-ghost use Rattle.latex2mathml_tex_units.specs.{Delimiters.delimiter_text, Taking.piece_of};
+ghost use Rattle.std.specs.Prelude.{◌≡◌, map, option_map};
+ghost use Rattle.latex2mathml_tex_grammar.specs.Delimiters.{delimiter_characters, delimiter_commands, delimiter_of, entry_of_character, negated_characters, negated_commands, negated_of, text_of};
+ghost use Rattle.latex2mathml_tex_commands.specs.{Delimiters.delimiter_text, Named.named_entry};
+ghost use Rattle.latex2mathml_tex_units.specs.Taking.{piece_of};
 
 use crate::unit::Piece;
+use latex2mathml_tex_commands::named::{Named, find};
 
 /// The delimiter that this piece is, if it is one. A point is the empty delimiter, which has no character.
 pub fn delimiter_of(piece: Piece) -> Option<Option<char>>
     ensures { delimiter_of (piece_of piece.entry) ≡ option_map delimiter_text result }
 {
     match piece {
-        Piece::Command(name) => delimiter_command(name).map(Some),
+        Piece::Command(name) => find(delimiter_commands(), name).map(Some),
         Piece::Character('.') => Some(None),
         Piece::Character(c) => delimiter_character(c).map(Some),
         Piece::Space | Piece::Open | Piece::Close => None,
@@ -22,47 +24,9 @@ pub fn negated_of(piece: Piece) -> Option<char>
     ensures { negated_of (piece_of piece.entry) ≡ text_of result }
 {
     match piece {
-        Piece::Command(name) => negated_command(name),
+        Piece::Command(name) => find(negated_commands(), name),
         Piece::Character(c) => negated_character(c),
         Piece::Space | Piece::Open | Piece::Close => None,
-    }
-}
-
-#[tactic(auto, unfolding(latex2mathml_tex_grammar::specs::Delimiters::delimiter_commands))]
-fn delimiter_command(name: &str) -> Option<char>
-    ensures { result ≡ entry_of_name delimiter_commands name.now }
-{
-    match name {
-        "Downarrow" => Some('⇓'),
-        "Uparrow" => Some('⇑'),
-        "Updownarrow" => Some('⇕'),
-        "Vert" | "lVert" | "rVert" | "|" => Some('‖'),
-        "backslash" => Some('\\'),
-        "downarrow" => Some('↓'),
-        "gt" | "rangle" => Some('⟩'),
-        "langle" | "lt" => Some('⟨'),
-        "lbrace" | "{" => Some('{'),
-        "lbrack" => Some('['),
-        "lceil" => Some('⌈'),
-        "lfloor" => Some('⌊'),
-        "lgroup" => Some('⟮'),
-        "llbracket" => Some('⟦'),
-        "lmoustache" => Some('⎰'),
-        "lparen" => Some('('),
-        "lvert" | "rvert" | "vert" => Some('|'),
-        "rbrace" | "}" => Some('}'),
-        "rbrack" => Some(']'),
-        "rceil" => Some('⌉'),
-        "rfloor" => Some('⌋'),
-        "rgroup" => Some('⟯'),
-        "rmoustache" => Some('⎱'),
-        "rparen" => Some(')'),
-        "rrbracket" => Some('⟧'),
-        "ulcorner" => Some('⌜'),
-        "uparrow" => Some('↑'),
-        "updownarrow" => Some('↕'),
-        "urcorner" => Some('⌝'),
-        _ => None,
     }
 }
 
@@ -80,34 +44,6 @@ fn delimiter_character(c: char) -> Option<char>
     }
 }
 
-#[tactic(auto, unfolding(latex2mathml_tex_grammar::specs::Delimiters::negated_commands))]
-fn negated_command(name: &str) -> Option<char>
-    ensures { result ≡ entry_of_name negated_commands name.now }
-{
-    match name {
-        "approx" => Some('≉'),
-        "cong" => Some('≇'),
-        "equiv" => Some('≢'),
-        "exists" => Some('∄'),
-        "ge" | "geq" => Some('≱'),
-        "in" => Some('∉'),
-        "le" | "leq" => Some('≰'),
-        "mid" => Some('∤'),
-        "models" => Some('⊭'),
-        "ni" => Some('∌'),
-        "parallel" => Some('∦'),
-        "prec" => Some('⊀'),
-        "sim" => Some('≁'),
-        "subset" => Some('⊄'),
-        "subseteq" => Some('⊈'),
-        "succ" => Some('⊁'),
-        "supset" => Some('⊅'),
-        "supseteq" => Some('⊉'),
-        "vdash" => Some('⊬'),
-        _ => None,
-    }
-}
-
 #[tactic(auto, unfolding(latex2mathml_tex_grammar::specs::Delimiters::negated_characters))]
 fn negated_character(c: char) -> Option<char>
     ensures { result ≡ entry_of_character negated_characters c }
@@ -119,3 +55,86 @@ fn negated_character(c: char) -> Option<char>
         _ => None,
     }
 }
+
+/// The commands that are delimiters, in the order of their names' bytes.
+#[tactic(auto, unfolding(latex2mathml_tex_grammar::specs::Delimiters::delimiter_commands))]
+fn delimiter_commands() -> &'static [Named]
+    ensures { map named_entry result.now ≡ delimiter_commands }
+{
+    &DELIMITERS
+}
+
+/// The commands that have a negated sign of their own, in the order of their names' bytes.
+#[tactic(auto, unfolding(latex2mathml_tex_grammar::specs::Delimiters::negated_commands))]
+fn negated_commands() -> &'static [Named]
+    ensures { map named_entry result.now ≡ negated_commands }
+{
+    &NEGATED
+}
+
+#[rattlefmt::skip]
+static DELIMITERS: [Named; 38] = [
+    Named { name: "Downarrow", character: '⇓' },
+    Named { name: "Uparrow", character: '⇑' },
+    Named { name: "Updownarrow", character: '⇕' },
+    Named { name: "Vert", character: '‖' },
+    Named { name: "backslash", character: '\\' },
+    Named { name: "downarrow", character: '↓' },
+    Named { name: "gt", character: '⟩' },
+    Named { name: "lVert", character: '‖' },
+    Named { name: "langle", character: '⟨' },
+    Named { name: "lbrace", character: '{' },
+    Named { name: "lbrack", character: '[' },
+    Named { name: "lceil", character: '⌈' },
+    Named { name: "lfloor", character: '⌊' },
+    Named { name: "lgroup", character: '⟮' },
+    Named { name: "llbracket", character: '⟦' },
+    Named { name: "lmoustache", character: '⎰' },
+    Named { name: "lparen", character: '(' },
+    Named { name: "lt", character: '⟨' },
+    Named { name: "lvert", character: '|' },
+    Named { name: "rVert", character: '‖' },
+    Named { name: "rangle", character: '⟩' },
+    Named { name: "rbrace", character: '}' },
+    Named { name: "rbrack", character: ']' },
+    Named { name: "rceil", character: '⌉' },
+    Named { name: "rfloor", character: '⌋' },
+    Named { name: "rgroup", character: '⟯' },
+    Named { name: "rmoustache", character: '⎱' },
+    Named { name: "rparen", character: ')' },
+    Named { name: "rrbracket", character: '⟧' },
+    Named { name: "rvert", character: '|' },
+    Named { name: "ulcorner", character: '⌜' },
+    Named { name: "uparrow", character: '↑' },
+    Named { name: "updownarrow", character: '↕' },
+    Named { name: "urcorner", character: '⌝' },
+    Named { name: "vert", character: '|' },
+    Named { name: "{", character: '{' },
+    Named { name: "|", character: '‖' },
+    Named { name: "}", character: '}' },
+];
+
+#[rattlefmt::skip]
+static NEGATED: [Named; 21] = [
+    Named { name: "approx", character: '≉' },
+    Named { name: "cong", character: '≇' },
+    Named { name: "equiv", character: '≢' },
+    Named { name: "exists", character: '∄' },
+    Named { name: "ge", character: '≱' },
+    Named { name: "geq", character: '≱' },
+    Named { name: "in", character: '∉' },
+    Named { name: "le", character: '≰' },
+    Named { name: "leq", character: '≰' },
+    Named { name: "mid", character: '∤' },
+    Named { name: "models", character: '⊭' },
+    Named { name: "ni", character: '∌' },
+    Named { name: "parallel", character: '∦' },
+    Named { name: "prec", character: '⊀' },
+    Named { name: "sim", character: '≁' },
+    Named { name: "subset", character: '⊄' },
+    Named { name: "subseteq", character: '⊈' },
+    Named { name: "succ", character: '⊁' },
+    Named { name: "supset", character: '⊅' },
+    Named { name: "supseteq", character: '⊉' },
+    Named { name: "vdash", character: '⊬' },
+];

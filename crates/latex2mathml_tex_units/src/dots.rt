@@ -1,11 +1,12 @@
 //! Dots: where they stand in the middle of the line, and where on it.
 ghost use Rattle.std.specs.Prelude.{◌≡◌};
 ghost use Rattle.latex2mathml_tex_grammar.specs.Dots;
-ghost use Rattle.latex2mathml_tex_units.specs.{Meanings.class_of, Meanings.meaning_of, Meanings.symbol_of, Taking.piece_of};
+ghost use Rattle.latex2mathml_tex_commands.specs.Meanings.{class_of, meaning_of, symbol_of};
+ghost use Rattle.latex2mathml_tex_units.specs.Taking.{piece_of};
 
-use crate::meaning::{Class, Meaning, Symbol};
 use crate::unit::Piece;
-use crate::{commands, signs};
+use latex2mathml_tex_commands::meaning::{Class, Meaning, Symbol};
+use latex2mathml_tex_commands::{commands, signs};
 
 /// Dots on the line.
 pub const LOW_DOTS: Symbol = Symbol::Sign(Class::Inner, '…');

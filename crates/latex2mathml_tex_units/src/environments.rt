@@ -2,11 +2,11 @@
 ghost use Rattle.std.specs.Prelude.{◌≡◌, MatchOption, None, Some, map};
 ghost use Rattle.latex2mathml_tex_grammar.specs.Environments;
 ghost use Rattle.latex2mathml_tex_units.specs.Environments.{entry_of, environment_of, layout_of};
-ghost use Rattle.latex2mathml_builder.specs.Columns.{columns_of};
+ghost use Rattle.latex2mathml_attributes.specs.Columns.{columns_of};
 
-use crate::meaning::Style;
 use crate::scanning::Argument;
-use latex2mathml_builder::columns::{Column, Columns};
+use latex2mathml_attributes::columns::{Column, Columns};
+use latex2mathml_tex_commands::meaning::Style;
 
 /// A kind of table that has a name.
 #[derive(Clone, Copy)]

@@ -5,7 +5,7 @@ ghost use Rattle.latex2mathml_tex_grammar.specs.{Dots.centers_dots, Next.follows
 ghost use Rattle.latex2mathml_tex_grammar.specs.Rules.{a_character, a_digit, in_brackets};
 ghost use Rattle.latex2mathml_tex_units.specs.{Left.TakesNext, Left.TakesNone, Left.units_end, Left.put_back, Left.units_at, Left.units_behind, Whole.whole_units};
 ghost use Rattle.latex2mathml_tex_grammar.specs.Units as units;
-ghost use Rattle.latex2mathml_tex_units.specs.Delimiters.{delimiter_text};
+ghost use Rattle.latex2mathml_tex_commands.specs.Delimiters.{delimiter_text};
 
 use crate::delimiters::{delimiter_of, negated_of};
 use crate::dots::centers_dots;

@@ -9,10 +9,10 @@ ghost use Rattle.latex2mathml_tex_grammar.specs.Units.{End, Stop};
 ghost use Rattle.latex2mathml_tex_units.specs.{Errors.kind_of_error, Taking.kind_of, Taking.piece_of};
 ghost use Rattle.latex2mathml_tex_units.specs.Scans.{IsFound, argument_of, deed_of, length_end_of, spot_of};
 
-use crate::commands;
 use crate::error::{TexError, TexErrorKind};
-use crate::meaning::Meaning;
 use crate::unit::{Fault, Piece};
+use latex2mathml_tex_commands::commands;
+use latex2mathml_tex_commands::meaning::Meaning;
 
 /// What stands in braces behind `\begin` and its like.
 #[derive(Clone, Copy)]

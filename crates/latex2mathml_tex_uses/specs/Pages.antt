@@ -17,7 +17,7 @@ abbrev pub IsPreambleRefusal : Option (Bor (List ℕ)) → Refusal → Type 0
 IsPreambleRefusal None refusal = ⊥
 IsPreambleRefusal (Some preamble) refusal = AreRefused (chars preamble.now) refusal
 
--- why a formula of a page is not shown; where memory is wanting, the error reports no refusal
+-- why a formula of a page is not shown; if memory runs out, the error reports no refusal
 abbrev pub IsUnshown : Option (Bor (List ℕ)) → List ℕ → Style → PageError → Type 0
 IsUnshown preamble tex style (Preamble error) = IfSome (refusal_of error) (IsPreambleRefusal preamble)
 IsUnshown preamble tex style (Formula error) =

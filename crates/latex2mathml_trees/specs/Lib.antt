@@ -5,6 +5,7 @@ pub mod Pages
 pub mod Print
 pub mod Productions
 pub mod Style
+pub mod Texts
 pub mod Tree
 pub mod Weight
 pub mod Width

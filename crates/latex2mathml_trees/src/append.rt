@@ -1,7 +1,7 @@
 //! Markup that is appended to a text.
-ghost use Rattle.std.specs.Prelude.{◌≡◌, ◌++◌, OnOk, Some, string_bytes};
+ghost use Rattle.std.specs.Prelude.{Some};
 ghost use Rattle.latex2mathml_tokens.specs.Escape.{content, content_char};
-ghost use Rattle.latex2mathml_trees.specs.{Print.print, Tree.space, Tree.undefined};
+ghost use Rattle.latex2mathml_trees.specs.{Print.print, Texts.Appends, Tree.space, Tree.undefined};
 
 use crate::text::{needs_escape, write_escaped, write_undefined};
 use crate::width::write_space;
@@ -46,7 +46,7 @@ impl fmt::Display for Space {
 
 /// Appends a text as contents to another. A text in which nothing is escaped is appended whole.
 pub fn append_content(text: &str, out: &mut String) -> Result<(), AllocError>
-    ensures { OnOk result (string_bytes out.new ≡ string_bytes out.old ++ content text.now) }
+    ensures { Appends out.old out.new (content text.now) result }
 {
     match text.find(|c: char| needs_escape(c)) {
         Some(_) => write!(out, "{}", Contents(text)),
@@ -56,7 +56,7 @@ pub fn append_content(text: &str, out: &mut String) -> Result<(), AllocError>
 
 /// Appends the text of a token that has no meaning where it stands, marked as an error.
 pub fn append_undefined(text: &str, out: &mut String) -> Result<(), AllocError>
-    ensures { OnOk result (string_bytes out.new ≡ string_bytes out.old ++ print (undefined text.now)) }
+    ensures { Appends out.old out.new (print (undefined text.now)) result }
 {
     write!(out, "{}", Marked(text))
 }
@@ -64,7 +64,7 @@ pub fn append_undefined(text: &str, out: &mut String) -> Result<(), AllocError>
 /// Appends a character as contents to the text.
 #[tactic(auto, using(crate::proofs::Others::others))]
 pub fn append_content_char(c: char, text: &mut String) -> Result<(), AllocError>
-    ensures { OnOk result (string_bytes text.new ≡ string_bytes text.old ++ content_char c) }
+    ensures { Appends text.old text.new (content_char c) result }
 {
     match c {
         '&' => text.push_str("&amp;"),
@@ -77,7 +77,7 @@ pub fn append_content_char(c: char, text: &mut String) -> Result<(), AllocError>
 
 /// Appends a space, in eighteenths of an em.
 pub fn append_space(width: i32, out: &mut String) -> Result<(), AllocError>
-    ensures { OnOk result (string_bytes out.new ≡ string_bytes out.old ++ print (space width)) }
+    ensures { Appends out.old out.new (print (space width)) result }
 {
     write!(out, "{}", Space(width))
 }

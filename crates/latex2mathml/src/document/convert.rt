@@ -1,7 +1,9 @@
 //! Documents, piece by piece, to their answers.
 ghost use Rattle.std.specs.Prelude.{◌≡◌, ◌⊎◌, ℕ, ◌++◌, List, IfOk, OnOk, Some, string_bytes};
 ghost use Rattle.latex2mathml.specs.Pieces.{piece_of};
-ghost use Rattle.latex2mathml.specs.Documents.{HasCut, HasNoCut, IsAnswer, IsPiece, IsPlain, IsRefusal, PieceAnswer, PieceRefuses, prose_answer};
+ghost use Rattle.latex2mathml.specs.Documents.{HasCut, HasNoCut, IsAnswer, IsPiece, IsPlain};
+ghost use Rattle.latex2mathml.specs.Documents.{IsRefusal, PieceAnswer, PieceRefuses, prose_answer};
+ghost use Rattle.latex2mathml_trees.specs.Texts.{Appends};
 ghost use Rattle.latex2mathml_tokens.specs.Refusal.{IfRefused, InvalidNumberOfDollarSigns, refusal_of};
 
 use crate::document::plain::Plain;
@@ -70,7 +72,7 @@ fn append_piece<'a>(
 /// Puts prose after the text, with a reference for each dollar sign that a backslash takes.
 fn append_prose(text: &mut String, prose: Plain<'_>) -> Result<(), AllocError>
     requires { IsPlain prose.text.now }
-    ensures { OnOk result (string_bytes text.new ≡ string_bytes text.old ++ prose_answer prose.entry.text.now) }
+    ensures { Appends text.old text.new (prose_answer prose.entry.text.now) result }
 {
     if prose.may_hold_dollar {
         return append_escaped(text, prose.text);
@@ -81,7 +83,7 @@ fn append_prose(text: &mut String, prose: Plain<'_>) -> Result<(), AllocError>
 /// The same of any prose.
 fn append_escaped(text: &mut String, prose: &str) -> Result<(), AllocError>
     requires { IsPlain prose.now }
-    ensures { OnOk result (string_bytes text.new ≡ string_bytes text.old ++ prose_answer prose.now) }
+    ensures { Appends text.old text.new (prose_answer prose.now) result }
 {
     let mut rest = prose;
     while let Some((before, after)) = rest.split_once("\\$") {

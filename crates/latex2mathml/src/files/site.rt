@@ -1,6 +1,6 @@
 //! What a walk asks of the place where documents stand.
-ghost use Rattle.std.specs.Prelude.{[], ◌∷◌, IfErr, IfOk, List, Option};
-ghost use Rattle.latex2mathml.specs.Files.{Answer, Answered, Comes, Holds, IsDocumentFault, Stands};
+ghost use Rattle.std.specs.Prelude.{IfErr, IfOk, List, Option};
+ghost use Rattle.latex2mathml.specs.Files.{Answer, Comes, Holds, IsAsked, IsDocumentFault, Stands};
 
 use crate::error::FileFault;
 use std::alloc::AllocError;
@@ -30,15 +30,15 @@ pub trait Site {
 
     /// What stands at a path.
     fn kind_at(&mut self, path: &str) -> PathKind
-        ensures asked { Answered (answers self.old) (answers self.new) (Stands path.now result ∷ []) };
+        ensures asked { IsAsked (answers self.old) (answers self.new) (Stands path.now result) };
 
     /// What the directory at a path holds, or `None` where it cannot be listed.
     fn list(&mut self, path: &str) -> Result<Option<Listing>, AllocError>
         ensures asked { IfOk result (λ listing.
-            Answered (answers self.old) (answers self.new) (Holds path.now listing ∷ [])) };
+            IsAsked (answers self.old) (answers self.new) (Holds path.now listing)) };
 
     /// Converts the document at a path in place.
     fn convert(&mut self, path: &str) -> Result<(), FileFault>
-        ensures asked { Answered (answers self.old) (answers self.new) (Comes path.now result ∷ []) }
+        ensures asked { IsAsked (answers self.old) (answers self.new) (Comes path.now result) }
         ensures fault { IfErr result IsDocumentFault };
 }

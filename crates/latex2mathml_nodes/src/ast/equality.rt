@@ -49,7 +49,7 @@ fn same_inner(a: Inner, b: Inner) -> bool
 }
 
 #[cycle(same)]
-#[tactic(auto, using(crate::proofs::Chains::weights_at, crate::proofs::Members::same_lengths, crate::proofs::Members::same_at, crate::proofs::Members::same_more))]
+#[tactic(auto, using(crate::proofs::Weights::weights_at, crate::proofs::Members::same_lengths, crate::proofs::Members::same_at, crate::proofs::Members::same_more))]
 fn same_members(a: &[Node], b: &[Node]) -> bool
     ensures { IsTrue result ↔ (trees a.now ≡ trees b.now) }
 {

@@ -126,7 +126,7 @@ fn write_node<W: fmt::Write>(node: &Node, f: &mut fmt::Formatter<W>) -> fmt::Res
 }
 
 #[cycle(print)]
-#[tactic(auto, using(crate::proofs::Chains::weights_at))]
+#[tactic(auto, using(crate::proofs::Weights::weights_at))]
 fn write_all<W: fmt::Write>(nodes: &[Node], f: &mut fmt::Formatter<W>) -> fmt::Result
     ensures { WritesOnOk W.write_str_gives f.old result (prints (trees nodes.now)) f.new }
 {
@@ -203,7 +203,7 @@ fn write_three<W: fmt::Write>(
 }
 
 #[cycle(print)]
-#[tactic(auto, using(crate::proofs::Chains::weights_at))]
+#[tactic(auto, using(crate::proofs::Weights::weights_at))]
 fn write_members<W: fmt::Write>(members: &[Node], f: &mut fmt::Formatter<W>) -> fmt::Result
     ensures { WritesOnOk W.write_str_gives f.old result (members_print (trees members.now)) f.new }
 {

@@ -2,14 +2,12 @@
 
 ghost use Rattle.std.specs.Prelude.{◌≡◌, ◌≢◌, IfOk, IfSome, List, MatchOption, None, Some};
 ghost use Rattle.latex2mathml_grammar.specs.Openers.{opens};
-ghost use Rattle.latex2mathml_parser.specs.Frames.{with_limits};
-ghost use Rattle.latex2mathml_grammar.specs.Grammar.{a_root, error_rule, gives, rule, sized, takes_token};
-ghost use Rattle.latex2mathml_parser.specs.Steps.{Counted, GoesOnBy, HasTrees, Holds, IsStep, IsStretched};
-ghost use Rattle.latex2mathml_trees.specs.{Productions.fence_of, Tree.Tree};
-ghost use Rattle.latex2mathml_parts.specs.Forests.{trees_in};
-ghost use Rattle.latex2mathml_parts.specs.Parts.{arity, fence_text, put, top};
+ghost use Rattle.latex2mathml_grammar.specs.Grammar.{a_root, error_rule, rule, sized, takes_token};
+ghost use Rattle.latex2mathml_parser.specs.Claims.{IsLeafOf, Proceeds, limited};
+ghost use Rattle.latex2mathml_parser.specs.Steps.{Counted, GoesOnBy, HasTrees, IsStep, IsStretched};
+ghost use Rattle.latex2mathml_trees.specs.{Productions.fence_of};
+ghost use Rattle.latex2mathml_parts.specs.Parts.{fence_text};
 ghost use Rattle.latex2mathml_tokens.specs.{Lexemes.lexeme_tok, Names.limit_text, Names.size_text};
-ghost use Rattle.latex2mathml_tokens.specs.declared.lexeme.Lexeme.{Lexeme};
 ghost use Rattle.latex2mathml_tokens.specs.Tok.{Tok, Begin, Left, Lim, Middle, OperatorName, Slashed, Text};
 
 use crate::parse::frames::{Frame, Group, Pair};
@@ -28,7 +26,7 @@ impl<'a> Parser<'a> {
     #[inline(always)]
     pub(crate) fn begin_any(&mut self, lexeme: Lexeme<'a>) -> Result<State, AllocError>
         requires { HasTrees 0 self.old }
-        ensures holds { (input : List Tok) → GoesOnBy (rule (lexeme_tok lexeme.entry)) 0 input self.old → IfOk result (Holds input self.new) }
+        ensures holds { Proceeds (rule (lexeme_tok lexeme.entry)) 0 self.old self.new result }
         ensures step { IsStep (opens (lexeme_tok lexeme.entry)) 13 self.old self.new result }
     {
         match symbol(lexeme) {
@@ -39,9 +37,9 @@ impl<'a> Parser<'a> {
 
     /// Begins the rule of a lexeme that was taken where a core is due. An operator that is stretched begins with the lexeme
     /// after `\middle`, which the frame keeps, because a refusal names it.
-    pub(crate) fn begin(&mut self, lexeme: Lexeme<'a>) -> Result<State, AllocError>
+    fn begin(&mut self, lexeme: Lexeme<'a>) -> Result<State, AllocError>
         requires { HasTrees 0 self.old }
-        ensures holds { (input : List Tok) → GoesOnBy (rule (lexeme_tok lexeme.entry)) 0 input self.old → IfOk result (Holds input self.new) }
+        ensures holds { Proceeds (rule (lexeme_tok lexeme.entry)) 0 self.old self.new result }
         ensures step { IsStep (opens (lexeme_tok lexeme.entry)) 13 self.old self.new result }
     {
         let mut begun = lexeme;
@@ -71,7 +69,7 @@ impl<'a> Parser<'a> {
     fn begin_rule(&mut self, lexeme: Lexeme<'a>) -> Result<State, AllocError>
         requires other { lexeme ≢ Lexeme.Middle }
         requires trees { HasTrees 0 self.old }
-        ensures holds { (input : List Tok) → GoesOnBy (rule (lexeme_tok lexeme.entry)) 0 input self.old → IfOk result (Holds input self.new) }
+        ensures holds { Proceeds (rule (lexeme_tok lexeme.entry)) 0 self.old self.new result }
         ensures step { IsStep (opens (lexeme_tok lexeme.entry)) 13 self.old self.new result }
     {
         match lexeme {
@@ -126,7 +124,7 @@ impl<'a> Parser<'a> {
     /// Puts a lexeme that has no meaning where it stands. It is marked as an error.
     pub(crate) fn error(&mut self, lexeme: Lexeme<'a>) -> Result<State, AllocError>
         requires { HasTrees 0 self.old }
-        ensures holds { (input : List Tok) → GoesOnBy (error_rule (lexeme_tok lexeme.entry)) 0 input self.old → IfOk result (Holds input self.new) }
+        ensures holds { Proceeds (error_rule (lexeme_tok lexeme.entry)) 0 self.old self.new result }
         ensures step { IsStep 0 5 self.old self.new result }
     {
         self.parts.put_error(lexeme)?;
@@ -136,7 +134,7 @@ impl<'a> Parser<'a> {
     /// A root, and its degree, if one stands next in square brackets.
     fn root(&mut self) -> Result<State, AllocError>
         requires { HasTrees 0 self.old }
-        ensures holds { (input : List Tok) → GoesOnBy a_root 0 input self.old → IfOk result (Holds input self.new) }
+        ensures holds { Proceeds a_root 0 self.old self.new result }
         ensures step { IsStep 1 13 self.old self.new result }
     {
         if self.reader.take_bracket() {
@@ -146,9 +144,9 @@ impl<'a> Parser<'a> {
     }
 
     /// An operator with the limits whose signs stand next.
-    fn limits(&mut self, operator: char, below: Pair, above: Pair) -> Result<State, AllocError>
+    fn limits(&mut self, c: char, below: Pair, above: Pair) -> Result<State, AllocError>
         requires { HasTrees 0 self.old }
-        ensures holds { (input : List Tok) → GoesOnBy (with_limits operator below above (trees_in self.old.parts)) 0 input self.old → IfOk result (Holds input self.new) }
+        ensures holds { Proceeds (limited c below above self.old) 0 self.old self.new result }
         ensures step { IsStep 1 13 self.old self.new result }
     {
         if self.reader.take_if(Sign::Sub) {
@@ -157,13 +155,13 @@ impl<'a> Parser<'a> {
         if self.reader.take_if(Sign::Sup) {
             return self.open(Frame::Single(above));
         }
-        self.put(Kind::Operator(operator))
+        self.put(Kind::Operator(c))
     }
 
     /// The name of a function, with a limit under it if the sign stands next.
     fn limit(&mut self, name: LimitName) -> Result<State, AllocError>
         requires { HasTrees 0 self.old }
-        ensures holds { (input : List Tok) → GoesOnBy (rule (Lim (limit_text name))) 0 input self.old → IfOk result (Holds input self.new) }
+        ensures holds { Proceeds (rule (Lim (limit_text name))) 0 self.old self.new result }
         ensures step { IsStep 1 13 self.old self.new result }
     {
         if self.reader.take_if(Sign::Sub) {
@@ -175,7 +173,7 @@ impl<'a> Parser<'a> {
     /// A parenthesis of this size. It must stand next.
     fn size_paren(&mut self, size: Size) -> Result<State, AllocError>
         requires { HasTrees 0 self.old }
-        ensures holds { (input : List Tok) → GoesOnBy (takes_token (sized (size_text size))) 0 input self.old → IfOk result (Holds input self.new) }
+        ensures holds { Proceeds (takes_token (sized (size_text size))) 0 self.old self.new result }
         ensures step { IsStep 0 13 self.old self.new result }
     {
         match self.reader.take() {
@@ -193,7 +191,7 @@ impl<'a> Parser<'a> {
     /// Words, which stand next as a name.
     fn words(&mut self) -> Result<State, AllocError>
         requires { HasTrees 0 self.old }
-        ensures holds { (input : List Tok) → GoesOnBy (rule Text) 0 input self.old → IfOk result (Holds input self.new) }
+        ensures holds { Proceeds (rule Text) 0 self.old self.new result }
         ensures step { IsStep 0 13 self.old self.new result }
     {
         let text = self.reader.name(self.alloc)?;
@@ -204,7 +202,7 @@ impl<'a> Parser<'a> {
     /// A function that is spelled out.
     fn function(&mut self) -> Result<State, AllocError>
         requires { HasTrees 0 self.old }
-        ensures holds { (input : List Tok) → GoesOnBy (rule OperatorName) 0 input self.old → IfOk result (Holds input self.new) }
+        ensures holds { Proceeds (rule OperatorName) 0 self.old self.new result }
         ensures step { IsStep 0 13 self.old self.new result }
     {
         let name = self.reader.name(self.alloc)?;
@@ -215,7 +213,7 @@ impl<'a> Parser<'a> {
     /// A slash. The lexeme after it is skipped.
     fn slash(&mut self) -> Result<State, AllocError>
         requires { HasTrees 0 self.old }
-        ensures holds { (input : List Tok) → GoesOnBy (rule Slashed) 0 input self.old → IfOk result (Holds input self.new) }
+        ensures holds { Proceeds (rule Slashed) 0 self.old self.new result }
         ensures step { IsStep 1 13 self.old self.new result }
     {
         self.reader.skip();
@@ -226,7 +224,7 @@ impl<'a> Parser<'a> {
     #[tactic(auto, using(crate::proofs::Stepping::counted_skipped))]
     fn open_fence(&mut self) -> Result<State, AllocError>
         requires { HasTrees 0 self.old }
-        ensures holds { (input : List Tok) → GoesOnBy (rule Left) 0 input self.old → IfOk result (Holds input self.new) }
+        ensures holds { Proceeds (rule Left) 0 self.old self.new result }
         ensures step { IsStep 1 13 self.old self.new result }
     {
         let got = self.reader.take();
@@ -239,7 +237,7 @@ impl<'a> Parser<'a> {
     /// An environment: its name, and the members after it.
     fn begin_environment(&mut self) -> Result<State, AllocError>
         requires { HasTrees 0 self.old }
-        ensures holds { (input : List Tok) → GoesOnBy (rule Begin) 0 input self.old → IfOk result (Holds input self.new) }
+        ensures holds { Proceeds (rule Begin) 0 self.old self.new result }
         ensures step { IsStep 1 13 self.old self.new result }
     {
         let name = self.reader.name(self.alloc)?;
@@ -262,7 +260,7 @@ pub(crate) fn fence_of(lexeme: Lexeme) -> Option<Option<Paren>>
 
 /// What a lexeme of the most frequent kinds makes, which are cores by themselves.
 pub(crate) fn symbol(lexeme: Lexeme<'_>) -> Option<Kind<'_>>
-    ensures { IfSome result (λ kind. (arity kind ≡ 0) × ((ts : List Tree) → rule (lexeme_tok lexeme.entry) ≡ gives (top (put kind ts)))) }
+    ensures { IfSome result (IsLeafOf lexeme.entry) }
 {
     match lexeme {
         Lexeme::Number(digits) => Some(Kind::Number(digits)),

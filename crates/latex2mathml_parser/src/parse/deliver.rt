@@ -1,14 +1,13 @@
 //! What goes on after a part, and after the end of a group.
 
-ghost use Rattle.std.specs.Prelude.{◌≡◌, ◌∷◌, ◌+◌, ◌<◌, IfOk, List, drop, reverse, take, vec_len};
-ghost use Rattle.latex2mathml_parser.specs.Frames.{after_first, tree_count, innermost, script, unfit, within};
-ghost use Rattle.latex2mathml_grammar.specs.Grammar.{after_fence_members, after_environment_members, gives, stretched_or_refused, under_slash};
-ghost use Rattle.latex2mathml_parser.specs.Levels.{Leads, Accepts, end_token};
-ghost use Rattle.latex2mathml_parser.specs.Steps.{GoesOnBy, HasTrees, Holds, IsStep, last_tree_read, level, frame_weight};
-ghost use Rattle.latex2mathml_trees.specs.{Productions.stretched_operator, Tree.Tree};
-ghost use Rattle.latex2mathml_parts.specs.Forests.{trees_in};
-ghost use Rattle.latex2mathml_parts.specs.Parts.{arity, fence_text, put, top, words_of};
-ghost use Rattle.latex2mathml_tokens.specs.{Lexemes.lexeme_tok, Tok.Tok};
+ghost use Rattle.std.specs.Prelude.{◌≡◌, ◌+◌, ◌<◌, List, vec_len};
+ghost use Rattle.latex2mathml_grammar.specs.Grammar.{under_slash};
+ghost use Rattle.latex2mathml_parser.specs.Frames.{tree_count, unfit, with_script};
+ghost use Rattle.latex2mathml_parser.specs.Claims.{Delivers, EndsGroup, EndsInnermost, Keeps};
+ghost use Rattle.latex2mathml_parser.specs.Claims.{Proceeds, Puts, after_operator, after_single};
+ghost use Rattle.latex2mathml_parser.specs.Steps.{HasTrees, IsStep, due_in, frame_weight, last_tree};
+ghost use Rattle.latex2mathml_trees.specs.{Tree.Tree};
+ghost use Rattle.latex2mathml_parts.specs.Parts.{arity, put};
 ghost use Rattle.latex2mathml_parser.specs.{declared.parse.frames.Due.Due, declared.parse.frames.GroupEnd.GroupEnd};
 
 use crate::parse::begin::fence_of;
@@ -27,7 +26,7 @@ impl<'a> Parser<'a> {
     #[tactic(auto, using(crate::proofs::Stacks::taken_off))]
     pub(crate) fn after_part(&mut self) -> Result<State, AllocError>
         requires { HasTrees 1 self.old }
-        ensures holds { (input : List Tok) → Holds input self.old State.Part → IfOk result (Holds input self.new) }
+        ensures holds { Keeps State.Part self.old self.new result }
         ensures step { IsStep 0 3 self.old self.new result }
     {
         let Some(frame) = self.frames.pop() else {
@@ -42,7 +41,7 @@ impl<'a> Parser<'a> {
         requires fit { unfit frame ≡ 0 }
         requires trees { HasTrees (tree_count frame + 1) self.old }
         requires room { vec_len self.old.frames.stack < self.old.frames.greatest }
-        ensures holds { (input : List Tok) → Accepts (within input self.old.frames.stack.items frame.entry (drop 1 (trees_in self.old.parts))) (last_tree_read self.old) → IfOk result (Holds input self.new) }
+        ensures holds { Delivers frame.entry self.old self.new result }
         ensures step { IsStep 0 (frame_weight frame.entry + 3) self.old self.new result }
     {
         match frame {
@@ -71,7 +70,7 @@ impl<'a> Parser<'a> {
     /// Puts a part after its operands, if it has any.
     pub(crate) fn put(&mut self, kind: Kind<'a>) -> Result<State, AllocError>
         requires { HasTrees (arity kind) self.old }
-        ensures holds { (input : List Tok) → GoesOnBy (gives (top (put kind.entry (trees_in self.old.parts)))) (arity kind.entry) input self.old → IfOk result (Holds input self.new) }
+        ensures holds { Puts kind.entry self.old self.new result }
         ensures step { IsStep 0 5 self.old self.new result }
     {
         self.parts.put(kind)?;
@@ -82,7 +81,7 @@ impl<'a> Parser<'a> {
     fn after_first(&mut self, pair: Pair) -> Result<State, AllocError>
         requires trees { HasTrees 1 self.old }
         requires room { vec_len self.old.frames.stack < self.old.frames.greatest }
-        ensures holds { (input : List Tok) → GoesOnBy (after_first pair (drop 1 (trees_in self.old.parts)) (top (trees_in self.old.parts))) 1 input self.old → IfOk result (Holds input self.new) }
+        ensures holds { Proceeds (after_single pair self.old) 1 self.old self.new result }
         ensures step { IsStep 0 5 self.old self.new result }
     {
         if self.reader.take_if(pair.sign()) {
@@ -94,7 +93,7 @@ impl<'a> Parser<'a> {
     /// Strikes the last tree through. The lexeme after it is skipped.
     fn end_slash(&mut self) -> Result<State, AllocError>
         requires { HasTrees 1 self.old }
-        ensures holds { (input : List Tok) → GoesOnBy (under_slash (top (trees_in self.old.parts))) 1 input self.old → IfOk result (Holds input self.new) }
+        ensures holds { Proceeds (under_slash (last_tree self.old)) 1 self.old self.new result }
         ensures step { IsStep 0 5 self.old self.new result }
     {
         self.reader.skip();
@@ -105,7 +104,7 @@ impl<'a> Parser<'a> {
     /// Stretches the operator that is the last tree, or refuses the lexeme that stood after `\middle`.
     fn end_stretch(&mut self, got: Lexeme<'a>) -> Result<State, AllocError>
         requires { HasTrees 1 self.old }
-        ensures holds { (input : List Tok) → GoesOnBy (stretched_or_refused (lexeme_tok got.entry) (stretched_operator (top (trees_in self.old.parts)))) 1 input self.old → IfOk result (Holds input self.new) }
+        ensures holds { Proceeds (after_operator got.entry self.old) 1 self.old self.new result }
         ensures step { IsStep 0 5 self.old self.new result }
     {
         if self.parts.stretch() {
@@ -116,10 +115,9 @@ impl<'a> Parser<'a> {
 
     /// Ends the innermost group, whose end was taken.
     pub(crate) fn close(&mut self) -> Result<State, AllocError>
-        requires due { (end : GroupEnd) × (innermost self.old.frames.stack.items ≡ Due.Member end) }
+        requires due { (end : GroupEnd) × (due_in self.old ≡ Due.Member end) }
         requires trees { HasTrees 0 self.old }
-        ensures holds { (input : List Tok) (end : GroupEnd) → innermost self.old.frames.stack.items ≡ Due.Member end
-            → Leads (level 0 input self.old) (end_token end ∷ self.old.reader.list) → IfOk result (Holds input self.new) }
+        ensures holds { EndsInnermost self.old self.new result }
         ensures step { IsStep 0 16 self.old self.new result }
     {
         let Some(Frame::Members(group, count)) = self.frames.pop() else {
@@ -142,7 +140,7 @@ impl<'a> Parser<'a> {
     /// Ends a fence whose members were read.
     fn close_fence(&mut self, opening: Option<Paren>, count: usize) -> Result<State, AllocError>
         requires { HasTrees count self.old }
-        ensures holds { (input : List Tok) → GoesOnBy (after_fence_members (fence_text opening) (reverse (take count (trees_in self.old.parts)))) count input self.old → IfOk result (Holds input self.new) }
+        ensures holds { EndsGroup (Group.Fence opening) count self.old self.new result }
         ensures step { IsStep 0 5 self.old self.new result }
     {
         let got = self.reader.take();
@@ -156,7 +154,7 @@ impl<'a> Parser<'a> {
     /// Ends an environment whose members were read.
     fn end_environment(&mut self, count: usize) -> Result<State, AllocError>
         requires { HasTrees (count + 1) self.old }
-        ensures holds { (input : List Tok) → GoesOnBy (after_environment_members (words_of (top (drop count (trees_in self.old.parts)))) (reverse (take count (trees_in self.old.parts)))) (count + 1) input self.old → IfOk result (Holds input self.new) }
+        ensures holds { EndsGroup Group.Environment count self.old self.new result }
         ensures step { IsStep 0 5 self.old self.new result }
     {
         self.reader.skip_name();
@@ -171,7 +169,7 @@ impl<'a> Parser<'a> {
 /// The part that a script of this sign makes.
 fn script(sign: Sign) -> Kind<'static>
     ensures arity { arity result ≡ 2 }
-    ensures trees { (ts : List Tree) → put result ts ≡ script sign (top (drop 1 ts)) (top ts) ∷ drop 2 ts }
+    ensures trees { (ts : List Tree) → put result ts ≡ with_script sign ts }
 {
     match sign {
         Sign::Sub => Kind::Sub,

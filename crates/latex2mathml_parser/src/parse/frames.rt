@@ -1,8 +1,10 @@
 //! The parser's stack of frames: rules that were begun, and how much of each was read.
 //!
 //! A frame holds no tree. What was read for it are the last trees of the parser's parts.
-ghost use Rattle.std.specs.Prelude.{◌≡◌, ◌∷◌, ◌++◌, ◌+◌, ◌<◌, ◌≤◌, ◌↔◌, [], IsTrue, List, MatchBool, MatchOption, OnOk, max, sum_by, vec_len};
-ghost use Rattle.latex2mathml_parser.specs.Frames.{awaits, end_of, innermost, one_of_pair, pair_sign, takes_script, two_of_pair, unfit};
+ghost use Rattle.std.specs.Prelude.{◌≡◌, ◌∷◌, ◌+◌, ◌<◌, ◌≤◌, ◌↔◌, [], IsTrue, List, MatchBool};
+ghost use Rattle.std.specs.Prelude.{MatchOption, OnOk, max, sum_by, vec_len};
+ghost use Rattle.latex2mathml_parser.specs.Frames.{AreEmpty, IsOn, awaits, end_of, innermost};
+ghost use Rattle.latex2mathml_parser.specs.Frames.{one_of_pair, pair_sign, takes_script, two_of_pair, unfit};
 ghost use Rattle.latex2mathml_parser.specs.{Levels.MayBegin, Levels.end_token, declared.parse.frames.GroupEnd.GroupEnd};
 ghost use Rattle.latex2mathml_tokens.specs.{Lexemes.lexeme_tok, Tok.Tok, Tok.tok};
 
@@ -229,7 +231,7 @@ impl<'a> Frames<'a> {
     /// Opens a frame.
     pub(crate) fn open(&mut self, frame: Frame<'a>) -> Result<(), AllocError>
         requires { unfit frame ≡ 0 }
-        ensures stack { OnOk result (self.new.stack.items ≡ self.old.stack.items ++ frame.entry ∷ []) }
+        ensures stack { OnOk result (IsOn frame.entry self.old.stack.items self.new.stack.items) }
         ensures greatest { self.new.greatest ≤ max self.old.greatest (vec_len self.old.stack + 1) }
     {
         self.stack.push(frame)?;
@@ -241,7 +243,7 @@ impl<'a> Frames<'a> {
     pub(crate) fn put_back(&mut self, frame: Frame<'a>) -> Result<(), AllocError>
         requires room { vec_len self.old.stack < self.old.greatest }
         requires fit { unfit frame ≡ 0 }
-        ensures stack { OnOk result (self.new.stack.items ≡ self.old.stack.items ++ frame.entry ∷ []) }
+        ensures stack { OnOk result (IsOn frame.entry self.old.stack.items self.new.stack.items) }
         ensures greatest { self.new.greatest ≡ self.old.greatest }
     {
         self.stack.push(frame)?;
@@ -250,8 +252,8 @@ impl<'a> Frames<'a> {
 
     /// Takes the innermost frame off.
     pub(crate) fn pop(&mut self) -> Option<Frame<'a>>
-        ensures stack { MatchOption result ((self.old.stack.items ≡ []) × (self.new.stack.items ≡ []))
-            (λ frame. self.old.stack.items ≡ self.new.stack.items ++ frame ∷ []) }
+        ensures stack { MatchOption result (AreEmpty self.old.stack.items self.new.stack.items)
+            (λ frame. IsOn frame self.new.stack.items self.old.stack.items) }
         ensures fit { MatchOption result (self.old.stack.items ≡ []) (λ frame. unfit frame ≡ 0) }
         ensures greatest { self.new.greatest ≡ self.old.greatest }
     {

@@ -1,10 +1,9 @@
 //! Primes and scripts, which go on with what stands before them.
 
-ghost use Rattle.std.specs.Prelude.{◌≡◌, IfOk, List, Some};
-ghost use Rattle.latex2mathml_grammar.specs.Grammar.{first, prime, single as a_single};
-ghost use Rattle.latex2mathml_parser.specs.{Levels.Made, Marks.sign_token};
-ghost use Rattle.latex2mathml_parser.specs.Steps.{HasTrees, Holds, IsStep, last_tree_read, level};
-ghost use Rattle.latex2mathml_tokens.specs.Tok.{Tok};
+ghost use Rattle.std.specs.Prelude.{◌≡◌, Some};
+ghost use Rattle.latex2mathml_grammar.specs.Grammar.{first, prime};
+ghost use Rattle.latex2mathml_parser.specs.{Claims.FollowsSingle, Claims.Keeps, Marks.sign_token};
+ghost use Rattle.latex2mathml_parser.specs.Steps.{HasTrees, IsStep};
 
 use crate::parse::frames::{Due, Frame};
 use crate::parse::{Parser, State};
@@ -17,7 +16,7 @@ impl<'a> Parser<'a> {
     #[tactic(auto, using(crate::proofs::Levels::unprimed, crate::proofs::Levels::unscripted))]
     pub(crate) fn after_core(&mut self) -> Result<State, AllocError>
         requires { HasTrees 1 self.old }
-        ensures holds { (input : List Tok) → Holds input self.old State.Core → IfOk result (Holds input self.new) }
+        ensures holds { Keeps State.Core self.old self.new result }
         ensures step { IsStep 0 4 self.old self.new result }
     {
         let Some(mark) = self.reader.mark() else {
@@ -33,7 +32,7 @@ impl<'a> Parser<'a> {
     fn after_prime(&mut self) -> Result<State, AllocError>
         requires prime { first self.old.reader.list ≡ Some prime }
         requires trees { HasTrees 1 self.old }
-        ensures holds { (input : List Tok) → Holds input self.old State.Core → IfOk result (Holds input self.new) }
+        ensures holds { Keeps State.Core self.old self.new result }
         ensures step { IsStep 0 4 self.old self.new result }
     {
         if let Due::Core = self.frames.due() {
@@ -48,7 +47,7 @@ impl<'a> Parser<'a> {
     #[tactic(auto, using(crate::proofs::Levels::unscripted))]
     fn after_single(&mut self) -> Result<State, AllocError>
         requires { HasTrees 1 self.old }
-        ensures holds { (input : List Tok) → Made a_single (level 1 input self.old) (last_tree_read self.old) → IfOk result (Holds input self.new) }
+        ensures holds { FollowsSingle self.old self.new result }
         ensures step { IsStep 0 4 self.old self.new result }
     {
         let Some(mark) = self.reader.mark() else {
@@ -64,7 +63,7 @@ impl<'a> Parser<'a> {
     fn after_sign(&mut self, sign: Sign) -> Result<State, AllocError>
         requires sign { first self.old.reader.list ≡ Some (sign_token sign) }
         requires trees { HasTrees 1 self.old }
-        ensures holds { (input : List Tok) → Made a_single (level 1 input self.old) (last_tree_read self.old) → IfOk result (Holds input self.new) }
+        ensures holds { FollowsSingle self.old self.new result }
         ensures step { IsStep 0 4 self.old self.new result }
     {
         if !self.frames.due().takes_script() {

@@ -1,8 +1,8 @@
 //! Markup of parentheses and fences, as it is written.
-ghost use Rattle.std.specs.Prelude.{◌≡◌, ◌++◌, true, codes};
+ghost use Rattle.std.specs.Prelude.{◌≡◌, true};
 ghost use Rattle.latex2mathml_trees.specs.{Print.print, Tree.other_operator, Tree.stretched};
-ghost use Rattle.latex2mathml_parts.specs.Parts.{fence_text};
-ghost use Rattle.latex2mathml_tokens.specs.{Escape.content, Names.paren_text};
+ghost use Rattle.latex2mathml_parts.specs.{Parts.fence_text, Shapes.fence_close, Shapes.fence_open};
+ghost use Rattle.latex2mathml_tokens.specs.Names.{paren_text};
 
 use latex2mathml_tokens::names::Paren;
 
@@ -39,8 +39,8 @@ impl Elements {
     pub(crate) fn of(paren: Paren) -> Elements
         ensures plain { result.plain.now ≡ print (other_operator (paren_text paren)) }
         ensures stretched { result.stretched.now ≡ print (stretched true (paren_text paren)) }
-        ensures opening { result.opening.now ≡ codes "<mrow><mo stretchy=\"true\" form=\"prefix\">" ++ (content (paren_text paren) ++ codes "</mo>") }
-        ensures closing { result.closing.now ≡ codes "<mo stretchy=\"true\" form=\"postfix\">" ++ (content (paren_text paren) ++ codes "</mo></mrow>") }
+        ensures opening { result.opening.now ≡ fence_open (paren_text paren) }
+        ensures closing { result.closing.now ≡ fence_close (paren_text paren) }
     {
         elements!(paren,
             LeftRound => "(", RightRound => ")", LeftSquare => "[", RightSquare => "]", Bar => "|",
@@ -53,7 +53,7 @@ impl Elements {
 
 /// An opening fence, which may be missing, and what stands before it.
 pub(crate) fn opening_markup(fence: Option<Paren>) -> &'static str
-    ensures { result.now ≡ codes "<mrow><mo stretchy=\"true\" form=\"prefix\">" ++ (content (fence_text fence) ++ codes "</mo>") }
+    ensures { result.now ≡ fence_open (fence_text fence) }
 {
     match fence {
         None => "<mrow><mo stretchy=\"true\" form=\"prefix\"></mo>",
@@ -63,7 +63,7 @@ pub(crate) fn opening_markup(fence: Option<Paren>) -> &'static str
 
 /// A closing fence, which may be missing, and what stands after it.
 pub(crate) fn closing_markup(fence: Option<Paren>) -> &'static str
-    ensures { result.now ≡ codes "<mo stretchy=\"true\" form=\"postfix\">" ++ (content (fence_text fence) ++ codes "</mo></mrow>") }
+    ensures { result.now ≡ fence_close (fence_text fence) }
 {
     match fence {
         None => "<mo stretchy=\"true\" form=\"postfix\"></mo></mrow>",

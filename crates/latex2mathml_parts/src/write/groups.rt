@@ -1,10 +1,11 @@
 //! Groups of trees: rows and matrices.
-ghost use Rattle.std.specs.Prelude.{◌≡◌, ◌+◌, ◌<◌, ◌≤◌, ◌++◌, OnOk, length, reverse, string_bytes, sum_by, take, None};
-ghost use Rattle.latex2mathml_trees.specs.{Print.print, Tree.trees_of};
-ghost use Rattle.latex2mathml_parts.specs.{Forests.IsPlace, Forests.tree_at, Forests.trees_at, Forms.all_in};
-ghost use Rattle.latex2mathml_parts.specs.Groups.{group_close, group_open, member_in, members_in, tree_of_group};
-ghost use Rattle.latex2mathml_parts.specs.Shapes.{print_weight};
-ghost use Rattle.latex2mathml_parts.specs.Works.{AreIn, IsIn, Leaves, Writes, due, load, work_print, work_weight};
+ghost use Rattle.std.specs.Prelude.{◌≡◌, ◌+◌, ◌≤◌, OnOk, length, None};
+ghost use Rattle.latex2mathml_trees.specs.Print.{print};
+ghost use Rattle.latex2mathml_parts.specs.Forests.{IsPlace, members_at, tree_at, trees_at};
+ghost use Rattle.latex2mathml_parts.specs.Groups.{group_at, group_close, group_open};
+ghost use Rattle.latex2mathml_parts.specs.{Groups.member_in, Groups.members_in, Shapes.print_weight};
+ghost use Rattle.latex2mathml_parts.specs.Works.{Adds, AreIn, IsIn, Leaves, Writes, load};
+ghost use Rattle.latex2mathml_parts.specs.Works.{members_weight_at, work_print, work_weight};
 
 use crate::form::Form;
 use crate::kind::Kind;
@@ -59,11 +60,10 @@ impl Parts<'_> {
         requires all { count ≤ length (trees_at self.now end) }
         requires within { end ≤ length self.now.list }
         requires inside { AreIn self.now works.old.items }
-        ensures print { OnOk result (Writes self.now (string_bytes out.old) works.old.items
-            (print (tree_of_group group (all_in style (trees_of (reverse (take count (trees_at self.now end)))))))
-            (string_bytes out.new) works.new.items None) }
-        ensures left { OnOk result (Leaves self.now works.old.items
-            (print_weight (tree_of_group group (all_in style (trees_of (reverse (take count (trees_at self.now end))))))) works.new.items None) }
+        ensures print { OnOk result (Writes self.now out.old works.old out.new works.new
+            (print (group_at self.now group count style end)) None) }
+        ensures left { OnOk result (Leaves self.now works.old works.new
+            (print_weight (group_at self.now group count style end)) None) }
     {
         out.push_str(group.open())?;
         self.push_work(Work::Markup(group.close()), works)?;
@@ -84,10 +84,10 @@ impl Parts<'_> {
         requires within { end ≤ length self.now.list }
         requires inside { AreIn self.now works.old.items }
         ensures inside { OnOk result (AreIn self.now works.new.items) }
-        ensures print { OnOk result (due self.now works.new.items
-            ≡ members_in group style (reverse (take count (trees_at self.now end))) ++ due self.now works.old.items) }
+        ensures print { OnOk result (Adds self.now works.old works.new
+            (members_in group style (members_at self.now count end))) }
         ensures weight { OnOk result (load self.now works.new.items
-            ≤ load self.now works.old.items + sum_by print_weight (take count (trees_at self.now end))) }
+            ≤ load self.now works.old.items + members_weight_at self.now count end) }
     {
         let mut place = end;
         let mut left = count;
@@ -122,8 +122,9 @@ impl Parts<'_> {
         requires one { IsIn self.now work }
         requires inside { AreIn self.now works.old.items }
         ensures inside { OnOk result (AreIn self.now works.new.items) }
-        ensures print { OnOk result (due self.now works.new.items ≡ work_print self.now work ++ due self.now works.old.items) }
-        ensures weight { OnOk result (load self.now works.new.items ≡ load self.now works.old.items + work_weight self.now work) }
+        ensures print { OnOk result (Adds self.now works.old works.new (work_print self.now work)) }
+        ensures weight { OnOk result (load self.now works.new.items
+            ≡ load self.now works.old.items + work_weight self.now work) }
     {
         let _ = self;
         Ok(works.push(work)?)

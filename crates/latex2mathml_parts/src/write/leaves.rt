@@ -1,9 +1,11 @@
 //! Leaves, each as one element.
-ghost use Rattle.std.specs.Prelude.{◌≡◌, ◌++◌, ℕ, List, [], IfOk, MatchBool, OnOk, codes, string_bytes};
-ghost use Rattle.latex2mathml_trees.specs.Print.{print};
-ghost use Rattle.latex2mathml_trees.specs.Tree.{Tree, letter, number, operator, sized_paren, slashed, space};
-ghost use Rattle.latex2mathml_parts.specs.{Forms.put_form, Parts.arity, Parts.put, Parts.top, Shapes.sign_print};
-ghost use Rattle.latex2mathml_tokens.specs.{Escape.content, Escape.content_char, Names.paren_text, Names.size_text};
+ghost use Rattle.std.specs.Prelude.{◌≡◌, ◌++◌, ℕ, List, [], IfOk, MatchBool, string_bytes};
+ghost use Rattle.latex2mathml_trees.specs.{Print.print, Texts.Appends};
+ghost use Rattle.latex2mathml_trees.specs.Tree.{Tree, letter, number, operator, space};
+ghost use Rattle.latex2mathml_parts.specs.{Parts.arity, Parts.put, Parts.top};
+ghost use Rattle.latex2mathml_parts.specs.Shapes.{HidesSlash, sign_print, sized_print};
+ghost use Rattle.latex2mathml_parts.specs.Shapes.{slashed_print, upright_print};
+ghost use Rattle.latex2mathml_tokens.specs.{Escape.content, Escape.content_char};
 ghost use Rattle.latex2mathml_tokens.specs.declared.attribute.Variant.TheVariants.{Italic};
 
 use crate::form::Form;
@@ -22,7 +24,7 @@ use std::alloc::AllocError;
 #[inline(always)]
 pub fn write_leaf(kind: Kind, out: &mut String) -> Result<(), AllocError>
     requires { arity kind ≡ 0 }
-    ensures { OnOk result (string_bytes out.new ≡ string_bytes out.old ++ print (top (put kind.entry []))) }
+    ensures { Appends out.old out.new (print (top (put kind.entry []))) result }
 {
     match kind {
         Kind::Letter(c, variant) => write_letter(c, variant, out),
@@ -41,7 +43,7 @@ pub fn write_leaf(kind: Kind, out: &mut String) -> Result<(), AllocError>
 
 /// Writes a letter.
 pub(crate) fn write_letter(c: char, variant: Variant, out: &mut String) -> Result<(), AllocError>
-    ensures { OnOk result (string_bytes out.new ≡ string_bytes out.old ++ print (letter c variant)) }
+    ensures { Appends out.old out.new (print (letter c variant)) result }
 {
     if let Variant::Italic = variant {
         return match letter_markup(c) {
@@ -54,7 +56,7 @@ pub(crate) fn write_letter(c: char, variant: Variant, out: &mut String) -> Resul
 
 /// Writes an italic letter that is not ASCII.
 fn write_other_letter(c: char, out: &mut String) -> Result<(), AllocError>
-    ensures { OnOk result (string_bytes out.new ≡ string_bytes out.old ++ print (letter c Italic)) }
+    ensures { Appends out.old out.new (print (letter c Italic)) result }
 {
     match greek_markup(c) {
         Some(markup) => out.push_str(markup),
@@ -64,7 +66,7 @@ fn write_other_letter(c: char, out: &mut String) -> Result<(), AllocError>
 
 /// Writes an operator.
 pub(crate) fn write_operator(c: char, out: &mut String) -> Result<(), AllocError>
-    ensures { OnOk result (string_bytes out.new ≡ string_bytes out.old ++ print (operator c)) }
+    ensures { Appends out.old out.new (print (operator c)) result }
 {
     match c {
         '∂' => {
@@ -80,7 +82,7 @@ pub(crate) fn write_operator(c: char, out: &mut String) -> Result<(), AllocError
 
 /// Writes an operator that is not ASCII.
 fn write_other_operator(c: char, out: &mut String) -> Result<(), AllocError>
-    ensures { OnOk result (string_bytes out.new ≡ string_bytes out.old ++ (codes "<mo>" ++ (content_char c ++ codes "</mo>"))) }
+    ensures { Appends out.old out.new (upright_print c) result }
 {
     match command_operator_markup(c) {
         Some(markup) => out.push_str(markup),
@@ -90,7 +92,7 @@ fn write_other_operator(c: char, out: &mut String) -> Result<(), AllocError>
 
 /// Writes a number.
 fn write_number(digits: &str, out: &mut String) -> Result<(), AllocError>
-    ensures { OnOk result (string_bytes out.new ≡ string_bytes out.old ++ print (number digits.now)) }
+    ensures { Appends out.old out.new (print (number digits.now)) result }
 {
     match digit_markup(digits.as_bytes()) {
         Some(markup) => out.push_str(markup),
@@ -101,8 +103,9 @@ fn write_number(digits: &str, out: &mut String) -> Result<(), AllocError>
 /// Writes a letter or an operator with a slash through it, and returns whether the form is one.
 pub(crate) fn write_slashed(form: Form, out: &mut String) -> Result<bool, AllocError>
     ensures print { IfOk result (λ written. MatchBool written
-        ((texts : List (List ℕ)) (ts : List Tree) → string_bytes out.new ≡ string_bytes out.old ++ print (slashed (top (put_form texts form.entry ts))))
-        ((string_bytes out.new ≡ string_bytes out.old) × ((texts : List (List ℕ)) (ts : List Tree) → print (slashed (top (put_form texts form.entry ts))) ≡ print (top (put_form texts form.entry ts))))) }
+        ((texts : List (List ℕ)) (ts : List Tree)
+        → string_bytes out.new ≡ string_bytes out.old ++ slashed_print texts form.entry ts)
+        ((string_bytes out.new ≡ string_bytes out.old) × HidesSlash form.entry)) }
 {
     match form {
         Form::Of(Kind::Letter(c, variant)) => {
@@ -119,7 +122,7 @@ pub(crate) fn write_slashed(form: Form, out: &mut String) -> Result<bool, AllocE
 
 /// Writes the brace over a tree or under it, and what stands after it.
 pub(crate) fn write_brace(c: char, after: &'static str, out: &mut String) -> Result<(), AllocError>
-    ensures { OnOk result (string_bytes out.new ≡ string_bytes out.old ++ (print (operator c) ++ after.now)) }
+    ensures { Appends out.old out.new (print (operator c) ++ after.now) result }
 {
     write_operator(c, out)?;
     out.push_str(after)
@@ -132,7 +135,7 @@ pub(crate) fn write_sign(
     after: &'static str,
     out: &mut String,
 ) -> Result<(), AllocError>
-    ensures { OnOk result (string_bytes out.new ≡ string_bytes out.old ++ sign_print c accent after.now) }
+    ensures { Appends out.old out.new (sign_print c accent after.now) result }
 {
     match accent {
         Accent::True => write_char("<mo accent=\"true\">", c, after, out),
@@ -142,7 +145,7 @@ pub(crate) fn write_sign(
 
 /// Writes a space, in eighteenths of an em.
 fn write_space(width: i32, out: &mut String) -> Result<(), AllocError>
-    ensures { OnOk result (string_bytes out.new ≡ string_bytes out.old ++ print (space width)) }
+    ensures { Appends out.old out.new (print (space width)) result }
 {
     match space_markup(width) {
         Some(markup) => out.push_str(markup),
@@ -152,7 +155,7 @@ fn write_space(width: i32, out: &mut String) -> Result<(), AllocError>
 
 /// Writes a parenthesis of a size of its own.
 fn write_sized(size: Size, paren: Paren, out: &mut String) -> Result<(), AllocError>
-    ensures { OnOk result (string_bytes out.new ≡ string_bytes out.old ++ print (sized_paren (size_text size) (paren_text paren))) }
+    ensures { Appends out.old out.new (sized_print size paren) result }
 {
     write_text(size_open(size), paren.text(), "</mo></mrow>", out)?;
     Ok(())
@@ -165,7 +168,7 @@ pub(crate) fn write_text(
     after: &str,
     out: &mut String,
 ) -> Result<(), AllocError>
-    ensures { OnOk result (string_bytes out.new ≡ string_bytes out.old ++ (before.now ++ (content text.now ++ after.now))) }
+    ensures { Appends out.old out.new (before.now ++ (content text.now ++ after.now)) result }
 {
     out.push_str(before)?;
     append_content(text, out)?;
@@ -179,7 +182,7 @@ pub(crate) fn write_char(
     after: &str,
     out: &mut String,
 ) -> Result<(), AllocError>
-    ensures { OnOk result (string_bytes out.new ≡ string_bytes out.old ++ (before.now ++ (content_char c ++ after.now))) }
+    ensures { Appends out.old out.new (before.now ++ (content_char c ++ after.now)) result }
 {
     out.push_str(before)?;
     append_content_char(c, out)?;

@@ -1,11 +1,12 @@
 //! What stands first of a tree with operands. The rest is put on the list.
-ghost use Rattle.std.specs.Prelude.{◌≡◌, ◌+◌, ◌<◌, ◌≤◌, ◌++◌, IfOk, OnOk, length, string_bytes, Option, Some};
-ghost use Rattle.latex2mathml_trees.specs.Print.{print};
+ghost use Rattle.std.specs.Prelude.{◌≡◌, ◌<◌, ◌≤◌, IfOk, OnOk, length, Option};
+ghost use Rattle.latex2mathml_trees.specs.{Print.print, Texts.Appends};
 ghost use Rattle.latex2mathml_tokens.specs.declared.attribute.Variant.{Variant};
-ghost use Rattle.latex2mathml_parts.specs.{Forests.IsPlace, Forests.tree_at, Forests.trees_at, Forms.in_style};
-ghost use Rattle.latex2mathml_parts.specs.Parts.{arity, put, top};
-ghost use Rattle.latex2mathml_parts.specs.Shapes.{count_of, opening, operands_print, operands_weight, print_weight};
-ghost use Rattle.latex2mathml_parts.specs.Works.{AreIn, IsIn, Leaves, Writes, due, load, work_print, work_weight};
+ghost use Rattle.latex2mathml_parts.specs.{Forests.IsPlace, Forests.form_tree, Forests.trees_at};
+ghost use Rattle.latex2mathml_parts.specs.{Forms.in_style, Parts.arity, declared.form.Form.Form};
+ghost use Rattle.latex2mathml_parts.specs.Shapes.{count_of, opening, print_weight};
+ghost use Rattle.latex2mathml_parts.specs.Works.{AreIn, IsIn, Leaves, LeavesOperands};
+ghost use Rattle.latex2mathml_parts.specs.Works.{Writes, WritesOperands, work_weight};
 
 use crate::kind::Kind;
 use crate::parts::Parts;
@@ -29,9 +30,11 @@ impl Parts<'_> {
         requires fits { arity kind ≤ length (trees_at self.now end) }
         requires within { end ≤ length self.now.list }
         requires inside { AreIn self.now works.old.items }
-        ensures print { IfOk result (λ next. (style : Option Variant) → Writes self.now (string_bytes out.old) works.old.items
-            (print (in_style style (top (put kind.entry (trees_at self.now end))))) (string_bytes out.new) works.new.items next) }
-        ensures left { IfOk result (Leaves self.now works.old.items (print_weight (top (put kind.entry (trees_at self.now end)))) works.new.items) }
+        ensures print { IfOk result (λ next. (style : Option Variant)
+            → Writes self.now out.old works.old out.new works.new
+            (print (in_style style (form_tree self.now (Form.Of kind.entry) end))) next) }
+        ensures left { IfOk result (Leaves self.now works.old works.new
+            (print_weight (form_tree self.now (Form.Of kind.entry) end))) }
     {
         let shape = shape_of(kind);
         write_opening(shape.before, shape.sign, out)?;
@@ -54,11 +57,8 @@ impl Parts<'_> {
         requires inside { AreIn self.now works.old.items }
         ensures inside { OnOk result (AreIn self.now works.new.items) }
         ensures next { IfOk result (IsPlace self.now) }
-        ensures print { IfOk result (λ next. print (tree_at self.now next) ++ due self.now works.new.items
-            ≡ operands_print shape.operands shape.before.now (trees_at self.now end) (work_print self.now shape.after)
-            ++ due self.now works.old.items) }
-        ensures weight { IfOk result (λ next. load self.now works.new.items + print_weight (tree_at self.now next)
-            < load self.now works.old.items + operands_weight shape.operands (trees_at self.now end) + 4) }
+        ensures print { IfOk result (WritesOperands self.now shape end works.old works.new) }
+        ensures weight { IfOk result (LeavesOperands self.now shape end works.old works.new) }
     {
         self.push_work(shape.after, works)?;
         match shape.operands {
@@ -91,7 +91,7 @@ fn write_opening(
     sign: Option<char>,
     out: &mut String,
 ) -> Result<(), AllocError>
-    ensures { OnOk result (string_bytes out.new ≡ string_bytes out.old ++ opening before.now sign) }
+    ensures { Appends out.old out.new (opening before.now sign) result }
 {
     out.push_str(before)?;
     match sign {

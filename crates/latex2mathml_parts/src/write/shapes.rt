@@ -1,10 +1,11 @@
 //! What stands around the operands of a part, by its kind.
-ghost use Rattle.std.specs.Prelude.{◌≡◌, ◌+◌, ◌<◌, ◌≤◌, ◌++◌, List, None, Option, Some};
+ghost use Rattle.std.specs.Prelude.{◌≡◌, ◌<◌, List, None, Option, Some};
 ghost use Rattle.latex2mathml_trees.specs.{Print.print, Tree.Tree};
 ghost use Rattle.latex2mathml_tokens.specs.declared.attribute.Variant.{Variant};
 ghost use Rattle.latex2mathml_parts.specs.{Forms.in_style, Parts.arity, Parts.put, Parts.top};
-ghost use Rattle.latex2mathml_parts.specs.Shapes.{count_of, opening, operands_print, operands_weight, print_weight};
-ghost use Rattle.latex2mathml_parts.specs.{Works.IsIn, Works.work_print, Works.work_weight, declared.work.Work.Work, Forests.Forest};
+ghost use Rattle.latex2mathml_parts.specs.{Forests.Forest, Shapes.WeighsLess, Shapes.count_of};
+ghost use Rattle.latex2mathml_parts.specs.Works.{IsIn, shape_print, shape_with, work_weight};
+ghost use Rattle.latex2mathml_parts.specs.declared.work.Work.{Work};
 ghost use Rattle.latex2mathml_parts.specs.declared.write.shapes.Operands.{Operands};
 
 use crate::kind::Kind;
@@ -41,10 +42,9 @@ pub(crate) fn shape_of(kind: Kind) -> Shape
     requires { 0 < arity kind }
     ensures operands { count_of result.operands ≡ arity kind.entry }
     ensures after { (f : Forest) → IsIn f result.after × (work_weight f result.after ≡ 1) }
-    ensures print { (f : Forest) (style : Option Variant) (ts : List Tree) → opening result.before.now result.sign
-        ++ operands_print result.operands result.before.now ts (work_print f result.after)
+    ensures print { (f : Forest) (style : Option Variant) (ts : List Tree) → shape_print f result ts
         ≡ print (in_style style (top (put kind.entry ts))) }
-    ensures weight { (ts : List Tree) → operands_weight result.operands ts + 4 ≤ print_weight (top (put kind.entry ts)) }
+    ensures weight { WeighsLess result.operands kind.entry }
 {
     match kind {
         Kind::Primed => around("<msup>", Operands::One, "<mo>′</mo></msup>"),
@@ -99,7 +99,7 @@ pub(crate) fn shape_of(kind: Kind) -> Shape
 /// Operands between two texts.
 #[inline(always)]
 fn around(before: &'static str, operands: Operands, after: &'static str) -> Shape
-    ensures { result ≡ record { before = before.entry; sign = None; operands = operands; after = Work.Markup after.entry } }
+    ensures { result ≡ shape_with before.entry None operands (Work.Markup after.entry) }
 {
     Shape {
         before,
@@ -112,7 +112,7 @@ fn around(before: &'static str, operands: Operands, after: &'static str) -> Shap
 /// The same, with an operator before the operands.
 #[inline(always)]
 fn signed(before: &'static str, sign: char, operands: Operands, after: &'static str) -> Shape
-    ensures { result ≡ record { before = before.entry; sign = Some sign; operands = operands; after = Work.Markup after.entry } }
+    ensures { result ≡ shape_with before.entry (Some sign) operands (Work.Markup after.entry) }
 {
     Shape {
         before,
@@ -125,7 +125,7 @@ fn signed(before: &'static str, sign: char, operands: Operands, after: &'static 
 /// One operand before an operator or a sign.
 #[inline(always)]
 fn before_work(before: &'static str, after: Work) -> Shape
-    ensures { result ≡ record { before = before.entry; sign = None; operands = Operands.One; after = after } }
+    ensures { result ≡ shape_with before.entry None Operands.One after }
 {
     Shape {
         before,

@@ -2,7 +2,8 @@
 ghost use Rattle.std.specs.Prelude.{◌≡◌, ◌++◌, IfSome, codes};
 ghost use Rattle.latex2mathml_trees.specs.Print.{print};
 ghost use Rattle.latex2mathml_trees.specs.Tree.{function, letter, number, operator, space};
-ghost use Rattle.latex2mathml_tokens.specs.{Attributes.variant_text, Escape.content_char, Escape.value};
+ghost use Rattle.latex2mathml_parts.specs.Shapes.{upright_print};
+ghost use Rattle.latex2mathml_tokens.specs.{Attributes.variant_text, Escape.value};
 ghost use Rattle.latex2mathml_tokens.specs.Names.{function_text, limit_text, size_text};
 ghost use Rattle.latex2mathml_tokens.specs.declared.attribute.Variant.TheVariants.{Italic};
 
@@ -62,7 +63,7 @@ pub(crate) fn operator_markup(c: char) -> Option<&'static str>
 /// An operator of a frequent command.
 #[tactic(auto, unfolding(crate::proofs::Encoding::encode_utf8))]
 pub(crate) fn command_operator_markup(c: char) -> Option<&'static str>
-    ensures { IfSome result (λ markup. markup.now ≡ codes "<mo>" ++ (content_char c ++ codes "</mo>")) }
+    ensures { IfSome result (λ markup. markup.now ≡ upright_print c) }
 {
     elements!(c, "<mo>", "</mo>", '±' '·' '×' '→' '∈' '−' '∗' '≠' '≤' '≥')
 }

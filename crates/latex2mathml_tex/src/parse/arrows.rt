@@ -1,13 +1,13 @@
 //! Arrows that are as long as what stands above and below them.
 ghost use Rattle.latex2mathml_tex_grammar.specs.Rules.{an_arrow};
-ghost use Rattle.latex2mathml_tex.specs.Models.{context_of};
+ghost use Rattle.latex2mathml_tex_atoms.specs.Models.{context_of};
 ghost use Rattle.latex2mathml_tex.specs.Steps.{BeginsIn, CanBegin, Advances, LeadsOn};
 
-use crate::atoms::{Context, Row};
 use crate::parse::frames::{Ending, Frame, Last};
 use crate::parse::{Parser, State};
-use crate::shapes::put_arrow;
-use latex2mathml_tex_units::meaning::Style;
+use latex2mathml_tex_atoms::atoms::{Context, Row};
+use latex2mathml_tex_atoms::shapes::put_arrow;
+use latex2mathml_tex_commands::meaning::Style;
 use std::alloc::AllocError;
 
 impl<'a> Parser<'a> {

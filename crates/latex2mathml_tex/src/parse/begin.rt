@@ -1,27 +1,28 @@
 //! How the rule of each unit is begun.
 ghost use Rattle.std.specs.Prelude.{◌≡◌, ℕ, false, option_map};
-ghost use Rattle.latex2mathml_builder.specs.Names.{size_of};
+ghost use Rattle.latex2mathml_attributes.specs.Names.{size_of};
 ghost use Rattle.latex2mathml_tex_grammar.specs.Makes;
 ghost use Rattle.latex2mathml_tex_grammar.specs.{Meaning.Left, Starts.is_no_operand, Units.Command};
 ghost use Rattle.latex2mathml_tex_grammar.specs.Commands;
 ghost use Rattle.latex2mathml_tex_grammar.specs.Rules.{a_negation, a_root, an_operator_name, character_rule, command_rule, gives, meaning_rule, reads_words, some_dots, takes_delimiter};
 ghost use Rattle.latex2mathml_tex_grammar.specs.{Makes.core, Words.words_atom};
-ghost use Rattle.latex2mathml_tex_units.specs.{Meanings.alphabet_of, Meanings.class_of, Meanings.meaning_of, Taking.piece_of};
-ghost use Rattle.latex2mathml_tex.specs.Models.{context_of};
+ghost use Rattle.latex2mathml_tex_commands.specs.Meanings.{alphabet_of, class_of, meaning_of};
+ghost use Rattle.latex2mathml_tex_units.specs.Taking.{piece_of};
+ghost use Rattle.latex2mathml_tex_atoms.specs.Models.{context_of};
 ghost use Rattle.latex2mathml_tex.specs.Steps.{AwaitsCore, AwaitsOperand, Begins, BeginsIn, BeginsUnit, CanBegin, HoldsIn, Advances, LeadsOn, Ready, Took};
 
-use crate::atoms::{Context, Core, Kind, Row, Words};
 use crate::parse::frames::{Ending, First, Frame, Last};
 use crate::parse::leaves::{begin_number, number};
 use crate::parse::symbols::put_letter;
 use crate::parse::{Parser, State};
-use crate::shapes::put_sized;
-use latex2mathml_builder::attributes::{Attributes, Size};
-use latex2mathml_builder::tag::Token;
-use latex2mathml_tex_units::commands;
+use latex2mathml_attributes::attributes::{Attributes, Size};
+use latex2mathml_attributes::tag::Token;
+use latex2mathml_tex_atoms::atoms::{Context, Core, Kind, Row, Words};
+use latex2mathml_tex_atoms::shapes::put_sized;
+use latex2mathml_tex_commands::commands;
+use latex2mathml_tex_commands::meaning::{Alphabet, Class, LimitPlace, Meaning, Style};
 use latex2mathml_tex_units::dots::{CENTERED_DOTS, LOW_DOTS};
 use latex2mathml_tex_units::error::TexErrorKind;
-use latex2mathml_tex_units::meaning::{Alphabet, Class, LimitPlace, Meaning, Style};
 use latex2mathml_tex_units::scanning::{LengthEnd, Spot};
 use latex2mathml_tex_units::unit::{Next, Piece, Unit};
 use std::alloc::AllocError;

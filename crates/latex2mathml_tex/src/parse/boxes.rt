@@ -1,16 +1,17 @@
 //! Spaces of a length, and boxes.
 ghost use Rattle.latex2mathml_tex_grammar.specs.Rules.{a_bar, a_box, a_rectangle, a_skip, a_smash, meaning_rule};
 ghost use Rattle.latex2mathml_tex_grammar.specs.Meaning.{Highlight, InColor, Raise, SkipInBraces};
-ghost use Rattle.latex2mathml_tex_units.specs.{Meanings.box_of, Scans.spot_of};
-ghost use Rattle.latex2mathml_tex.specs.Models.{context_of};
+ghost use Rattle.latex2mathml_tex_commands.specs.Meanings.{box_of};
+ghost use Rattle.latex2mathml_tex_units.specs.Scans.{spot_of};
+ghost use Rattle.latex2mathml_tex_atoms.specs.Models.{context_of};
 ghost use Rattle.latex2mathml_tex.specs.Steps.{Begins, BeginsIn, CanBegin, Advances, LeadsOn};
 
-use crate::atoms::{Context, Core, Kind};
-use crate::boxes::put_bar;
 use crate::parse::frames::{Frame, Last};
 use crate::parse::{Parser, State};
-use latex2mathml_builder::extent::Extent;
-use latex2mathml_tex_units::meaning::{Class, OperandBox};
+use latex2mathml_attributes::extent::Extent;
+use latex2mathml_tex_atoms::atoms::{Context, Core, Kind};
+use latex2mathml_tex_atoms::boxes::put_bar;
+use latex2mathml_tex_commands::meaning::{Class, OperandBox};
 use latex2mathml_tex_units::scanning::{LengthEnd, Spot};
 use std::alloc::AllocError;
 

@@ -2,24 +2,24 @@
 ghost use Rattle.std.specs.Prelude.{◌≡◌, ◌+◌, IfOk, Ok, drop};
 ghost use Rattle.latex2mathml_tex_grammar.specs.{Makes.struck, Rules.gives, Rules.struck_atom};
 ghost use Rattle.latex2mathml_tex.specs.Frames.{Start, last_count, made_of};
-ghost use Rattle.latex2mathml_tex.specs.{Models.core_with, Models.operand_with, Models.top};
+ghost use Rattle.latex2mathml_tex_atoms.specs.Models.{core_with, operand_with, top};
 ghost use Rattle.latex2mathml_tex_grammar.specs.Makes;
 ghost use Rattle.latex2mathml_elements.specs.Element.{Element};
-ghost use Rattle.latex2mathml_tex_units.specs.Meanings.{class_of};
-ghost use Rattle.latex2mathml_tex.specs.declared.atoms.{Core.Core, Operand.Operand};
+ghost use Rattle.latex2mathml_tex_commands.specs.Meanings.{class_of};
+ghost use Rattle.latex2mathml_tex_atoms.specs.declared.atoms.{Core.Core, Operand.Operand};
 ghost use Rattle.latex2mathml_tex.specs.Steps.{Begins, CanMake, FirstRead, Holds, HoldsIn, Advances, LeadsOn, Ready, core_made, elements_of};
 
-use crate::atoms::{Context, Core, Kind, Operand, Row, Scripts};
-use crate::boxes::put_in_box;
-use crate::fractions::put_fraction;
-use crate::outlines::put_outlined;
 use crate::parse::frames::{First, Frame, Last};
 use crate::parse::{Parser, State};
-use crate::shapes::{make_base, put_accent, put_brace, put_stack, with_atom};
-use latex2mathml_builder::attributes::{Attributes, Side};
-use latex2mathml_builder::tag::{Container, Pair, Triple};
+use latex2mathml_attributes::attributes::{Attributes, Side};
+use latex2mathml_attributes::tag::{Container, Pair, Triple};
+use latex2mathml_tex_atoms::atoms::{Context, Core, Kind, Operand, Row, Scripts};
+use latex2mathml_tex_atoms::boxes::put_in_box;
+use latex2mathml_tex_atoms::fractions::put_fraction;
+use latex2mathml_tex_atoms::outlines::put_outlined;
+use latex2mathml_tex_atoms::shapes::{make_base, put_accent, put_brace, put_stack, with_atom};
+use latex2mathml_tex_commands::meaning::{Class, LimitPlace};
 use latex2mathml_tex_units::error::TexErrorKind;
-use latex2mathml_tex_units::meaning::{Class, LimitPlace};
 use std::alloc::AllocError;
 
 impl<'a> Parser<'a> {

@@ -1,19 +1,19 @@
 //! Environments: how they begin.
 ghost use Rattle.std.specs.Prelude.{◌≡◌, MatchOption, Some, false, length, true, nat_le};
-ghost use Rattle.latex2mathml_builder.specs.{Columns.column_of, Columns.columns_of};
+ghost use Rattle.latex2mathml_attributes.specs.Columns.{column_of, columns_of};
 ghost use Rattle.latex2mathml_elements.specs.Columns.{Listed};
 ghost use Rattle.latex2mathml_tex_grammar.specs.Environments;
 ghost use Rattle.latex2mathml_tex_grammar.specs.{Meaning.BeginTable};
 ghost use Rattle.latex2mathml_tex_grammar.specs.Scanning.{BeforeArgument, ColumnList, Number};
 ghost use Rattle.latex2mathml_tex_grammar.specs.Rules.{alignment_rule, argument_rule, environment_rule, listed_rule, meaning_rule, most_columns, rows_rule, takes_found};
 ghost use Rattle.latex2mathml_tex_units.specs.{Scans.argument_of, Environments.environment_of};
-ghost use Rattle.latex2mathml_tex.specs.Models.{context_of};
+ghost use Rattle.latex2mathml_tex_atoms.specs.Models.{context_of};
 ghost use Rattle.latex2mathml_tex.specs.Steps.{BeginsIn, CanBegin, Advances, LeadsOn};
 
-use crate::atoms::Context;
 use crate::parse::frames::{Table, TableKind};
 use crate::parse::{Parser, State};
-use latex2mathml_builder::columns::{Column, Columns};
+use latex2mathml_attributes::columns::{Column, Columns};
+use latex2mathml_tex_atoms::atoms::Context;
 use latex2mathml_tex_units::environments;
 use latex2mathml_tex_units::environments::{Bracket, Environment};
 use latex2mathml_tex_units::error::TexErrorKind;

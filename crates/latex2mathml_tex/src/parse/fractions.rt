@@ -1,14 +1,14 @@
 //! Fractions: what opens the operands above and below the bar.
 ghost use Rattle.std.specs.Prelude.{option_map};
 ghost use Rattle.latex2mathml_tex_grammar.specs.Rules.{a_continued_fraction, a_fraction};
-ghost use Rattle.latex2mathml_tex_units.specs.Meanings.{fraction_rule_of, style_of};
-ghost use Rattle.latex2mathml_tex.specs.Models.{context_of};
+ghost use Rattle.latex2mathml_tex_commands.specs.Meanings.{fraction_rule_of, style_of};
+ghost use Rattle.latex2mathml_tex_atoms.specs.Models.{context_of};
 ghost use Rattle.latex2mathml_tex.specs.Steps.{Begins, CanBegin, Advances, LeadsOn};
 
-use crate::atoms::Context;
 use crate::parse::frames::{First, Frame};
 use crate::parse::{Parser, State};
-use latex2mathml_tex_units::meaning::{FractionRule, Style};
+use latex2mathml_tex_atoms::atoms::Context;
+use latex2mathml_tex_commands::meaning::{FractionRule, Style};
 use std::alloc::AllocError;
 
 impl<'a> Parser<'a> {

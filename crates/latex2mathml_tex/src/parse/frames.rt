@@ -3,22 +3,25 @@ ghost use Rattle.std.specs.Prelude.{◌≡◌, ℕ, ◌∷◌, ◌++◌, [], Lis
 ghost use Rattle.latex2mathml_tex_grammar.specs.Starts.{DividerStart, atom_start, change_by, ends, mark_of, start_of_mark};
 ghost use Rattle.latex2mathml_tex_grammar.specs.{Refusal.refusal_at, Starts.unended, Environments.before_cell, Rules.InCell};
 ghost use Rattle.latex2mathml_elements.specs.Columns.{column_at};
-ghost use Rattle.latex2mathml_builder.specs.Columns.{columns_of};
+ghost use Rattle.latex2mathml_attributes.specs.Columns.{columns_of};
 ghost use Rattle.latex2mathml_tex.specs.Frames.{ending_of};
-ghost use Rattle.latex2mathml_tex_units.specs.{Errors.kind_of_error, Meanings.style_of};
-ghost use Rattle.latex2mathml_tex.specs.{Models.before_of, Tables.style_in, Tables.table_end};
-ghost use Rattle.latex2mathml_tex.specs.Innermost.{IsInnermost, begun_row, empty_row, frame_context, frame_row};
+ghost use Rattle.latex2mathml_tex_units.specs.Errors.{kind_of_error};
+ghost use Rattle.latex2mathml_tex_commands.specs.Meanings.{style_of};
+ghost use Rattle.latex2mathml_tex_atoms.specs.Models.{before_of};
+ghost use Rattle.latex2mathml_tex.specs.Tables.{style_in, table_end};
+ghost use Rattle.latex2mathml_tex.specs.Innermost.{IsInnermost, begun_row, frame_context, frame_row};
+ghost use Rattle.latex2mathml_tex_atoms.specs.Models.{empty_row};
 ghost use Rattle.latex2mathml_tex_units.specs.Taking.{piece_of};
 
-use crate::atoms::{Before, Context, Core, Row, Scripts, Words};
-use crate::outlines::Outline;
-use latex2mathml_builder::attributes::{Side, Stretch};
-use latex2mathml_builder::columns::{Column, Columns};
-use latex2mathml_tex_units::environments::Environment;
-use latex2mathml_tex_units::error::TexErrorKind;
-use latex2mathml_tex_units::meaning::{
+use latex2mathml_attributes::attributes::{Side, Stretch};
+use latex2mathml_attributes::columns::{Column, Columns};
+use latex2mathml_tex_atoms::atoms::{Before, Context, Core, Row, Scripts, Words};
+use latex2mathml_tex_atoms::outlines::Outline;
+use latex2mathml_tex_commands::meaning::{
     Alphabet, Class, FractionRule, LimitPlace, OperandBox, Style,
 };
+use latex2mathml_tex_units::environments::Environment;
+use latex2mathml_tex_units::error::TexErrorKind;
 use latex2mathml_tex_units::unit::Piece;
 use std::alloc::{AllocError, Global};
 

@@ -7,24 +7,26 @@ ghost use Rattle.latex2mathml_tex_grammar.specs.Next.{digits_next};
 ghost use Rattle.latex2mathml_tex_grammar.specs.{Atoms.Plain, Atoms.atom, Symbols.Ordinary};
 ghost use Rattle.latex2mathml_tex_grammar.specs.Rules.{a_symbol, gives};
 ghost use Rattle.latex2mathml_tex_grammar.specs.Commands.{symbol_of};
-ghost use Rattle.latex2mathml_tex.specs.{Models.context_of, declared.atoms.Context.Context};
+ghost use Rattle.latex2mathml_tex_atoms.specs.{Models.context_of, declared.atoms.Context.Context};
 ghost use Rattle.latex2mathml_elements.specs.{Element.Element};
-ghost use Rattle.latex2mathml_tex_units.specs.{Left.units_at, Meanings.alphabet_of, Meanings.limit_place_of};
-ghost use Rattle.latex2mathml_tex.specs.{Frames.Start, Models.core_with};
-ghost use Rattle.latex2mathml_tex_units.specs.Meanings;
+ghost use Rattle.latex2mathml_tex_units.specs.Left.{units_at};
+ghost use Rattle.latex2mathml_tex_commands.specs.Meanings.{alphabet_of, limit_place_of};
+ghost use Rattle.latex2mathml_tex.specs.Frames.{Start};
+ghost use Rattle.latex2mathml_tex_atoms.specs.Models.{core_with};
+ghost use Rattle.latex2mathml_tex_commands.specs.Meanings;
 ghost use Rattle.latex2mathml_tex.specs.Numbers.{digit_in};
 ghost use Rattle.latex2mathml_tex.specs.Steps.{Begins, CanBegin, Holds, Advances, LeadsOn, NumberBegins, PointBegins};
 
-use crate::atoms::{Core, Kind};
 use crate::parse::symbols::{put_letter, put_symbol, put_upright_letter};
 use crate::parse::{Parser, State};
-use latex2mathml_builder::attributes::Attributes;
+use latex2mathml_attributes::attributes::Attributes;
+use latex2mathml_attributes::tag::Token;
 use latex2mathml_builder::builder::Builder;
-use latex2mathml_builder::tag::Token;
-use latex2mathml_tex_units::alphabets::in_alphabet;
+use latex2mathml_tex_atoms::atoms::{Core, Kind};
+use latex2mathml_tex_commands::alphabets::in_alphabet;
+use latex2mathml_tex_commands::meaning::{Alphabet, Class, LimitPlace, Symbol};
+use latex2mathml_tex_commands::signs::symbol_of;
 use latex2mathml_tex_units::input::Input;
-use latex2mathml_tex_units::meaning::{Alphabet, Class, LimitPlace, Symbol};
-use latex2mathml_tex_units::signs::symbol_of;
 use std::alloc::AllocError;
 
 impl<'a> Parser<'a> {

@@ -4,16 +4,17 @@ ghost use Rattle.latex2mathml_tex_grammar.specs.Refusal.{MissingArgument, refusa
 ghost use Rattle.latex2mathml_tex_grammar.specs.Rules;
 ghost use Rattle.latex2mathml_tex_grammar.specs.Rules.{a_general_fraction, a_line, an_outer_delimiter, an_outline};
 ghost use Rattle.latex2mathml_tex_grammar.specs.Scanning.{BeforeArgument, Number};
-ghost use Rattle.latex2mathml_tex_units.specs.{Delimiters.delimiter_text, Meanings.style_of};
-ghost use Rattle.latex2mathml_tex.specs.{TakenBy.TookBy, Models.context_of, Outlines.outline_of};
+ghost use Rattle.latex2mathml_tex_commands.specs.{Delimiters.delimiter_text, Meanings.style_of};
+ghost use Rattle.latex2mathml_tex.specs.TakenBy.{TookBy};
+ghost use Rattle.latex2mathml_tex_atoms.specs.{Models.context_of, Outlines.outline_of};
 ghost use Rattle.latex2mathml_tex.specs.Steps.{Begins, CanBegin, Advances, LeadsOn, TookValue};
 
-use crate::atoms::Context;
-use crate::outlines::{Outline, numbered_style};
 use crate::parse::frames::{First, Frame};
 use crate::parse::{Parser, State};
+use latex2mathml_tex_atoms::atoms::Context;
+use latex2mathml_tex_atoms::outlines::{Outline, numbered_style};
+use latex2mathml_tex_commands::meaning::Style;
 use latex2mathml_tex_units::error::TexErrorKind;
-use latex2mathml_tex_units::meaning::Style;
 use latex2mathml_tex_units::scanning::{Argument, Spot};
 use std::alloc::AllocError;
 

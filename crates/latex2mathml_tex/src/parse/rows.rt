@@ -1,22 +1,24 @@
 //! Rows: how each atom of one begins, how it is put behind the others, and how a row ends.
 ghost use Rattle.std.specs.Prelude.{◌≡◌, ◌≢◌, ◌+◌, ◌≤◌, ℕ, false};
 ghost use Rattle.latex2mathml_tex_grammar.specs.{Makes.no_scripts, Meaning.Beside, Starts.empty_base, Starts.ends};
-ghost use Rattle.latex2mathml_tex_units.specs.{Meanings.change_of, Taking.piece_of};
-ghost use Rattle.latex2mathml_tex.specs.{Frames.ending_count, Frames.ending_of, Models.row_count, Frames.Start};
+ghost use Rattle.latex2mathml_tex_commands.specs.Meanings.{change_of};
+ghost use Rattle.latex2mathml_tex_units.specs.Taking.{piece_of};
+ghost use Rattle.latex2mathml_tex.specs.Frames.{ending_count, ending_of, Start};
+ghost use Rattle.latex2mathml_tex_atoms.specs.Models.{row_count};
 ghost use Rattle.latex2mathml_tex.specs.Steps.{Awaits, AwaitsAtom, BeginsDivider, BeginsRest, CanBegin, CanMake, ClosesRow, EndsFormula, EndsRow, EndsText, EndsWithText, HasElements, HoldsIn, InnermostIs, Advances, LeadsOn, MadeAtom, Ready, Took, TookMark, TookUnmarked, atom_made, core_made, ending_weight, level, row_makes, Closes, Follows, Holds, to_do};
-ghost use Rattle.latex2mathml_tex.specs.declared.atoms.{Context.Context, Row.Row};
+ghost use Rattle.latex2mathml_tex_atoms.specs.declared.atoms.{Context.Context, Row.Row};
 
-use crate::atoms::{Context, Core, Kind, Operand, Row, Scripts, Words};
 use crate::parse::frames::{Ending, Frame, Last, Table};
 use crate::parse::scripts::{Mark, mark_of};
 use crate::parse::{Parser, State};
-use crate::rests::{divide, finish, recolor, restyle};
-use crate::shapes::{enclose, lower_dividers, put_divider, put_row, with_atom};
-use latex2mathml_builder::attributes::Attributes;
-use latex2mathml_builder::tag::Container;
-use latex2mathml_tex_units::commands;
+use latex2mathml_attributes::attributes::Attributes;
+use latex2mathml_attributes::tag::Container;
+use latex2mathml_tex_atoms::atoms::{Context, Core, Kind, Operand, Row, Scripts, Words};
+use latex2mathml_tex_atoms::rests::{divide, finish, recolor, restyle};
+use latex2mathml_tex_atoms::shapes::{enclose, lower_dividers, put_divider, put_row, with_atom};
+use latex2mathml_tex_commands::commands;
+use latex2mathml_tex_commands::meaning::{Change, Class, LimitPlace, Meaning, Style};
 use latex2mathml_tex_units::error::TexErrorKind;
-use latex2mathml_tex_units::meaning::{Change, Class, LimitPlace, Meaning, Style};
 use latex2mathml_tex_units::unit::{Next, Piece, Unit};
 use std::alloc::AllocError;
 

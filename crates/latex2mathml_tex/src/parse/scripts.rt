@@ -1,23 +1,26 @@
 //! Scripts: what stands after an atom.
 ghost use Rattle.std.specs.Prelude.{◌≡◌, ◌+◌, ◌≤◌, ◌∷◌, IfOk, None, OnOk, Some, drop, length, option_map};
 ghost use Rattle.latex2mathml_elements.specs.{Attributes.plain, Element.Element, Element.pair, Element.triple};
-ghost use Rattle.latex2mathml_builder.specs.{Built.elements_in, Names.pair_of, Names.triple_of};
+ghost use Rattle.latex2mathml_builder.specs.Built.{elements_in};
+ghost use Rattle.latex2mathml_attributes.specs.Names.{pair_of, triple_of};
 ghost use Rattle.latex2mathml_tex_grammar.specs.Makes;
 ghost use Rattle.latex2mathml_tex_grammar.specs.Starts;
-ghost use Rattle.latex2mathml_tex_units.specs.{Errors.second_on, Meanings.limit_place_of, Meanings.style_of, Taking.piece_of};
-ghost use Rattle.latex2mathml_tex.specs.{Frames.base_of, Frames.primes_put, Shapes.changed_at};
-ghost use Rattle.latex2mathml_tex.specs.Models.{core_with, script_count, scripts_with, top};
+ghost use Rattle.latex2mathml_tex_units.specs.{Errors.second_on, Taking.piece_of};
+ghost use Rattle.latex2mathml_tex_commands.specs.Meanings.{limit_place_of, style_of};
+ghost use Rattle.latex2mathml_tex.specs.Frames.{base_of, primes_put};
+ghost use Rattle.latex2mathml_tex_atoms.specs.Shapes.{changed_at};
+ghost use Rattle.latex2mathml_tex_atoms.specs.Models.{core_with, script_count, scripts_with, top};
 ghost use Rattle.latex2mathml_tex.specs.Steps.{CanMake, HoldsIn, Advances, LeadsOn, Ready, TookMark, TookScript, atom_made, elements_of, level, mark_model};
 
-use crate::atoms::{Core, Scripts};
 use crate::parse::frames::Frame;
 use crate::parse::{Parser, State};
-use crate::shapes::{fix_limits, put_primes, put_row};
-use latex2mathml_builder::attributes::{Attributes, Side};
+use latex2mathml_attributes::attributes::{Attributes, Side};
+use latex2mathml_attributes::tag::{Pair, Triple};
 use latex2mathml_builder::builder::Builder;
-use latex2mathml_builder::tag::{Pair, Triple};
+use latex2mathml_tex_atoms::atoms::{Core, Scripts};
+use latex2mathml_tex_atoms::shapes::{fix_limits, put_primes, put_row};
+use latex2mathml_tex_commands::meaning::{LimitPlace, Style};
 use latex2mathml_tex_units::error::TexErrorKind;
-use latex2mathml_tex_units::meaning::{LimitPlace, Style};
 use latex2mathml_tex_units::unit::{Next, Piece};
 use std::alloc::AllocError;
 

@@ -1,21 +1,21 @@
 //! What is put for a symbol: one element, which is all of an atom.
 ghost use Rattle.std.specs.Prelude.{◌≡◌, true, IfOk, Some, option_map};
-ghost use Rattle.latex2mathml_builder.specs.{Names.attributes_of, Names.element_with_text, Names.form_of};
+ghost use Rattle.latex2mathml_attributes.specs.Names.{attributes_of, element_with_text, form_of};
 ghost use Rattle.latex2mathml_elements.specs.{Attributes.plain, Element.Mo, Element.token};
 ghost use Rattle.latex2mathml_tex_grammar.specs.Makes;
 ghost use Rattle.latex2mathml_tex_grammar.specs.Makes.{core};
 ghost use Rattle.latex2mathml_tex_grammar.specs.{Atoms.Plain, Atoms.atom, Symbols.Operator};
-ghost use Rattle.latex2mathml_tex_units.specs.Meanings.{alphabet_of, class_of, limit_place_of};
-ghost use Rattle.latex2mathml_tex.specs.Models.{core_with, kind_of};
-ghost use Rattle.latex2mathml_tex_units.specs.Meanings;
-ghost use Rattle.latex2mathml_tex.specs.Shapes.{PutsCore};
+ghost use Rattle.latex2mathml_tex_commands.specs.Meanings.{alphabet_of, class_of, limit_place_of};
+ghost use Rattle.latex2mathml_tex_atoms.specs.Models.{core_with, kind_of};
+ghost use Rattle.latex2mathml_tex_commands.specs.Meanings;
+ghost use Rattle.latex2mathml_tex_atoms.specs.Shapes.{PutsCore};
 
-use crate::atoms::{Core, Kind};
-use latex2mathml_builder::attributes::{Attributes, Form, Space, Stretch};
+use latex2mathml_attributes::attributes::{Attributes, Form, Space, Stretch};
+use latex2mathml_attributes::tag::Token;
 use latex2mathml_builder::builder::Builder;
-use latex2mathml_builder::tag::Token;
-use latex2mathml_tex_units::alphabets::in_alphabet;
-use latex2mathml_tex_units::meaning::{Alphabet, Class, LimitPlace, Symbol};
+use latex2mathml_tex_atoms::atoms::{Core, Kind};
+use latex2mathml_tex_commands::alphabets::in_alphabet;
+use latex2mathml_tex_commands::meaning::{Alphabet, Class, LimitPlace, Symbol};
 use std::alloc::AllocError;
 
 /// Puts a character as it is, or in an alphabet.

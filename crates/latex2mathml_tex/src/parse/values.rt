@@ -1,6 +1,6 @@
 //! Lengths and colors that stand next.
 ghost use Rattle.std.specs.Prelude.{IfOk, option_map};
-ghost use Rattle.latex2mathml_builder.specs.Arounds.{color_of};
+ghost use Rattle.latex2mathml_attributes.specs.Arounds.{color_of};
 ghost use Rattle.latex2mathml_tex_grammar.specs.Colors;
 ghost use Rattle.latex2mathml_tex_grammar.specs.Lengths;
 ghost use Rattle.latex2mathml_tex_grammar.specs.Refusal.{LengthTooLarge, UnknownColor, refusal_at};
@@ -9,10 +9,10 @@ ghost use Rattle.latex2mathml_tex_units.specs.Scans.{spot_of};
 ghost use Rattle.latex2mathml_tex.specs.Steps.{TookValue};
 
 use crate::parse::Parser;
-use latex2mathml_builder::around::Color;
-use latex2mathml_tex_units::colors::color_of;
+use latex2mathml_attributes::around::Color;
+use latex2mathml_tex_commands::colors::color_of;
+use latex2mathml_tex_commands::lengths::width_of;
 use latex2mathml_tex_units::error::TexErrorKind;
-use latex2mathml_tex_units::lengths::width_of;
 use latex2mathml_tex_units::scanning::{Argument, Spot};
 use std::alloc::AllocError;
 

@@ -7,23 +7,24 @@ ghost use Rattle.latex2mathml_tex_grammar.specs.Words.{Formula, Shown, words_ato
 ghost use Rattle.latex2mathml_tex_grammar.specs.Words as words;
 ghost use Rattle.latex2mathml_tex_grammar.specs.Refusal.{CommandInWords, refusal_at};
 ghost use Rattle.latex2mathml_tex_grammar.specs.{Rows.single, Rules.gives, Symbols.InText, Units.Character, Units.Close, Units.Command};
-ghost use Rattle.latex2mathml_tex_units.specs.{Errors.refusal_of, Meanings.alphabet_of, Meanings.symbol_of, Taking.piece_of};
-ghost use Rattle.latex2mathml_tex.specs.Models.{words_with};
+ghost use Rattle.latex2mathml_tex_units.specs.{Errors.refusal_of, Taking.piece_of};
+ghost use Rattle.latex2mathml_tex_commands.specs.Meanings.{alphabet_of, symbol_of};
+ghost use Rattle.latex2mathml_tex_atoms.specs.Models.{words_with};
 ghost use Rattle.latex2mathml_tex.specs.Steps.{Begins, BeginsWordOf, CanMake, HoldsIn, Advances, LeadsOn, Ready, WordGiven, core_made, elements_of, words_made};
 
-use crate::atoms::{Context, Core, Kind, Row, Words};
 use crate::parse::frames::{Ending, Frame};
 use crate::parse::symbols::put_symbol;
 use crate::parse::{Parser, State};
-use crate::shapes::{put_row, with_atom};
-use latex2mathml_builder::attributes::Attributes;
-use latex2mathml_builder::tag::Token;
-use latex2mathml_tex_units::alphabets::in_alphabet;
-use latex2mathml_tex_units::commands;
+use latex2mathml_attributes::attributes::Attributes;
+use latex2mathml_attributes::tag::Token;
+use latex2mathml_tex_atoms::atoms::{Context, Core, Kind, Row, Words};
+use latex2mathml_tex_atoms::shapes::{put_row, with_atom};
+use latex2mathml_tex_commands::alphabets::in_alphabet;
+use latex2mathml_tex_commands::commands;
+use latex2mathml_tex_commands::meaning::{Alphabet, Change, Class, Meaning, Style, Symbol};
+use latex2mathml_tex_commands::text_commands::text_character;
 use latex2mathml_tex_units::dots::LOW_DOTS;
 use latex2mathml_tex_units::error::TexErrorKind;
-use latex2mathml_tex_units::meaning::{Alphabet, Change, Class, Meaning, Style, Symbol};
-use latex2mathml_tex_units::text_commands::text_character;
 use latex2mathml_tex_units::unit::{Next, Piece, Unit};
 use std::alloc::AllocError;
 

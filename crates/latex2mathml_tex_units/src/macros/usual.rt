@@ -5,10 +5,10 @@ ghost use Rattle.std.specs.Str.{chars};
 ghost use Rattle.latex2mathml_tex_grammar.specs.{Cutting.units_of, Definitions.parts_of, Sorted.ascending, UsualMacros.entry_macro, UsualMacros.listed, UsualMacros.macro_with, UsualMacros.usual_entries, UsualMacros.usual_macros};
 ghost use Rattle.latex2mathml_tex_units.specs.{Bodies.entry_of, Bodies.macro_of, Bodies.named_entry, Bodies.parts_in, Taking.unit_of};
 
-use crate::commands::order;
 use crate::macros::part::{Macro, Part, parts_of};
 use crate::reader::Reader;
 use crate::unit::{Next, Unit};
+use latex2mathml_tex_commands::commands::order;
 use std::alloc::{AllocError, Global};
 use std::cmp::Ordering;
 

@@ -44,7 +44,7 @@ returns-then-not-is_read c =
     record {
       rendering = tt;
       refused = formula_refused c.refusal.ensures.refusal found refused c.nodes.invariant.nodes;
-      within = within_node _ c.refusal.ensures.refusal refused c.nodes.invariant.nodes (grind (arith, found));
+      within = within_node c.args.parser.now.reader c.refusal.new.self.reader c.refusal.ensures.refusal refused c.nodes.invariant.nodes (grind (arith, found));
       all = tt;
       counted = all_counted;
       stack = stacks_within _ _ all_counted;

@@ -1,7 +1,7 @@
 use Rattle.std.proofs.Common.{◌≡◌, ◌≤◌, ℕ, List, [], ◌∷◌, ◌++◌, append-nil, append_assoc, arith, codes, length, reverse, string_bytes, take}
 use Rattle.latex2mathml_elements.specs.{Element.Element, Element.children, Print.print, Print.prints}
 use Rattle.latex2mathml_builder.specs.Built.{elements_in}
-use Rattle.latex2mathml_tex.specs.Models.{top}
+use Rattle.latex2mathml_tex_atoms.specs.Models.{top}
 use Rattle.latex2mathml_tex.proofs.convert.write_annotated_math.Goals as goal
 
 -- the markup of the uppermost element

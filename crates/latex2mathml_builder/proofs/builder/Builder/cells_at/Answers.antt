@@ -2,7 +2,7 @@ use Rattle.std.proofs.Common.{◌+◌, ◌<◌, ◌≤◌, ◌∷◌, ◌∙◌,
 use Rattle.latex2mathml_elements.specs.Element.{children, container}
 use Rattle.latex2mathml_builder.specs.Built.{Fits, element_of, settled_in}
 use Rattle.latex2mathml_builder.specs.Due.{in_cells, settled_from}
-use Rattle.latex2mathml_builder.specs.Names.{attributes_of, container_of}
+use Rattle.latex2mathml_attributes.specs.Names.{attributes_of, container_of}
 use Rattle.latex2mathml_builder.proofs.{Parts.settled_count, Tables.in_row, Written.taken_length}
 use Rattle.latex2mathml_builder.proofs.builder.Builder.cells_at.Goals as goal
 

@@ -1,6 +1,7 @@
 use Rattle.std.proofs.Common.{◌≡◌, ◌∷◌, ◌∙◌, OnOk, false, ap, arith, drop, length, subst}
 use Rattle.latex2mathml_elements.specs.Element.{children, container}
-use Rattle.latex2mathml_builder.specs.{Built.elements_in, Names.attributes_of, Names.container_of}
+use Rattle.latex2mathml_builder.specs.Built.{elements_in}
+use Rattle.latex2mathml_attributes.specs.Names.{attributes_of, container_of}
 use Rattle.latex2mathml_builder.proofs.Sound.{children_back, sound_push}
 use Rattle.latex2mathml_builder.proofs.builder.Builder.container.Goals as goal
 

@@ -1,6 +1,7 @@
 use Rattle.std.proofs.Common.{◌≡◌, ◌∷◌, ◌∙◌, OnOk, true, ap, drop, length, reverse, subst, take}
 use Rattle.latex2mathml_elements.specs.Element.{Mrow, children, container}
-use Rattle.latex2mathml_builder.specs.{Built.elements_in, Names.attributes_of, Stacks.ordered}
+use Rattle.latex2mathml_builder.specs.{Built.elements_in, Stacks.ordered}
+use Rattle.latex2mathml_attributes.specs.Names.{attributes_of}
 use Rattle.latex2mathml_builder.proofs.Sound.{children_back}
 use Rattle.latex2mathml_builder.proofs.builder.Builder.fence.Goals as goal
 

@@ -1,6 +1,7 @@
 use Rattle.std.proofs.Common.{◌≡◌, ◌-◌, ◌<◌, ◌≤◌, ◌∙◌, ap, arith, length, refl, string_bytes, subst, sym}
 use Rattle.std.proofs.Math.ListN.{get_or, set}
-use Rattle.latex2mathml_builder.specs.{Built.elements_in, Names.attributes_of, Stacks.given}
+use Rattle.latex2mathml_builder.specs.{Built.elements_in, Stacks.given}
+use Rattle.latex2mathml_attributes.specs.Names.{attributes_of}
 use Rattle.latex2mathml_builder.specs.declared.part.Part.TheVariants as part
 use Rattle.latex2mathml_builder.proofs.Opens.{none_given}
 use Rattle.latex2mathml_builder.proofs.Sound.{elements, elements_given, elements_length, elements_same, sound_replaced}

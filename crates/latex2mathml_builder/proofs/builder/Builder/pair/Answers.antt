@@ -1,5 +1,6 @@
 use Rattle.std.proofs.Common.{◌≡◌, ◌∷◌, ◌∙◌, OnOk, ap, drop, length, subst}
-use Rattle.latex2mathml_builder.specs.{Built.elements_in, Names.attributes_of, Names.pair_of, Stacks.pair_with}
+use Rattle.latex2mathml_builder.specs.{Built.elements_in, Stacks.pair_with}
+use Rattle.latex2mathml_attributes.specs.Names.{attributes_of, pair_of}
 use Rattle.latex2mathml_builder.proofs.Sound.{children_back}
 use Rattle.latex2mathml_builder.proofs.builder.Builder.pair.Goals as goal
 

@@ -1,7 +1,8 @@
 use Rattle.std.proofs.Common.{◌≡◌, ◌∷◌, ◌∙◌, List, [], ap, drop, length, false, refl, reverse, take}
 use Rattle.std.proofs.lemmas.Result.{on_ok_weaker}
 use Rattle.latex2mathml_elements.specs.Element.{Element}
-use Rattle.latex2mathml_builder.specs.{Arounds.around_first, Built.elements_in, declared.around.Around.Around}
+use Rattle.latex2mathml_builder.specs.{Stacks.around_first, Built.elements_in}
+use Rattle.latex2mathml_attributes.specs.declared.around.Around.{Around}
 use Rattle.latex2mathml_builder.proofs.Sound.{children_back}
 use Rattle.latex2mathml_builder.proofs.builder.Builder.surround.Goals as goal
 

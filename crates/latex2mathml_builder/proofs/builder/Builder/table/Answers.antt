@@ -1,6 +1,7 @@
 use Rattle.std.proofs.Common.{◌≡◌, ◌∷◌, ◌∙◌, OnOk, false, ap, drop, length, option_map, subst}
 use Rattle.latex2mathml_elements.specs.Attributes.{styled}
-use Rattle.latex2mathml_builder.specs.{Built.elements_in, Columns.columns_of, Names.math_style_of, Stacks.table_with}
+use Rattle.latex2mathml_builder.specs.{Built.elements_in, Stacks.table_with}
+use Rattle.latex2mathml_attributes.specs.{Columns.columns_of, Names.math_style_of}
 use Rattle.latex2mathml_builder.proofs.Sound.{children_back}
 use Rattle.latex2mathml_builder.proofs.builder.Builder.table.Goals as goal
 

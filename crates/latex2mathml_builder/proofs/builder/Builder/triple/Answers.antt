@@ -1,5 +1,6 @@
 use Rattle.std.proofs.Common.{◌≡◌, ◌∷◌, ◌∙◌, OnOk, false, ap, drop, length, subst}
-use Rattle.latex2mathml_builder.specs.{Built.elements_in, Names.attributes_of, Names.triple_of, Stacks.triple_with}
+use Rattle.latex2mathml_builder.specs.{Built.elements_in, Stacks.triple_with}
+use Rattle.latex2mathml_attributes.specs.Names.{attributes_of, triple_of}
 use Rattle.latex2mathml_builder.proofs.Sound.{children_back}
 use Rattle.latex2mathml_builder.proofs.builder.Builder.triple.Goals as goal
 

@@ -2,7 +2,7 @@ use Rattle.std.proofs.Common.{◌-◌, ◌<◌, ◌∙◌, ◌++◌, ap, arith, 
 use Rattle.std.proofs.lemmas.Result.{on_ok_weaker}
 use Rattle.latex2mathml_elements.specs.{Columns.column_at, Element.children, Print.cell_tag, Print.prints}
 use Rattle.latex2mathml_builder.specs.Built.{settled_in}
-use Rattle.latex2mathml_builder.specs.Columns.{columns_of}
+use Rattle.latex2mathml_attributes.specs.Columns.{columns_of}
 use Rattle.latex2mathml_builder.specs.Due.{due, settled_from}
 use Rattle.latex2mathml_builder.proofs.{Parts.settled_count, Tables.begun, Tables.one_cell_loaded, Tables.one_cell_written}
 use Rattle.latex2mathml_builder.proofs.builder.Builder.write_cell.Goals as goal

@@ -5,11 +5,11 @@ use Rattle.std.proofs.lemmas.Result.{on_ok_weaker}
 use Rattle.latex2mathml_elements.specs.Attributes.{styled}
 use Rattle.latex2mathml_elements.specs.Element.{children, space}
 use Rattle.latex2mathml_elements.specs.Print.{attributes_text, container_name, pair_name, print, prints, triple_name}
-use Rattle.latex2mathml_builder.specs.Arounds.{around_attributes, around_name}
+use Rattle.latex2mathml_attributes.specs.Arounds.{around_attributes, around_name}
 use Rattle.latex2mathml_builder.specs.Built.{Fits, element_of, settled_in}
-use Rattle.latex2mathml_builder.specs.Columns.{columns_of}
+use Rattle.latex2mathml_attributes.specs.Columns.{columns_of}
 use Rattle.latex2mathml_builder.specs.Due.{arranged, due, row_prints, settled_from, weight}
-use Rattle.latex2mathml_builder.specs.Names.{attributes_of, math_style_of, pair_of, triple_of}
+use Rattle.latex2mathml_attributes.specs.Names.{attributes_of, math_style_of, pair_of, triple_of}
 use Rattle.latex2mathml_builder.proofs.Parts.{settled_count}
 use Rattle.latex2mathml_builder.proofs.Tables.{table_loaded, table_written}
 use Rattle.latex2mathml_builder.proofs.Written.{opened, taken_length, print_around, print_pair, print_triple, weight_around, weight_pair, weight_triple}

@@ -1,7 +1,7 @@
 use Rattle.std.proofs.Common.{◌≡◌, ◌-◌, ◌<◌, ◌∙◌, ◌++◌, ap, arith, codes, drop, length, length-drop, string_bytes}
 use Rattle.std.proofs.lemmas.Result.{on_ok_weaker}
 use Rattle.latex2mathml_builder.specs.Built.{settled_in}
-use Rattle.latex2mathml_builder.specs.Columns.{columns_of}
+use Rattle.latex2mathml_attributes.specs.Columns.{columns_of}
 use Rattle.latex2mathml_builder.specs.Due.{cell_loads, cell_prints, due, in_cells, settled_from}
 use Rattle.latex2mathml_builder.proofs.{Parts.settled_count, Tables.begun, Tables.one_row_loaded, Tables.one_row_written}
 use Rattle.latex2mathml_builder.proofs.builder.Builder.write_row.Goals as goal

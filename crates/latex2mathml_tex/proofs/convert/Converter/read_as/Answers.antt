@@ -1,7 +1,7 @@
 use Rattle.std.proofs.Common.{◌≡◌, ℕ, IfOk, Result, ap, subst, sym}
 use Rattle.latex2mathml_builder.specs.Built.{Built, elements_in}
 use Rattle.latex2mathml_tex_grammar.specs.{Symbols.Style, Units.Units}
-use Rattle.latex2mathml_tex_units.specs.Meanings.{style_of}
+use Rattle.latex2mathml_tex_commands.specs.Meanings.{style_of}
 use Rattle.latex2mathml_tex.specs.{Frames.ReadsAs, ReadRows.HasRead}
 use Rattle.latex2mathml_tex_units.specs.declared.error.TexError.{TexError}
 use Rattle.latex2mathml_tex.specs.declared.parse.Form.{Form}

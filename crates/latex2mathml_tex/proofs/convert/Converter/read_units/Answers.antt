@@ -1,6 +1,7 @@
 use Rattle.std.proofs.Common.{sym}
 use Rattle.latex2mathml_tex_grammar.specs.Reading.{Refused}
-use Rattle.latex2mathml_tex_units.specs.{Meanings.style_of, Whole.whole_units}
+use Rattle.latex2mathml_tex_commands.specs.Meanings.{style_of}
+use Rattle.latex2mathml_tex_units.specs.Whole.{whole_units}
 use Rattle.latex2mathml_tex.specs.Frames.{ReadsAs}
 use Rattle.latex2mathml_tex.specs.declared.parse.Form.TheVariants as form
 use Rattle.latex2mathml_tex.proofs.Answering.{read_as_atoms, read_as_rows, refused_as_atoms, refused_as_rows, refused_outside}

@@ -2,10 +2,12 @@ use Rattle.std.proofs.Common.{◌≡◌, List, [], ◌∷◌, ℕ, ap, arith, su
 use Rattle.latex2mathml_elements.specs.Columns.{Alike, Centered, Columns, LeftAligned, RightAligned}
 use Rattle.latex2mathml_tex_grammar.specs.Rules.{Rule, in_brackets, rows_rule, takes_if}
 use Rattle.latex2mathml_tex_units.specs.{Left.unit_count, Left.units_at, Environments.environment_of}
-use Rattle.latex2mathml_tex.specs.{Frames.Start, Frames.context_at, Models.context_of}
+use Rattle.latex2mathml_tex.specs.Frames.{Start, context_at}
+use Rattle.latex2mathml_tex_atoms.specs.Models.{context_of}
 use Rattle.latex2mathml_tex.specs.Steps.{Begins, BeginsIn, left_of, level}
 use Rattle.latex2mathml_tex_units.specs.declared.environments.Environment.{Environment}
-use Rattle.latex2mathml_tex.specs.declared.{atoms.Context.Context, parse.Parser.Parser}
+use Rattle.latex2mathml_tex_atoms.specs.declared.atoms.Context.{Context}
+use Rattle.latex2mathml_tex.specs.declared.parse.Parser.{Parser}
 use Rattle.latex2mathml_tex_units.proofs.Nexts.{no_more_taken}
 use Rattle.latex2mathml_tex.proofs.{Putting.past_none, Putting.past_units, Rows.step_within, RuleSteps.begun}
 use Rattle.latex2mathml_tex.proofs.parse.Parser.begin_aligned.Goals as goal

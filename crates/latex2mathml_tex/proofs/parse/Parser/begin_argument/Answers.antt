@@ -1,7 +1,8 @@
 use Rattle.std.proofs.Common.{Some, subst}
 use Rattle.latex2mathml_tex_grammar.specs.Rules.{argument_rule}
 use Rattle.latex2mathml_tex_units.specs.{Scans.argument_of, Environments.environment_of}
-use Rattle.latex2mathml_tex.specs.{Models.context_of, Steps.BeginsIn}
+use Rattle.latex2mathml_tex_atoms.specs.Models.{context_of}
+use Rattle.latex2mathml_tex.specs.Steps.{BeginsIn}
 use Rattle.latex2mathml_tex.proofs.parse.Parser.begin_argument.Goals as goal
 
 pub returns-in-ColumnList-clause-holds : goal.returns-in-ColumnList-clause-holds

@@ -4,9 +4,10 @@ use Rattle.latex2mathml_tex_grammar.specs.Environments as grammar
 use Rattle.latex2mathml_tex_grammar.specs.Refusal.{TooManyColumns, refusal_at}
 use Rattle.latex2mathml_tex_grammar.specs.Rules.{Rule, listed_rule, most_columns, refuses, rows_rule}
 use Rattle.latex2mathml_tex_grammar.specs.Scanning.{BeforeArgument, ColumnList}
-use Rattle.latex2mathml_builder.specs.Columns.{columns_of}
+use Rattle.latex2mathml_attributes.specs.Columns.{columns_of}
 use Rattle.latex2mathml_tex_units.specs.Environments.{environment_of}
-use Rattle.latex2mathml_tex.specs.{Levels.CoreMade, Levels.RuleLeads, Models.context_of, Steps.BeginsIn, Steps.left_of, Steps.level}
+use Rattle.latex2mathml_tex.specs.{Levels.CoreMade, Levels.RuleLeads, Steps.BeginsIn, Steps.left_of, Steps.level}
+use Rattle.latex2mathml_tex_atoms.specs.Models.{context_of}
 use Rattle.latex2mathml_tex.proofs.{Leading.found, Leading.refused, Marks.core_refuses}
 use Rattle.latex2mathml_tex.proofs.TableRules.{refused_behind, refused_behind_step, text_refused, text_step, text_taken, took_none, took_some}
 use Rattle.latex2mathml_tex.proofs.parse.Parser.begin_listed.Goals as goal

@@ -2,7 +2,8 @@ use Rattle.std.proofs.Common.{ℕ, List, arith, string_bytes, subst, sym}
 use Rattle.latex2mathml_tex_grammar.specs.Rules.{Rule, rows_rule}
 use Rattle.latex2mathml_tex_grammar.specs.Scanning.{BeforeArgument, Number}
 use Rattle.latex2mathml_tex_units.specs.Environments.{environment_of}
-use Rattle.latex2mathml_tex.specs.{Models.context_of, Steps.BeginsIn}
+use Rattle.latex2mathml_tex_atoms.specs.Models.{context_of}
+use Rattle.latex2mathml_tex.specs.Steps.{BeginsIn}
 use Rattle.latex2mathml_tex.proofs.TableRules.{text_refused, text_step, text_taken, took_none, took_some}
 use Rattle.latex2mathml_tex.proofs.parse.Parser.begin_numbered.Goals as goal
 

@@ -3,7 +3,8 @@ use Rattle.std.specs.Char.{is_ascii_digit}
 use Rattle.latex2mathml_builder.specs.Built.{elements_in}
 use Rattle.latex2mathml_tex_grammar.specs.Makes.{number}
 use Rattle.latex2mathml_tex_grammar.specs.Starts.{OtherStart, operand_start}
-use Rattle.latex2mathml_tex_units.specs.{Meanings.alphabet_of, Taking.piece_of}
+use Rattle.latex2mathml_tex_commands.specs.Meanings.{alphabet_of}
+use Rattle.latex2mathml_tex_units.specs.Taking.{piece_of}
 use Rattle.latex2mathml_tex.specs.Steps.{elements_of}
 use Rattle.latex2mathml_tex.proofs.Beginning.{digit_taken, group_taken, not_digit_starts, other_starts, other_taken}
 use Rattle.latex2mathml_tex.proofs.parse.Parser.begin_operand.Goals as goal

@@ -2,7 +2,8 @@ use Rattle.std.proofs.Common.{arith, subst}
 use Rattle.latex2mathml_tex_grammar.specs.Rules.{argument_rule, bracket_rule}
 use Rattle.latex2mathml_tex_grammar.specs.Scanning.{BeforePosition}
 use Rattle.latex2mathml_tex_units.specs.Environments.{bracket_of, environment_of}
-use Rattle.latex2mathml_tex.specs.{Models.context_of, Steps.BeginsIn}
+use Rattle.latex2mathml_tex_atoms.specs.Models.{context_of}
+use Rattle.latex2mathml_tex.specs.Steps.{BeginsIn}
 use Rattle.latex2mathml_tex.proofs.TableRules.{passed_begins, passed_step}
 use Rattle.latex2mathml_tex.proofs.parse.Parser.begin_placed.Goals as goal
 

@@ -4,7 +4,7 @@ use Rattle.latex2mathml_tex_grammar.specs.Rules.{ByBrace, Rule, gives, reads_row
 use Rattle.latex2mathml_tex_grammar.specs.Scanning.{BeforeBrace, BeforeRow}
 use Rattle.latex2mathml_tex_grammar.specs.Symbols.{InScript}
 use Rattle.latex2mathml_tex_grammar.specs.Tables.{a_table}
-use Rattle.latex2mathml_tex.specs.{Models.context_of}
+use Rattle.latex2mathml_tex_atoms.specs.Models.{context_of}
 use Rattle.latex2mathml_tex.proofs.TableRules.{substack_begins, passed_step, text_refused, text_step, text_taken, took_none, took_some}
 use Rattle.std.proofs.Common.{None}
 use Rattle.latex2mathml_tex.proofs.parse.Parser.begin_substack.Goals as goal

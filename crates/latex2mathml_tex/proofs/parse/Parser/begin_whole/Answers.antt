@@ -2,8 +2,9 @@ use Rattle.std.proofs.Common.{◌≡◌, ◌∙◌, IfOk, ap, false, option_map,
 use Rattle.std.specs.Char.{is_ascii_alphabetic, is_ascii_digit}
 use Rattle.latex2mathml_tex_grammar.specs.{Makes.core, Rules.character_rule, Rules.gives}
 use Rattle.latex2mathml_tex_grammar.specs.Makes
-use Rattle.latex2mathml_tex_units.specs.Meanings.{alphabet_of}
-use Rattle.latex2mathml_tex.specs.{Models.context_of, Steps.Begins, Steps.Holds}
+use Rattle.latex2mathml_tex_commands.specs.Meanings.{alphabet_of}
+use Rattle.latex2mathml_tex_atoms.specs.Models.{context_of}
+use Rattle.latex2mathml_tex.specs.Steps.{Begins, Holds}
 use Rattle.latex2mathml_tex.specs.declared.parse.State.TheVariants as state
 use Rattle.latex2mathml_tex_units.specs.declared.unit.Piece.TheVariants as piece
 use Rattle.latex2mathml_tex.proofs.{Beginning.unit_begins, Putting.put_held, RuleSteps.begun}

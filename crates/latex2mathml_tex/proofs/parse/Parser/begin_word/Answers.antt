@@ -1,6 +1,7 @@
 use Rattle.std.proofs.Common.{Option, ap, option_map}
 use Rattle.latex2mathml_tex_grammar.specs.{Symbols.Alphabet, Words.word_rule, Words.word_space}
-use Rattle.latex2mathml_tex_units.specs.{Meanings.alphabet_of, Taking.piece_of}
+use Rattle.latex2mathml_tex_commands.specs.Meanings.{alphabet_of}
+use Rattle.latex2mathml_tex_units.specs.Taking.{piece_of}
 use Rattle.latex2mathml_tex.proofs.{WordRules.group_begun, Wording.stands}
 use Rattle.latex2mathml_tex.proofs.parse.Parser.begin_word.Goals as goal
 

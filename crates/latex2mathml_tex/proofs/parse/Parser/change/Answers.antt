@@ -3,14 +3,16 @@ use Rattle.latex2mathml_tex_grammar.specs.Refusal.{SecondInfix, UnknownColor, re
 use Rattle.latex2mathml_tex_grammar.specs.Rests.{GoesOnIn, NoRest, begun_below, recolored, rest_of, restyled, settled, style_of_group}
 use Rattle.latex2mathml_tex_grammar.specs.Rules.{in_context, styled}
 use Rattle.latex2mathml_tex_grammar.specs.Symbols.{smaller}
-use Rattle.latex2mathml_tex_units.specs.Meanings.{alphabet_of, change_of, fraction_rule_of, style_of}
-use Rattle.latex2mathml_tex.specs.{Models.context_of, Models.row_with, Steps.TookValue, Steps.elements_of, Steps.left_of}
-use Rattle.latex2mathml_builder.specs.Arounds as arounds
-use Rattle.latex2mathml_builder.specs.declared.around.Color.{Color}
+use Rattle.latex2mathml_tex_commands.specs.Meanings.{alphabet_of, change_of, fraction_rule_of, style_of}
+use Rattle.latex2mathml_tex_atoms.specs.Models.{context_of, row_with}
+use Rattle.latex2mathml_tex.specs.Steps.{TookValue, elements_of, left_of}
+use Rattle.latex2mathml_attributes.specs.Arounds as arounds
+use Rattle.latex2mathml_attributes.specs.declared.around.Color.{Color}
 use Rattle.latex2mathml_tex_grammar.specs.{Colors.color_of, Refusal.Refusal}
 use Rattle.latex2mathml_tex_grammar.specs.Scanning.{BeforeArgument, ColorName}
 use Rattle.latex2mathml_builder.specs.Built.{elements_in}
-use Rattle.latex2mathml_tex.specs.{Frames.within, Innermost.IsInnermost, Levels.Leads, Models.row_count, Steps.ending_weight, Steps.frame_weight}
+use Rattle.latex2mathml_tex.specs.{Frames.within, Innermost.IsInnermost, Levels.Leads, Steps.ending_weight, Steps.frame_weight}
+use Rattle.latex2mathml_tex_atoms.specs.Models.{row_count}
 use Rattle.latex2mathml_tex.specs.declared.parse.{Parser.Parser, frames.Frames.Frames}
 use Rattle.latex2mathml_tex.specs.declared.parse.frames.Frame.TheVariants as frame
 use Rattle.latex2mathml_tex.proofs.{Rows.step_within, Rows.weighed, Values.value_fewer}

@@ -1,9 +1,10 @@
 use Rattle.std.proofs.Common.{◌≡◌, refl, rules, subst}
 use Rattle.latex2mathml_tex_grammar.specs.Refusal.{MisplacedCharacter, OutsideTable, refusal_at}
 use Rattle.latex2mathml_tex_grammar.specs.Rules.{character_rule, refuses}
-use Rattle.latex2mathml_tex.specs.{Models.context_of, Numbers.after_point}
+use Rattle.latex2mathml_tex_atoms.specs.Models.{context_of}
+use Rattle.latex2mathml_tex.specs.Numbers.{after_point}
 use Rattle.latex2mathml_tex.specs.Steps.{Begins}
-use Rattle.latex2mathml_tex.proofs.{RuleSteps.begun, RuleSteps.rule_refuses}
+use Rattle.latex2mathml_tex.proofs.RuleSteps.{begun, rule_refuses}
 use Rattle.latex2mathml_tex.proofs.parse.Parser.character.Goals as goal
 
 pub returns-in-46-clause-holds : goal.returns-in-46-clause-holds

@@ -2,7 +2,8 @@ use Rattle.std.proofs.Common.{◌≡◌, ◌∙◌, Option, Some, option_map, re
 use Rattle.latex2mathml_tex_grammar.specs.Makes
 use Rattle.latex2mathml_tex_grammar.specs.{Refusal.CharacterInWords, Refusal.refusal_at, Symbols.Alphabet, Units.Character}
 use Rattle.latex2mathml_tex_grammar.specs.Words.{Shown, word_character, word_space}
-use Rattle.latex2mathml_tex_units.specs.{Errors.refusal_of, Meanings.alphabet_of}
+use Rattle.latex2mathml_tex_units.specs.Errors.{refusal_of}
+use Rattle.latex2mathml_tex_commands.specs.Meanings.{alphabet_of}
 use Rattle.latex2mathml_tex.proofs.WordRules.{character_rule, dollar_rule, formula_begun, no_word_rule, tilde_rule}
 use Rattle.latex2mathml_tex.proofs.Wording.{no_part, stands}
 use Rattle.latex2mathml_tex.proofs.parse.Parser.character_in_words.Goals as goal

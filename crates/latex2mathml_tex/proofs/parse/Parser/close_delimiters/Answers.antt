@@ -1,6 +1,6 @@
 use Rattle.std.proofs.Common.{◌≡◌, ◌∙◌, ◌+◌, false, length, ap, arith, refl, subst, sym, true}
 use Rattle.latex2mathml_builder.specs.Built.{elements_in}
-use Rattle.latex2mathml_tex_units.specs.Delimiters.{delimiter_text}
+use Rattle.latex2mathml_tex_commands.specs.Delimiters.{delimiter_text}
 use Rattle.latex2mathml_tex.specs.Steps.{Follows, Holds, elements_of, to_do}
 use Rattle.latex2mathml_tex.specs.declared.parse.State.TheVariants as state
 use Rattle.latex2mathml_tex.proofs.Endings.{Lowered, all_lowered, enclosed, enclosed_step, is_high, is_low, none_lowered, not_closed, refused_step}

@@ -1,10 +1,10 @@
 use Rattle.std.proofs.Common.{◌≡◌, Some, ap, option_map, refl, subst}
 use Rattle.latex2mathml_tex_grammar.specs.Refusal.{UnknownCommand, refusal_at}
 use Rattle.latex2mathml_tex_grammar.specs.Rules.{command_rule, refuses}
-use Rattle.latex2mathml_tex_units.specs.Meanings.{meaning_of}
-use Rattle.latex2mathml_tex.specs.Models.{context_of}
+use Rattle.latex2mathml_tex_commands.specs.Meanings.{meaning_of}
+use Rattle.latex2mathml_tex_atoms.specs.Models.{context_of}
 use Rattle.latex2mathml_tex.specs.Steps.{Begins}
-use Rattle.latex2mathml_tex.proofs.{RuleSteps.begun, RuleSteps.rule_refuses}
+use Rattle.latex2mathml_tex.proofs.RuleSteps.{begun, rule_refuses}
 use Rattle.latex2mathml_tex.proofs.parse.Parser.command.Goals as goal
 
 pub returns-clause-holds : goal.returns-clause-holds

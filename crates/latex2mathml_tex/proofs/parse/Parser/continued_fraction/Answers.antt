@@ -2,7 +2,7 @@ use Rattle.std.proofs.Common.{List, [], ◌∷◌, ℕ, Some, ap, arith}
 use Rattle.latex2mathml_tex_grammar.specs.{Meaning.Bar, Symbols.InDisplay}
 use Rattle.latex2mathml_tex_grammar.specs.Rules.{Context, Rule, a_fraction, in_brackets, takes_if}
 use Rattle.latex2mathml_tex_units.specs.Left.{unit_count, units_at}
-use Rattle.latex2mathml_tex.specs.Models.{context_of}
+use Rattle.latex2mathml_tex_atoms.specs.Models.{context_of}
 use Rattle.latex2mathml_tex.specs.Steps.{left_of}
 use Rattle.latex2mathml_tex_units.proofs.Nexts.{no_more_taken}
 use Rattle.latex2mathml_tex.proofs.{Putting.past_none, Putting.past_units, Rows.step_within}

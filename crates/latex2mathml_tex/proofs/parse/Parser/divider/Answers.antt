@@ -1,7 +1,8 @@
 use Rattle.std.proofs.Common.{◌≡◌, ◌≤◌, Some, ap, ◌∙◌, arith}
 use Rattle.latex2mathml_tex_grammar.specs.Next.{past_space, refusal_here}
 use Rattle.latex2mathml_tex_grammar.specs.Refusal.{MissingDelimiter}
-use Rattle.latex2mathml_tex_units.specs.{Delimiters.delimiter_text, Left.unit_count, Left.units_at}
+use Rattle.latex2mathml_tex_commands.specs.Delimiters.{delimiter_text}
+use Rattle.latex2mathml_tex_units.specs.Left.{unit_count, units_at}
 use Rattle.latex2mathml_tex.specs.Steps.{left_of}
 use Rattle.latex2mathml_tex_units.proofs.Nexts.{no_more_past_space, no_more_taken}
 use Rattle.latex2mathml_tex_grammar.specs.Delimiters.{delimiter_of}

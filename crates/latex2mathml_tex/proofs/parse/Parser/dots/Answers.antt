@@ -1,7 +1,8 @@
 use Rattle.std.proofs.Common.{sym}
 use Rattle.latex2mathml_tex_grammar.specs.{Dots.centered_dots, Dots.centers_dots, Dots.low_dots, Makes.symbol, Rules.gives, Rules.if_follows}
-use Rattle.latex2mathml_tex_units.specs.Meanings.{symbol_of}
-use Rattle.latex2mathml_tex.specs.{Models.context_of, Steps.Begins}
+use Rattle.latex2mathml_tex_commands.specs.Meanings.{symbol_of}
+use Rattle.latex2mathml_tex_atoms.specs.Models.{context_of}
+use Rattle.latex2mathml_tex.specs.Steps.{Begins}
 use Rattle.latex2mathml_tex.proofs.{Putting.before_none, Putting.before_unit, RuleSteps.begun}
 use Rattle.latex2mathml_tex.proofs.parse.Parser.dots.Goals as goal
 use Rattle.latex2mathml_tex.proofs.parse.Parser.dots.Goals.{then-centers_dots, else-centers_dots}

@@ -1,5 +1,5 @@
 use Rattle.std.proofs.Common.{arith, refl}
-use Rattle.latex2mathml_tex.proofs.{Tabled.row_is_last, Tabled.row_is_none}
+use Rattle.latex2mathml_tex.proofs.Tabled.{row_is_last, row_is_none}
 use Rattle.latex2mathml_tex.proofs.parse.Parser.end_cells.Goals as goal
 
 pub returns-then-is_no_row-clause-holds : goal.returns-then-is_no_row-clause-holds

@@ -3,7 +3,7 @@ use Rattle.std.specs.Str.{bytes_eq}
 use Rattle.latex2mathml_tex_grammar.specs.Refusal.{OtherName, refusal_at}
 use Rattle.latex2mathml_tex_grammar.specs.Rules.{Rule, ended_table}
 use Rattle.latex2mathml_tex_grammar.specs.Scanning.{BeforeArgument, Name}
-use Rattle.latex2mathml_builder.specs.Columns.{columns_of}
+use Rattle.latex2mathml_attributes.specs.Columns.{columns_of}
 use Rattle.latex2mathml_tex_units.specs.Environments.{environment_of}
 use Rattle.latex2mathml_tex.specs.{Frames.context_at, Levels.CoreMade, Levels.RuleLeads, Steps.left_of, Steps.level}
 use Rattle.latex2mathml_tex.proofs.{Leading.found, Leading.refused, Marks.core_refuses}

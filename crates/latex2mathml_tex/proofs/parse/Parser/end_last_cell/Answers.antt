@@ -4,7 +4,7 @@ use Rattle.latex2mathml_tex.proofs.Tabled.{text_ends_cell}
 use Rattle.latex2mathml_tex.proofs.parse.Parser.end_last_cell.Goals as goal
 use Rattle.std.proofs.Common.{refl}
 use Rattle.latex2mathml_tex_grammar.specs.Units.{End}
-use Rattle.latex2mathml_tex.specs.Models.{row_with}
+use Rattle.latex2mathml_tex_atoms.specs.Models.{row_with}
 use Rattle.latex2mathml_builder.specs.Built.{elements_in}
 
 pub end_cells-requires : goal.end_cells-requires

@@ -6,7 +6,8 @@ use Rattle.latex2mathml_tex_grammar.specs.Symbols.{Ordinary}
 use Rattle.latex2mathml_tex_grammar.specs.Words.{words_atom}
 use Rattle.latex2mathml_elements.specs.{Attributes.plain, Element.Mtext, Element.token}
 use Rattle.latex2mathml_builder.specs.Built.{elements_in}
-use Rattle.latex2mathml_tex.specs.{Models.core_with, Models.words_with, Steps.Holds, Steps.elements_of}
+use Rattle.latex2mathml_tex_atoms.specs.Models.{core_with, words_with}
+use Rattle.latex2mathml_tex.specs.Steps.{Holds, elements_of}
 use Rattle.latex2mathml_tex.specs.declared.parse.State.TheVariants as state
 use Rattle.latex2mathml_tex.proofs.Wording.{core_of_words, words_made_of}
 use Rattle.latex2mathml_tex.proofs.parse.Parser.end_text.Goals as goal

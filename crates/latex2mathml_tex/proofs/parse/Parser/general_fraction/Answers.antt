@@ -1,10 +1,11 @@
 use Rattle.std.proofs.Common.{◌≡◌, ◌∙◌, Option, ap, arith, option_map, subst, sym}
 use Rattle.latex2mathml_tex_grammar.specs.{Makes.outlined_fraction, Symbols.smaller}
 use Rattle.latex2mathml_tex_grammar.specs.Rules.{an_outline, an_outlined_fraction, in_context, of_two, own_style}
-use Rattle.latex2mathml_tex_units.specs.Meanings.{style_of}
-use Rattle.latex2mathml_tex.specs.{Frames.after_first, Frames.context_at, TakenBy.TookBy, Models.context_of, Outlines.outline_of}
+use Rattle.latex2mathml_tex_commands.specs.Meanings.{style_of}
+use Rattle.latex2mathml_tex.specs.{Frames.after_first, Frames.context_at, TakenBy.TookBy}
+use Rattle.latex2mathml_tex_atoms.specs.{Models.context_of, Outlines.outline_of}
 use Rattle.latex2mathml_tex.specs.Steps.{Begins, level}
-use Rattle.latex2mathml_tex.specs.declared.outlines.Outline.{Outline}
+use Rattle.latex2mathml_tex_atoms.specs.declared.outlines.Outline.{Outline}
 use Rattle.latex2mathml_tex.specs.declared.parse.frames.First.TheVariants as first
 use Rattle.latex2mathml_tex.proofs.{HandingOn.handed_on, HandingOn.handed_within, HandingOn.stopped, HandingOn.stopped_within, Leading.operand_due, RuleSteps.own_style_is}
 use Rattle.latex2mathml_tex.proofs.parse.Parser.general_fraction.Goals as goal

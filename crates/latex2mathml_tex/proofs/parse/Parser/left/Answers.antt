@@ -1,8 +1,10 @@
 use Rattle.std.proofs.Common.{[], ◌∷◌, arith}
 use Rattle.latex2mathml_tex_grammar.specs.Delimiters.{delimiter_of}
 use Rattle.latex2mathml_tex_grammar.specs.Rules.{InDelimiters, reads_atoms}
-use Rattle.latex2mathml_tex_units.specs.{Delimiters.delimiter_text, Left.units_at}
-use Rattle.latex2mathml_tex.specs.{Frames.after_delimiters, Models.context_of}
+use Rattle.latex2mathml_tex_commands.specs.Delimiters.{delimiter_text}
+use Rattle.latex2mathml_tex_units.specs.Left.{units_at}
+use Rattle.latex2mathml_tex.specs.Frames.{after_delimiters}
+use Rattle.latex2mathml_tex_atoms.specs.Models.{context_of}
 use Rattle.latex2mathml_tex.specs.Steps.{left_of}
 use Rattle.latex2mathml_tex_units.proofs.Nexts.{no_more_taken}
 use Rattle.latex2mathml_tex.proofs.{RuleSteps.begun, RuleSteps.no_delimiter, RuleSteps.no_delimiter_step, RuleSteps.past_delimiter, Leading.row_due, Rows.step_within}

@@ -2,8 +2,8 @@ use Rattle.std.proofs.Common.{◌≡◌, ◌≤◌, ◌&&◌, arith, ◌∷◌, 
 use Rattle.latex2mathml_elements.specs.Attributes.{plain}
 use Rattle.latex2mathml_elements.specs.Element.{Mover, Mroot, Msqrt, Munderover, children, container, pair, triple}
 use Rattle.latex2mathml_builder.specs.{Built.elements_in, Stacks.is_token, Stacks.pair_with}
-use Rattle.latex2mathml_tex_units.specs.declared.meaning.Class.TheVariants as class
-use Rattle.latex2mathml_tex.specs.Models.{top}
+use Rattle.latex2mathml_tex_commands.specs.declared.meaning.Class.TheVariants as class
+use Rattle.latex2mathml_tex_atoms.specs.Models.{top}
 use Rattle.latex2mathml_tex.specs.Steps.{elements_of}
 use Rattle.latex2mathml_tex.proofs.Making.{base, behind_changed, behind_two_changed, classed_put, enough, made_held, made_put, one_taken, ordinary, slash_put, three_reversed, top_changed, top_first, two_exchanged, two_ordered}
 use Rattle.latex2mathml_tex.proofs.parse.Parser.make.Goals as goal

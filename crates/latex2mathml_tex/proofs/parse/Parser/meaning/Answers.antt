@@ -1,14 +1,14 @@
 use Rattle.std.proofs.Common.{inl, inr, refl, subst}
 use Rattle.latex2mathml_elements.specs.Attributes.{Above}
-use Rattle.latex2mathml_builder.specs.Names.{side_of, stretch_of}
+use Rattle.latex2mathml_attributes.specs.Names.{side_of, stretch_of}
 use Rattle.latex2mathml_tex_grammar.specs.Makes.{accent, brace, classed, core, group, stack, struck}
 use Rattle.latex2mathml_tex_grammar.specs.Refusal.{ChangeAsArgument, LimitsWithoutOperator, MiddleWithoutLeft, RightWithoutLeft, refusal_at, EndWithoutBegin, OutsideTable}
 use Rattle.latex2mathml_tex_grammar.specs.Rows.{as_base}
 use Rattle.latex2mathml_tex_grammar.specs.Rules.{gives, of_two, refuses, slashed, styled}
 use Rattle.latex2mathml_tex_grammar.specs.Symbols.{InScript, Relation}
-use Rattle.latex2mathml_tex.specs.{Frames.after_first, Frames.context_at}
-use Rattle.latex2mathml_tex_units.specs.Meanings.{class_of, style_of}
-use Rattle.latex2mathml_tex.specs.Models.{context_of}
+use Rattle.latex2mathml_tex.specs.Frames.{after_first, context_at}
+use Rattle.latex2mathml_tex_commands.specs.Meanings.{class_of, style_of}
+use Rattle.latex2mathml_tex_atoms.specs.Models.{context_of}
 use Rattle.latex2mathml_tex.specs.Steps.{Begins, level}
 use Rattle.latex2mathml_tex.specs.declared.parse.frames.First.TheVariants as first
 use Rattle.latex2mathml_tex.proofs.{RuleSteps.begun, RuleSteps.rule_refuses, Leading.operand_due}

@@ -3,8 +3,9 @@ use Rattle.std.specs.Char.{encode_utf8}
 use Rattle.latex2mathml_builder.specs.Built.{elements_in}
 use Rattle.latex2mathml_tex_grammar.specs.{Delimiters.negated_of, Makes.core, Makes.relation, Makes.struck}
 use Rattle.latex2mathml_tex_grammar.specs.Rules.{gives, reads_core, struck_atom}
-use Rattle.latex2mathml_tex_units.specs.{Delimiters.delimiter_text, Left.units_at}
-use Rattle.latex2mathml_tex.specs.Models.{context_of}
+use Rattle.latex2mathml_tex_commands.specs.Delimiters.{delimiter_text}
+use Rattle.latex2mathml_tex_units.specs.Left.{units_at}
+use Rattle.latex2mathml_tex_atoms.specs.Models.{context_of}
 use Rattle.latex2mathml_tex.specs.Steps.{elements_of, left_of}
 use Rattle.latex2mathml_tex_units.proofs.Nexts.{no_more_taken}
 use Rattle.latex2mathml_tex.proofs.{RuleSteps.begun, Leading.core_due, Putting.core_put, Putting.core_step, Putting.past_none, Putting.past_units}

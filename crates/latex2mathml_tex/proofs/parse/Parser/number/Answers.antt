@@ -2,8 +2,10 @@ use Rattle.std.proofs.Common.{◌≡◌, ◌≤◌, ◌∷◌, ◌++◌, [], Lis
 use Rattle.latex2mathml_builder.specs.Built.{elements_in}
 use Rattle.latex2mathml_tex_grammar.specs.{Makes.core, Makes.number, Next.digits_next, Symbols.Alphabet}
 use Rattle.latex2mathml_tex_grammar.specs.Rules.{a_character, a_digit, after_digits, decimal, gives}
-use Rattle.latex2mathml_tex_units.specs.{Left.unit_count, Left.units_at, Meanings.alphabet_of}
-use Rattle.latex2mathml_tex.specs.{Frames.Start, Models.context_of}
+use Rattle.latex2mathml_tex_units.specs.Left.{unit_count, units_at}
+use Rattle.latex2mathml_tex_commands.specs.Meanings.{alphabet_of}
+use Rattle.latex2mathml_tex.specs.Frames.{Start}
+use Rattle.latex2mathml_tex_atoms.specs.Models.{context_of}
 use Rattle.latex2mathml_tex.specs.Steps.{Begins, Holds, NumberBegins, elements_of, left_of}
 use Rattle.latex2mathml_tex.specs.declared.parse.Parser.{Parser}
 use Rattle.latex2mathml_tex.specs.declared.parse.State.TheVariants as state

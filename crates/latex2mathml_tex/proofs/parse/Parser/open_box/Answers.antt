@@ -1,7 +1,7 @@
 use Rattle.latex2mathml_tex_grammar.specs.{Makes.boxed_atom, Makes.core, Symbols.Ordinary}
 use Rattle.latex2mathml_tex_grammar.specs.Rows.{as_base}
 use Rattle.latex2mathml_tex_grammar.specs.Rules.{gives}
-use Rattle.latex2mathml_tex_units.specs.Meanings.{box_of, style_of}
+use Rattle.latex2mathml_tex_commands.specs.Meanings.{box_of, style_of}
 use Rattle.latex2mathml_tex.proofs.Leading.{operand_due}
 use Rattle.latex2mathml_tex.proofs.parse.Parser.open_box.Goals as goal
 

@@ -1,9 +1,9 @@
 use Rattle.std.proofs.Common.{◌≡◌, ◌∙◌, ap, option_map, subst, sym}
 use Rattle.latex2mathml_tex_grammar.specs.{Makes.fraction, Symbols.smaller}
 use Rattle.latex2mathml_tex_grammar.specs.Rules.{in_context, of_two, own_style}
-use Rattle.latex2mathml_tex.specs.{Frames.after_first, Frames.context_at}
-use Rattle.latex2mathml_tex_units.specs.Meanings.{fraction_rule_of, style_of}
-use Rattle.latex2mathml_tex.specs.Models.{context_of}
+use Rattle.latex2mathml_tex.specs.Frames.{after_first, context_at}
+use Rattle.latex2mathml_tex_commands.specs.Meanings.{fraction_rule_of, style_of}
+use Rattle.latex2mathml_tex_atoms.specs.Models.{context_of}
 use Rattle.latex2mathml_tex.specs.Steps.{Begins, level}
 use Rattle.latex2mathml_tex.specs.declared.parse.frames.First.TheVariants as first
 use Rattle.latex2mathml_tex.proofs.{RuleSteps.own_style_is, Leading.operand_due}

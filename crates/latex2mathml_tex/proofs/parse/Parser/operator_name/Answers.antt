@@ -1,7 +1,8 @@
 use Rattle.std.proofs.Common.{[], ◌∷◌, Some, arith}
 use Rattle.latex2mathml_tex_grammar.specs.{Makes.operator_name, Meaning.Beside, Meaning.ByStyle, Symbols.Upright}
 use Rattle.latex2mathml_tex_grammar.specs.Rules.{a_character, gives, in_context, of_one}
-use Rattle.latex2mathml_tex_units.specs.{Left.units_at, Meanings.limit_place_of, Meanings.style_of}
+use Rattle.latex2mathml_tex_units.specs.Left.{units_at}
+use Rattle.latex2mathml_tex_commands.specs.Meanings.{limit_place_of, style_of}
 use Rattle.latex2mathml_tex.specs.Steps.{Begins, left_of}
 use Rattle.latex2mathml_tex_units.proofs.Nexts.{no_more_taken}
 use Rattle.latex2mathml_tex.proofs.{RuleSteps.begun, Leading.operand_due, Putting.past_none, Putting.past_units, Rows.step_within}

@@ -2,8 +2,9 @@ use Rattle.std.proofs.Common.{◌≡◌, ◌≤◌, ◌∷◌, ◌++◌, [], Lis
 use Rattle.latex2mathml_builder.specs.Built.{elements_in}
 use Rattle.latex2mathml_tex_grammar.specs.{Commands.symbol_of, Makes.core, Makes.number, Next.digits_next, Symbols.Alphabet}
 use Rattle.latex2mathml_tex_grammar.specs.Rules.{a_digit, a_symbol, decimal, gives}
-use Rattle.latex2mathml_tex_units.specs.{Left.unit_count, Left.units_at, Meanings.alphabet_of}
-use Rattle.latex2mathml_tex.specs.Models.{context_of}
+use Rattle.latex2mathml_tex_units.specs.Left.{unit_count, units_at}
+use Rattle.latex2mathml_tex_commands.specs.Meanings.{alphabet_of}
+use Rattle.latex2mathml_tex_atoms.specs.Models.{context_of}
 use Rattle.latex2mathml_tex.specs.Steps.{elements_of, left_of}
 use Rattle.latex2mathml_tex.specs.declared.parse.Parser.{Parser}
 use Rattle.latex2mathml_tex.proofs.Digits.{longer_number, no_more_behind_digits}

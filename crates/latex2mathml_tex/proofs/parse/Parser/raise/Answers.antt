@@ -6,7 +6,8 @@ use Rattle.latex2mathml_tex_grammar.specs.Refusal.{LengthTooLarge, refusal_at}
 use Rattle.latex2mathml_tex_grammar.specs.Rules.{a_box}
 use Rattle.latex2mathml_tex_grammar.specs.Scanning.{BeforeLengthInBraces}
 use Rattle.latex2mathml_tex_grammar.specs.Meaning.{Raised}
-use Rattle.latex2mathml_tex.specs.{Models.context_of, Steps.TookValue}
+use Rattle.latex2mathml_tex_atoms.specs.Models.{context_of}
+use Rattle.latex2mathml_tex.specs.Steps.{TookValue}
 use Rattle.latex2mathml_tex.proofs.RuleSteps.{begun}
 use Rattle.latex2mathml_tex.proofs.Values.{value_refused, value_refused_within, value_taken, value_within}
 use Rattle.latex2mathml_tex.proofs.parse.Parser.raise.Goals as goal

@@ -7,7 +7,7 @@ use Rattle.latex2mathml_tex_grammar.specs.Rules.{Rule, a_bar, a_character, a_len
 use Rattle.latex2mathml_tex_grammar.specs.Scanning.{AtBracket, InLength}
 use Rattle.latex2mathml_tex_units.specs.Left.{units_at}
 use Rattle.latex2mathml_tex.specs.Steps.{BeginsIn, TookValue, left_of}
-use Rattle.latex2mathml_tex.specs.declared.{parse.Parser.Parser}
+use Rattle.latex2mathml_tex.specs.declared.parse.Parser.{Parser}
 use Rattle.latex2mathml_tex.specs.declared.parse.State.TheVariants as state
 use Rattle.latex2mathml_tex_units.proofs.Nexts.{no_more_taken}
 use Rattle.latex2mathml_tex.proofs.{Putting.past_none, Putting.past_units, RuleSteps.begun, Rows.step_within}

@@ -2,7 +2,8 @@ use Rattle.std.proofs.Common.{[], ◌∷◌, arith, subst}
 use Rattle.latex2mathml_tex_grammar.specs.{Makes.root, Makes.square_root, Rows.row_element, Symbols.InScript}
 use Rattle.latex2mathml_tex_grammar.specs.Rules.{InBrackets, a_character, gives, of_one, reads_atoms, styled}
 use Rattle.latex2mathml_tex_units.specs.Left.{units_at}
-use Rattle.latex2mathml_tex.specs.{Frames.context_at, Models.context_of}
+use Rattle.latex2mathml_tex.specs.Frames.{context_at}
+use Rattle.latex2mathml_tex_atoms.specs.Models.{context_of}
 use Rattle.latex2mathml_tex.specs.Steps.{Begins, left_of, level}
 use Rattle.latex2mathml_tex_units.proofs.Nexts.{no_more_taken}
 use Rattle.latex2mathml_tex.proofs.{RuleSteps.begun, Leading.operand_due, Leading.row_due, Putting.past_none, Putting.past_units, Rows.step_within}

@@ -3,9 +3,10 @@ use Rattle.latex2mathml_builder.specs.Built.{elements_in}
 use Rattle.latex2mathml_tex_grammar.specs.{Rows.single, Symbols.InText}
 use Rattle.latex2mathml_tex_grammar.specs.Makes
 use Rattle.latex2mathml_tex_grammar.specs.Rows
-use Rattle.latex2mathml_tex_units.specs.Meanings.{symbol_of}
-use Rattle.latex2mathml_tex.specs.{Models.row_with, Steps.elements_of}
-use Rattle.latex2mathml_tex.specs.declared.atoms.Row.{Row}
+use Rattle.latex2mathml_tex_commands.specs.Meanings.{symbol_of}
+use Rattle.latex2mathml_tex_atoms.specs.Models.{row_with}
+use Rattle.latex2mathml_tex.specs.Steps.{elements_of}
+use Rattle.latex2mathml_tex_atoms.specs.declared.atoms.Row.{Row}
 use Rattle.latex2mathml_tex.proofs.Wording.{formula_put, symbol_row}
 use Rattle.latex2mathml_tex.proofs.parse.Parser.show_symbol.Goals as goal
 

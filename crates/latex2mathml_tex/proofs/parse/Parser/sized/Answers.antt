@@ -1,8 +1,9 @@
 use Rattle.std.proofs.Common.{[], ◌∷◌, refl}
-use Rattle.latex2mathml_builder.specs.Names.{size_of}
+use Rattle.latex2mathml_attributes.specs.Names.{size_of}
 use Rattle.latex2mathml_tex_grammar.specs.{Delimiters.delimiter_of, Rules.gives}
 use Rattle.latex2mathml_tex_grammar.specs.Makes
-use Rattle.latex2mathml_tex_units.specs.{Delimiters.delimiter_text, Left.units_at, Meanings.class_of}
+use Rattle.latex2mathml_tex_commands.specs.{Delimiters.delimiter_text, Meanings.class_of}
+use Rattle.latex2mathml_tex_units.specs.Left.{units_at}
 use Rattle.latex2mathml_tex.specs.Steps.{left_of}
 use Rattle.latex2mathml_tex_units.proofs.Nexts.{no_more_taken}
 use Rattle.latex2mathml_tex.proofs.{RuleSteps.no_delimiter, RuleSteps.no_delimiter_step, RuleSteps.past_delimiter, Putting.core_put, Putting.core_step}

@@ -2,7 +2,8 @@ use mir.Val.{SFits}
 use Rattle.std.proofs.Common.{◌≡◌, ◌∙◌, ◌∷◌, ◌+◌, ℤ, Option, ap, arith, of_z, refl, rules, subst, sym, to_z, w32}
 use Rattle.std.proofs.lemmas.Int.{ints}
 use Rattle.latex2mathml_elements.specs.Element.{rectangle}
-use Rattle.latex2mathml_builder.specs.{Arounds.extent_of, Built.elements_in}
+use Rattle.latex2mathml_attributes.specs.Arounds.{extent_of}
+use Rattle.latex2mathml_builder.specs.Built.{elements_in}
 use Rattle.latex2mathml_tex_grammar.specs.Lengths as lengths
 use Rattle.latex2mathml_tex_grammar.specs.{Makes.blank, Makes.core}
 use Rattle.latex2mathml_tex_grammar.specs.Refusal.{LengthTooLarge, refusal_at}

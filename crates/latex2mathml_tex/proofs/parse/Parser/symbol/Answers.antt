@@ -1,6 +1,6 @@
 use Rattle.std.proofs.Common.{option_map}
 use Rattle.latex2mathml_tex_grammar.specs.Makes
-use Rattle.latex2mathml_tex_units.specs.Meanings.{alphabet_of, symbol_of}
+use Rattle.latex2mathml_tex_commands.specs.Meanings.{alphabet_of, symbol_of}
 use Rattle.latex2mathml_tex.proofs.Putting.{put_held}
 use Rattle.latex2mathml_tex.proofs.parse.Parser.symbol.Goals as goal
 

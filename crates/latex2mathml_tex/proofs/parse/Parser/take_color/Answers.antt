@@ -1,5 +1,5 @@
 use Rattle.std.proofs.Common.{ap, option_map, refl, string_bytes, sym, ◌∙◌}
-use Rattle.latex2mathml_builder.specs.Arounds as arounds
+use Rattle.latex2mathml_attributes.specs.Arounds as arounds
 use Rattle.latex2mathml_tex_grammar.specs.Colors.{color_of}
 use Rattle.latex2mathml_tex_grammar.specs.Refusal.{UnknownColor, refusal_at}
 use Rattle.latex2mathml_tex_grammar.specs.Scanning.{BeforeArgument, ColorName}

@@ -1,11 +1,12 @@
 use Rattle.std.proofs.Common.{◌≡◌, arith, sym, ap, ◌∙◌}
 use Rattle.latex2mathml_builder.specs.Built.{Built, elements_in}
-use Rattle.latex2mathml_builder.specs.declared.attributes.Side.TheVariants as side
-use Rattle.latex2mathml_tex_units.specs.Meanings.{style_of}
+use Rattle.latex2mathml_attributes.specs.declared.attributes.Side.TheVariants as side
+use Rattle.latex2mathml_tex_commands.specs.Meanings.{style_of}
 use Rattle.latex2mathml_tex.specs.{Frames.Start, Levels.Leads}
 use Rattle.latex2mathml_tex.specs.Steps.{left_of, level_within}
-use Rattle.latex2mathml_tex_units.specs.declared.meaning.Style.TheVariants as style
-use Rattle.latex2mathml_tex.specs.declared.{atoms.Context.Context, parse.Parser.Parser}
+use Rattle.latex2mathml_tex_commands.specs.declared.meaning.Style.TheVariants as style
+use Rattle.latex2mathml_tex_atoms.specs.declared.atoms.Context.{Context}
+use Rattle.latex2mathml_tex.specs.declared.parse.Parser.{Parser}
 use Rattle.latex2mathml_tex.specs.declared.parse.frames.Frame.TheVariants as frame
 use Rattle.latex2mathml_tex.proofs.Marks.{MarkPut, TookIt, above_put, below_put, limits_refused, limits_taken, prime_refused, prime_taken, primes_are_put, script_opened, script_refused}
 use Rattle.latex2mathml_tex.proofs.parse.Parser.take_mark.Goals as goal

@@ -1,8 +1,8 @@
 use Rattle.std.proofs.Common.{Bool, Option, option_map, subst}
 use Rattle.latex2mathml_tex_grammar.specs.Rules.{a_line}
-use Rattle.latex2mathml_tex_units.specs.{Delimiters.delimiter_text, Meanings.style_of}
+use Rattle.latex2mathml_tex_commands.specs.{Delimiters.delimiter_text, Meanings.style_of}
 use Rattle.latex2mathml_tex.specs.TakenBy.{TookBy}
-use Rattle.latex2mathml_tex_units.specs.declared.meaning.Style.{Style}
+use Rattle.latex2mathml_tex_commands.specs.declared.meaning.Style.{Style}
 use Rattle.latex2mathml_tex.proofs.Outlining.{TookStyle, line_stops, outline_taken, style_stops}
 use Rattle.latex2mathml_tex.proofs.parse.Parser.take_outline.Goals as goal
 

@@ -2,7 +2,7 @@ use Rattle.std.proofs.Common.{ap, option_map, refl, string_bytes, sym, ◌∙◌
 use Rattle.latex2mathml_tex_grammar.specs.Refusal.{MissingArgument, refusal_at}
 use Rattle.latex2mathml_tex_grammar.specs.Rules.{numbered_style}
 use Rattle.latex2mathml_tex_grammar.specs.Scanning.{BeforeArgument, Number}
-use Rattle.latex2mathml_tex_units.specs.Meanings.{style_of}
+use Rattle.latex2mathml_tex_commands.specs.Meanings.{style_of}
 use Rattle.latex2mathml_tex.proofs.TableRules.{took_none, took_some}
 use Rattle.latex2mathml_tex.proofs.Values.{text_without_value, value_missing}
 use Rattle.latex2mathml_tex.proofs.parse.Parser.take_style.Goals as goal

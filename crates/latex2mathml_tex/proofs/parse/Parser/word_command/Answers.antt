@@ -5,10 +5,10 @@ use Rattle.latex2mathml_tex_grammar.specs.{Dots.low_dots, Rows.single, Symbols.A
 use Rattle.latex2mathml_tex_grammar.specs.Words.{Formula, Nothing, Shown, word_space}
 use Rattle.latex2mathml_tex_units.specs.{Errors.refusal_of, Left.unit_count, Left.units_at}
 use Rattle.latex2mathml_tex.specs.Steps.{left_of}
-use Rattle.latex2mathml_tex_units.specs.Meanings
-use Rattle.latex2mathml_tex_units.specs.Meanings.{alphabet_of, symbol_of}
-use Rattle.latex2mathml_tex_units.specs.declared.meaning.Change.TheVariants as code_change
-use Rattle.latex2mathml_tex_units.specs.declared.meaning.Meaning.TheVariants as code_meaning
+use Rattle.latex2mathml_tex_commands.specs.Meanings
+use Rattle.latex2mathml_tex_commands.specs.Meanings.{alphabet_of, symbol_of}
+use Rattle.latex2mathml_tex_commands.specs.declared.meaning.Change.TheVariants as code_change
+use Rattle.latex2mathml_tex_commands.specs.declared.meaning.Meaning.TheVariants as code_meaning
 use Rattle.latex2mathml_tex_units.proofs.Nexts.{no_more_past_space}
 use Rattle.latex2mathml_tex.proofs.WordRules.{IsNoWord, command_meant, command_refused, command_step, character_shown, not_in_words, other_change, unknown}
 use Rattle.latex2mathml_tex.proofs.Wording.{in_alphabet_due, no_part, stands, words_stay}

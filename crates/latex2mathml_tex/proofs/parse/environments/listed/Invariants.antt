@@ -1,7 +1,7 @@
 -- The columns of the letters so far, of which there are no more than can be said.
 use Rattle.std.proofs.Common.{◌≡◌, ◌≤◌, take}
 use Rattle.latex2mathml_elements.specs.Columns.{Listed}
-use Rattle.latex2mathml_builder.specs.Columns as builder
+use Rattle.latex2mathml_attributes.specs.Columns as builder
 use Rattle.latex2mathml_tex_grammar.specs.Environments.{columns_of}
 use Rattle.latex2mathml_tex.proofs.parse.environments.listed.Given as goal
 

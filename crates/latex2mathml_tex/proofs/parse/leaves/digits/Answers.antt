@@ -1,7 +1,8 @@
 use Rattle.std.proofs.Common.{◌∷◌, [], ap, ◌∙◌, sym, option_map}
 use Rattle.latex2mathml_builder.specs.{Built.elements_in, Stacks.lengthened}
 use Rattle.latex2mathml_tex_grammar.specs.{Makes.digits_in, Next.digits_next, Next.past_space, Rules.a_digit}
-use Rattle.latex2mathml_tex_units.specs.{Left.units_at, Meanings.alphabet_of}
+use Rattle.latex2mathml_tex_units.specs.Left.{units_at}
+use Rattle.latex2mathml_tex_commands.specs.Meanings.{alphabet_of}
 use Rattle.latex2mathml_tex_units.proofs.Nexts.{fewer_taken}
 use Rattle.latex2mathml_tex.proofs.Digits.{no_digit, no_digit_longer, one_digit, one_digit_longer}
 use Rattle.latex2mathml_tex.proofs.parse.leaves.digits.Goals as goal

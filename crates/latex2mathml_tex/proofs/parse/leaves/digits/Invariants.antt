@@ -1,7 +1,8 @@
 use Rattle.std.proofs.Common.{◌≡◌, option_map}
 use Rattle.latex2mathml_builder.specs.{Built.elements_in, Stacks.lengthened}
 use Rattle.latex2mathml_tex_grammar.specs.{Makes.digits_in, Next.digits_next}
-use Rattle.latex2mathml_tex_units.specs.{Left.unit_count, Left.units_at, Meanings.alphabet_of}
+use Rattle.latex2mathml_tex_units.specs.Left.{unit_count, units_at}
+use Rattle.latex2mathml_tex_commands.specs.Meanings.{alphabet_of}
 use Rattle.latex2mathml_tex.proofs.parse.leaves.digits.Given as goal
 
 abbrev pub invariant-digits : goal.invariant-digits

@@ -1,9 +1,10 @@
 use Rattle.std.proofs.Common.{sym}
 use Rattle.latex2mathml_builder.specs.Built.{elements_in}
 use Rattle.latex2mathml_tex_grammar.specs.Makes
-use Rattle.latex2mathml_tex_units.specs.Meanings.{limit_place_of}
-use Rattle.latex2mathml_tex.specs.Models.{script_count}
-use Rattle.latex2mathml_tex.proofs.{Scripting.not_fixed, Shaping.unchanged}
+use Rattle.latex2mathml_tex_commands.specs.Meanings.{limit_place_of}
+use Rattle.latex2mathml_tex_atoms.specs.Models.{script_count}
+use Rattle.latex2mathml_tex.proofs.Scripting.{not_fixed}
+use Rattle.latex2mathml_tex_atoms.proofs.Shaping.{unchanged}
 use Rattle.latex2mathml_tex.proofs.parse.scripts.fix_base.Goals as goal
 
 pub returns-in_default : goal.returns-in_default

@@ -1,8 +1,8 @@
 use Rattle.std.proofs.Common.{rules, ◌≡◌, ◌+◌, ◌∙◌, false, true, ap, arith, drop, length}
 use Rattle.latex2mathml_builder.specs.Built.{elements_in}
 use Rattle.latex2mathml_tex_grammar.specs.Atoms
-use Rattle.latex2mathml_tex_units.specs.Meanings.{style_of}
-use Rattle.latex2mathml_tex.specs.Models.{kind_of, script_count, top}
+use Rattle.latex2mathml_tex_commands.specs.Meanings.{style_of}
+use Rattle.latex2mathml_tex_atoms.specs.Models.{kind_of, script_count, top}
 use Rattle.latex2mathml_tex.proofs.Scripting.{left_below, made, room_fixed}
 use Rattle.latex2mathml_tex.proofs.parse.scripts.scripted.Goals as goal
 use Rattle.latex2mathml_tex.proofs.parse.scripts.scripted.Goals.{else-not-scripts-via-then-not-scripts+else-not-scripts-2, else-not-scripts-via-else-not-scripts}

@@ -3,9 +3,9 @@ use Rattle.latex2mathml_elements.specs.{Attributes.plain, Element.Mi, Element.to
 use Rattle.latex2mathml_tex_grammar.specs.Makes
 use Rattle.latex2mathml_tex_grammar.specs.Makes.{core}
 use Rattle.latex2mathml_tex_grammar.specs.{Alphabets.in_alphabet, Atoms.Plain, Atoms.atom, Symbols.Ordinary}
-use Rattle.latex2mathml_tex_units.specs.Meanings.{alphabet_of}
-use Rattle.latex2mathml_tex_units.specs.declared.meaning.Alphabet.{Alphabet}
-use Rattle.latex2mathml_tex_units.specs.declared.meaning.Alphabet.TheVariants as alphabet
+use Rattle.latex2mathml_tex_commands.specs.Meanings.{alphabet_of}
+use Rattle.latex2mathml_tex_commands.specs.declared.meaning.Alphabet.{Alphabet}
+use Rattle.latex2mathml_tex_commands.specs.declared.meaning.Alphabet.TheVariants as alphabet
 use Rattle.latex2mathml_tex.proofs.parse.symbols.put_letter_in.Goals as goal
 
 letter_in : (a : Alphabet) (n : ℕ) → a ≢ alphabet.Upright → Makes.letter (Some (alphabet_of a)) n ≡ atom (Plain Ordinary) false (token Mi plain (Makes.text (in_alphabet (alphabet_of a) n)))

@@ -2,7 +2,7 @@ use Rattle.std.proofs.Common.{true, refl}
 use Rattle.latex2mathml_elements.specs.{Attributes.plain, Element.Mo, Element.token}
 use Rattle.latex2mathml_tex_grammar.specs.{Atoms.Plain, Atoms.atom, Symbols.Operator}
 use Rattle.latex2mathml_tex_grammar.specs.Makes
-use Rattle.latex2mathml_tex_units.specs.Meanings.{limit_place_of}
+use Rattle.latex2mathml_tex_commands.specs.Meanings.{limit_place_of}
 use Rattle.latex2mathml_tex.proofs.parse.symbols.put_operator.Goals as goal
 
 pub returns : goal.returns

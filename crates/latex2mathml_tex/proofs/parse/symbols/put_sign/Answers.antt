@@ -1,7 +1,7 @@
 use Rattle.std.proofs.Common.{refl}
 use Rattle.latex2mathml_tex_grammar.specs.Makes
 use Rattle.latex2mathml_tex_grammar.specs.Makes.{core}
-use Rattle.latex2mathml_tex_units.specs.Meanings.{class_of}
+use Rattle.latex2mathml_tex_commands.specs.Meanings.{class_of}
 use Rattle.latex2mathml_tex.proofs.parse.symbols.put_sign.Goals as goal
 
 pub returns : goal.returns

@@ -1,6 +1,7 @@
 use Rattle.std.proofs.Common.{[], ◌∷◌}
 use Rattle.latex2mathml_tex_grammar.specs.Delimiters.{delimiter_of}
-use Rattle.latex2mathml_tex_units.specs.{Delimiters.delimiter_text, Left.units_at}
+use Rattle.latex2mathml_tex_commands.specs.Delimiters.{delimiter_text}
+use Rattle.latex2mathml_tex_units.specs.Left.{units_at}
 use Rattle.latex2mathml_tex_units.proofs.Bracing.{bare_hands, braced_fewer, braced_hands, empty_fewer, empty_hands, no_delimiter_hands}
 use Rattle.latex2mathml_tex_units.proofs.Nexts.{no_more_taken}
 use Rattle.latex2mathml_tex_units.proofs.input.Input.take_outer_delimiter.Goals as goal

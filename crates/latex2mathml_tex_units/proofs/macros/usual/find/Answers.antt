@@ -1,7 +1,8 @@
 use Rattle.std.proofs.Common.{◌≡◌, ◌∙◌, arith, length, refl, sym, true-eqb}
 use Rattle.std.proofs.lemmas.Grind.{common_steps}
 use Rattle.latex2mathml_tex_units.specs.Bodies.{named_entry}
-use Rattle.latex2mathml_tex_units.proofs.Lookups.{whole_table, kept_left, kept_right, found, none_left, its_macro, macro_is}
+use Rattle.latex2mathml_tex_commands.proofs.Lookups.{whole_table, kept_left, kept_right, found, none_left}
+use Rattle.latex2mathml_tex_units.proofs.UsualLookups.{its_macro, macro_is}
 use Rattle.latex2mathml_tex_units.proofs.macros.usual.find.Goals as goal
 
 pub loop-entries-init : goal.loop-entries-init

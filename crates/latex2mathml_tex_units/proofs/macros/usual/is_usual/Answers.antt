@@ -1,7 +1,7 @@
 use Rattle.std.proofs.Common.{◌∙◌, ap, sym}
 use Rattle.std.specs.Option.{is_some}
 use Rattle.latex2mathml_tex_units.proofs.Tables.{is_some-map, usual_is}
-use Rattle.latex2mathml_tex_units.proofs.Lookups.{usual_few, usual_ordered}
+use Rattle.latex2mathml_tex_units.proofs.UsualLookups.{usual_few, usual_ordered}
 use Rattle.latex2mathml_tex_units.proofs.macros.usual.is_usual.Goals as goal
 
 pub find-requires-clause-ordered : goal.find-requires-clause-ordered

@@ -1,7 +1,7 @@
 use Rattle.std.proofs.Common.{◌∙◌, ap, Some}
 use Rattle.latex2mathml_tex_grammar.specs.Macros.{macro}
 use Rattle.latex2mathml_tex_units.proofs.Tables.{usual_is}
-use Rattle.latex2mathml_tex_units.proofs.Lookups.{usual_few, usual_ordered}
+use Rattle.latex2mathml_tex_units.proofs.UsualLookups.{usual_few, usual_ordered}
 use Rattle.latex2mathml_tex_units.proofs.macros.usual.usual_macro.Goals as goal
 
 pub find-requires-clause-ordered : goal.find-requires-clause-ordered

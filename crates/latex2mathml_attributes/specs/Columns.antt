@@ -1,0 +1,35 @@
+-- The columns of the code, as the definitions have them.
+use Rattle.std.specs.Prelude.{Bool, false, nat_lt, List, [], ◌∷◌, ◌++◌, length, map, take, if◌then◌else◌}
+use Rattle.latex2mathml_elements.specs.Columns as defined
+use Rattle.latex2mathml_attributes.specs.declared.columns.Column.{Column}
+use Rattle.latex2mathml_attributes.specs.declared.columns.Column.TheVariants as column
+use Rattle.latex2mathml_attributes.specs.declared.columns.Columns.{Columns}
+use Rattle.latex2mathml_attributes.specs.declared.columns.Kind.{Kind}
+use Rattle.latex2mathml_attributes.specs.declared.columns.Kind.TheVariants as kind
+
+abbrev pub column_of : Column → defined.Column
+column_of column.Centered = defined.Centered
+column_of column.LeftAligned = defined.LeftAligned
+column_of column.RightAligned = defined.RightAligned
+column_of column.FirstOfPair = defined.FirstOfPair
+column_of column.SecondOfPair = defined.SecondOfPair
+column_of column.Dense = defined.Dense
+
+-- columns of this kind, of which these are listed
+abbrev pub columns_with : Kind → List defined.Column → defined.Columns
+columns_with (kind.Alike column) listed = defined.Alike (column_of column)
+columns_with kind.InPairs listed = defined.InPairs
+columns_with kind.Listed listed = defined.Listed listed
+
+abbrev pub columns_of : Columns → defined.Columns
+columns_of c = columns_with c.kind (map column_of (take c.len c.listed))
+
+-- columns are listed, and fewer than 16
+abbrev pub has_room : defined.Columns → Bool
+has_room (defined.Listed columns) = nat_lt (length columns) 16
+has_room columns = false
+
+-- one more column, if there is room
+abbrev pub listed_behind : defined.Column → defined.Columns → defined.Columns
+listed_behind column (defined.Listed columns) = defined.Listed (if nat_lt (length columns) 16 then columns ++ column ∷ [] else columns)
+listed_behind column columns = columns

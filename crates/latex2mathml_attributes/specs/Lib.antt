@@ -1,0 +1,3 @@
+pub mod Arounds
+pub mod Columns
+pub mod Names

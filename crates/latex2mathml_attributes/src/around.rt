@@ -1,0 +1,157 @@
+//! Elements around one other.
+ghost use Rattle.std.specs.Prelude.{◌≡◌, ◌<◌, ◌++◌, OnOk, codes, string_bytes};
+ghost use Rattle.latex2mathml_elements.specs.Attributes.{boxed};
+ghost use Rattle.latex2mathml_elements.specs.Colors.{color_code, hexadecimal, two_digits};
+ghost use Rattle.latex2mathml_elements.specs.Extents.{length_if_any};
+ghost use Rattle.latex2mathml_elements.specs.Print.{container_name, end_tag, start_tag};
+ghost use Rattle.latex2mathml_attributes.specs.Arounds.{around_attributes, around_name, boxing_of, color_of};
+
+use crate::extent::append_if_any;
+use std::alloc::AllocError;
+
+/// How much there is of each color.
+#[derive(Debug, Clone, Copy)]
+pub struct Color {
+    pub red: u8,
+    pub green: u8,
+    pub blue: u8,
+}
+
+/// What is made of the box around an element.
+#[derive(Debug, Clone, Copy)]
+pub enum Boxing {
+    NoWidth,
+    /// No height above the line and no depth below it.
+    Flat,
+    NoHeight,
+    NoDepth,
+    /// It stands to the left of its place, by its width.
+    ByItsWidth,
+    /// By half its width.
+    ByHalfItsWidth,
+    /// A line stands around it.
+    Framed,
+    /// A line goes through it, from its lower left.
+    StruckUp,
+    /// From its upper left.
+    StruckDown,
+    /// Both.
+    StruckTwice,
+}
+
+/// What an element does with the one in it.
+#[derive(Debug, Clone, Copy)]
+pub enum Around {
+    /// It is not seen.
+    Unseen,
+    Boxed(Boxing),
+    /// It stands so many thousandths of an em above its place.
+    Raised(i32),
+    Colored(Color),
+    /// This color lies behind it.
+    Before(Color),
+}
+
+impl Boxing {
+    /// The start tag.
+    fn start_tag(self) -> &'static str
+        ensures { result.now ≡ start_tag (codes "mpadded") (boxed (boxing_of self)) }
+    {
+        match self {
+            Boxing::NoWidth => "<mpadded width=\"0\">",
+            Boxing::Flat => "<mpadded height=\"0\" depth=\"0\">",
+            Boxing::NoHeight => "<mpadded height=\"0\">",
+            Boxing::NoDepth => "<mpadded depth=\"0\">",
+            Boxing::ByItsWidth => "<mpadded style=\"transform: translateX(-100%)\">",
+            Boxing::ByHalfItsWidth => "<mpadded style=\"transform: translateX(-50%)\">",
+            Boxing::Framed => "<mpadded style=\"border: thin solid; padding: 0.3em\">",
+            Boxing::StruckUp =>
+                "<mpadded style=\"background: linear-gradient(to top left, transparent calc(50% - 0.04em), currentcolor, transparent calc(50% + 0.04em))\">",
+            Boxing::StruckDown =>
+                "<mpadded style=\"background: linear-gradient(to top right, transparent calc(50% - 0.04em), currentcolor, transparent calc(50% + 0.04em))\">",
+            Boxing::StruckTwice =>
+                "<mpadded style=\"background: linear-gradient(to top left, transparent calc(50% - 0.04em), currentcolor, transparent calc(50% + 0.04em)), linear-gradient(to top right, transparent calc(50% - 0.04em), currentcolor, transparent calc(50% + 0.04em))\">",
+        }
+    }
+}
+
+impl Around {
+    /// Appends the start tag.
+    pub fn append_start(self, out: &mut String) -> Result<(), AllocError>
+        ensures { OnOk result (string_bytes out.new
+            ≡ string_bytes out.old
+            ++ start_tag (container_name (around_name self)) (around_attributes self)) }
+    {
+        match self {
+            Around::Unseen => {
+                out.push_str("<mphantom>")?;
+                Ok(())
+            }
+            Around::Boxed(boxing) => {
+                out.push_str(boxing.start_tag())?;
+                Ok(())
+            }
+            Around::Raised(length) => append_raised(length, out),
+            Around::Colored(color) => append_colored("<mstyle mathcolor=\"", color, out),
+            Around::Before(color) => append_colored("<mpadded mathbackground=\"", color, out),
+        }
+    }
+
+    /// The end tag.
+    pub fn end(self) -> &'static str
+        ensures { result.now ≡ end_tag (container_name (around_name self)) }
+    {
+        match self {
+            Around::Unseen => "</mphantom>",
+            Around::Colored(_) => "</mstyle>",
+            Around::Boxed(_) | Around::Raised(_) | Around::Before(_) => "</mpadded>",
+        }
+    }
+}
+
+/// Appends the start tag of what is raised by this length.
+fn append_raised(length: i32, out: &mut String) -> Result<(), AllocError>
+    ensures { OnOk result (string_bytes out.new ≡ string_bytes out.old
+        ++ (codes "<mpadded" ++ (length_if_any (codes "voffset") length ++ codes ">"))) }
+{
+    out.push_str("<mpadded")?;
+    append_if_any(" voffset=\"", length, out)?;
+    out.push_str(">")?;
+    Ok(())
+}
+
+/// Appends a start tag that begins so and whose last attribute is a color.
+fn append_colored(beginning: &'static str, color: Color, out: &mut String) -> Result<(), AllocError>
+    ensures { OnOk result (string_bytes out.new ≡ string_bytes out.old
+        ++ (beginning.now ++ (color_code (color_of color) ++ codes "\">"))) }
+{
+    out.push_str(beginning)?;
+    out.push_str("#")?;
+    append_two_digits(color.red, out)?;
+    append_two_digits(color.green, out)?;
+    append_two_digits(color.blue, out)?;
+    out.push_str("\">")?;
+    Ok(())
+}
+
+/// Appends a byte in hexadecimal.
+fn append_two_digits(byte: u8, out: &mut String) -> Result<(), AllocError>
+    ensures { OnOk result (string_bytes out.new ≡ string_bytes out.old ++ two_digits byte) }
+{
+    out.push(hexadecimal(byte / 16))?;
+    out.push(hexadecimal(byte % 16))?;
+    Ok(())
+}
+
+/// A digit in hexadecimal.
+fn hexadecimal(digit: u8) -> char
+    requires { digit < 16 }
+    ensures value { result ≡ hexadecimal digit }
+    ensures ascii { result < 128 }
+{
+    if digit < 10 {
+        char::from(b'0' + digit)
+    } else {
+        char::from(b'a' + (digit - 10))
+    }
+}

@@ -1,0 +1,243 @@
+//! The attributes of elements.
+ghost use Rattle.std.specs.Prelude.{◌≡◌, ◌++◌, [], true, IsTrue, OnOk, option_map, string_bytes};
+ghost use Rattle.latex2mathml_elements.specs.Attributes.{plain, styled};
+ghost use Rattle.latex2mathml_elements.specs.Print.{accent_text, attributes_text, form_text, if_so, size_text, space_text, stretch_text, style_text};
+ghost use Rattle.latex2mathml_attributes.specs.Names.{attributes_of, form_of, math_style_of, side_of, size_of, space_of, stretch_of};
+
+use std::alloc::AllocError;
+
+/// The side of its base on which a mark stands.
+#[derive(Debug, Clone, Copy)]
+pub enum Side {
+    Above,
+    Below,
+}
+
+/// Where an operator stands among others.
+#[derive(Debug, Clone, Copy)]
+pub enum Form {
+    Prefix,
+    Infix,
+    Postfix,
+}
+
+/// Whether an operator is as high or as wide as what stands beside it.
+#[derive(Debug, Clone, Copy)]
+pub enum Stretch {
+    Stretching,
+    Rigid,
+}
+
+/// The space on both sides of an operator.
+#[derive(Debug, Clone, Copy)]
+pub enum Space {
+    NoSpace,
+    /// A twentieth of an em.
+    Narrow,
+}
+
+/// The height of a delimiter.
+#[derive(Debug, Clone, Copy)]
+pub enum Size {
+    Big,
+    Bigger,
+    VeryBig,
+    Biggest,
+}
+
+/// The style of a formula.
+#[derive(Debug, Clone, Copy)]
+pub enum MathStyle {
+    /// Displayed.
+    Display,
+    /// In a line of text.
+    Text,
+    /// As small as a script.
+    Script,
+}
+
+/// The attributes of an element. Where one is missing, the browser decides.
+#[derive(Debug, Clone, Copy)]
+pub struct Attributes {
+    /// A single letter that is not italic.
+    pub upright: bool,
+    pub form: Option<Form>,
+    pub stretch: Option<Stretch>,
+    /// A delimiter within others.
+    pub fence: bool,
+    /// A sign of punctuation.
+    pub separator: bool,
+    pub size: Option<Size>,
+    pub space: Option<Space>,
+    /// Limits stay above and below in every style.
+    pub limits_stay: bool,
+    pub accent: Option<Side>,
+    /// A fraction without its line.
+    pub no_line: bool,
+    /// The style of what stands in it, whatever the style around it is.
+    pub style: Option<MathStyle>,
+}
+
+impl Attributes {
+    /// No attributes.
+    pub fn plain() -> Attributes
+        ensures { attributes_of result ≡ plain }
+    {
+        Attributes {
+            upright: false,
+            form: None,
+            stretch: None,
+            fence: false,
+            separator: false,
+            size: None,
+            space: None,
+            limits_stay: false,
+            accent: None,
+            no_line: false,
+            style: None,
+        }
+    }
+
+    /// Those of a single letter that is not italic.
+    pub fn upright() -> Attributes
+        ensures { attributes_of result ≡ record plain { upright = true } }
+    {
+        Attributes {
+            upright: true,
+            ..Attributes::plain()
+        }
+    }
+
+    /// Those of an element with a style of its own, where it has one.
+    pub fn styled(style: Option<MathStyle>) -> Attributes
+        ensures { attributes_of result ≡ styled (option_map math_style_of style) }
+    {
+        Attributes {
+            style,
+            ..Attributes::plain()
+        }
+    }
+
+    /// Whether there are no attributes.
+    #[inline(always)]
+    pub fn are_none(&self) -> bool
+        ensures { IsTrue result → attributes_text (attributes_of self.now) ≡ [] }
+    {
+        matches!(
+            self,
+            Attributes {
+                upright: false,
+                form: None,
+                stretch: None,
+                fence: false,
+                separator: false,
+                size: None,
+                space: None,
+                limits_stay: false,
+                accent: None,
+                no_line: false,
+                style: None,
+            }
+        )
+    }
+
+    /// Appends the attributes, each after a space.
+    pub fn append(self, out: &mut String) -> Result<(), AllocError>
+        ensures { OnOk result (string_bytes out.new
+            ≡ string_bytes out.old ++ attributes_text (attributes_of self)) }
+    {
+        append_some(text_if(self.upright, " mathvariant=\"normal\""), out)?;
+        append_some(form_text(self.form), out)?;
+        append_some(stretch_text(self.stretch), out)?;
+        append_some(text_if(self.fence, " fence=\"true\""), out)?;
+        append_some(text_if(self.separator, " separator=\"true\""), out)?;
+        append_some(size_text(self.size), out)?;
+        append_some(space_text(self.space), out)?;
+        append_some(text_if(self.limits_stay, " movablelimits=\"false\""), out)?;
+        append_some(accent_text(self.accent), out)?;
+        append_some(text_if(self.no_line, " linethickness=\"0\""), out)?;
+        append_some(style_text(self.style), out)?;
+        Ok(())
+    }
+}
+
+/// Appends a text, which may be empty.
+#[inline(always)]
+fn append_some(text: &'static str, out: &mut String) -> Result<(), AllocError>
+    ensures { OnOk result (string_bytes out.new ≡ string_bytes out.old ++ text.now) }
+{
+    if text.is_empty() {
+        return Ok(());
+    }
+    out.push_str(text)
+}
+
+fn text_if(flag: bool, text: &'static str) -> &'static str
+    ensures { result.now ≡ if_so flag text.now }
+{
+    if flag { text } else { "" }
+}
+
+fn form_text(form: Option<Form>) -> &'static str
+    ensures { result.now ≡ form_text (option_map form_of form) }
+{
+    match form {
+        None => "",
+        Some(Form::Prefix) => " form=\"prefix\"",
+        Some(Form::Infix) => " form=\"infix\"",
+        Some(Form::Postfix) => " form=\"postfix\"",
+    }
+}
+
+fn stretch_text(stretch: Option<Stretch>) -> &'static str
+    ensures { result.now ≡ stretch_text (option_map stretch_of stretch) }
+{
+    match stretch {
+        None => "",
+        Some(Stretch::Stretching) => " stretchy=\"true\"",
+        Some(Stretch::Rigid) => " stretchy=\"false\"",
+    }
+}
+
+fn size_text(size: Option<Size>) -> &'static str
+    ensures { result.now ≡ size_text (option_map size_of size) }
+{
+    match size {
+        None => "",
+        Some(Size::Big) => " symmetric=\"true\" minsize=\"1.2em\" maxsize=\"1.2em\"",
+        Some(Size::Bigger) => " symmetric=\"true\" minsize=\"1.623em\" maxsize=\"1.623em\"",
+        Some(Size::VeryBig) => " symmetric=\"true\" minsize=\"2.047em\" maxsize=\"2.047em\"",
+        Some(Size::Biggest) => " symmetric=\"true\" minsize=\"2.47em\" maxsize=\"2.47em\"",
+    }
+}
+
+fn space_text(space: Option<Space>) -> &'static str
+    ensures { result.now ≡ space_text (option_map space_of space) }
+{
+    match space {
+        None => "",
+        Some(Space::NoSpace) => " lspace=\"0\" rspace=\"0\"",
+        Some(Space::Narrow) => " lspace=\"0.05em\" rspace=\"0.05em\"",
+    }
+}
+
+fn accent_text(accent: Option<Side>) -> &'static str
+    ensures { result.now ≡ accent_text (option_map side_of accent) }
+{
+    match accent {
+        None => "",
+        Some(Side::Above) => " accent=\"true\"",
+        Some(Side::Below) => " accentunder=\"true\"",
+    }
+}
+
+fn style_text(style: Option<MathStyle>) -> &'static str
+    ensures { result.now ≡ style_text (option_map math_style_of style) }
+{
+    match style {
+        None => "",
+        Some(MathStyle::Display) => " displaystyle=\"true\" scriptlevel=\"0\"",
+        Some(MathStyle::Text) => " displaystyle=\"false\" scriptlevel=\"0\"",
+        Some(MathStyle::Script) => " displaystyle=\"false\" scriptlevel=\"1\"",
+    }
+}

@@ -1,0 +1,101 @@
+//! Rectangles and lengths.
+ghost use Rattle.std.specs.Prelude.{◌≡◌, ℕ, List, ◌++◌, OnOk, codes, string_bytes, unsigned_abs};
+ghost use Rattle.latex2mathml_elements.specs.Extents.{black_text, ems, extent_text, length_if_any, wide};
+ghost use Rattle.latex2mathml_trees.specs.Width.{thousandths_text};
+ghost use Rattle.latex2mathml_attributes.specs.Arounds.{extent_of};
+
+use std::alloc::AllocError;
+
+/// How wide and how high a rectangle is, in thousandths of an em.
+#[derive(Debug, Clone, Copy)]
+pub struct Extent {
+    pub width: i32,
+    /// Above the line.
+    pub height: i32,
+    /// Below it.
+    pub depth: i32,
+    pub is_black: bool,
+}
+
+impl Extent {
+    /// Nothing but a width.
+    pub fn wide(width: i32) -> Extent
+        ensures { extent_of result ≡ wide width }
+    {
+        Extent {
+            width,
+            height: 0,
+            depth: 0,
+            is_black: false,
+        }
+    }
+
+    /// Appends the attributes.
+    pub fn append(self, out: &mut String) -> Result<(), AllocError>
+        ensures { OnOk result (string_bytes out.new
+            ≡ string_bytes out.old ++ extent_text (extent_of self)) }
+    {
+        append_length(" width=\"", self.width, out)?;
+        append_if_any(" height=\"", self.height, out)?;
+        append_if_any(" depth=\"", self.depth, out)?;
+        if self.is_black {
+            out.push_str(" mathbackground=\"black\"")?;
+        }
+        Ok(())
+    }
+}
+
+/// Appends a length behind what stands before it, unless it is none.
+pub fn append_if_any(
+    beginning: &'static str,
+    length: i32,
+    out: &mut String,
+) -> Result<(), AllocError>
+    ensures { (name : List ℕ) → beginning.now ≡ codes " " ++ (name ++ codes "=\"")
+        → OnOk result (string_bytes out.new ≡ string_bytes out.old ++ length_if_any name length) }
+{
+    if length == 0 {
+        return Ok(());
+    }
+    append_length(beginning, length, out)
+}
+
+/// Appends a length and its quotation mark behind what stands before it.
+fn append_length(beginning: &'static str, length: i32, out: &mut String) -> Result<(), AllocError>
+    ensures { OnOk result (string_bytes out.new
+        ≡ string_bytes out.old ++ (beginning.now ++ (ems length ++ codes "em\""))) }
+{
+    out.push_str(beginning)?;
+    append_ems(length, out)?;
+    out.push_str("em\"")?;
+    Ok(())
+}
+
+/// Appends a length in ems.
+fn append_ems(length: i32, out: &mut String) -> Result<(), AllocError>
+    ensures { OnOk result (string_bytes out.new ≡ string_bytes out.old ++ ems length) }
+{
+    if length < 0 {
+        out.push_str("-")?;
+    }
+    append_thousandths(length.unsigned_abs(), out)
+}
+
+/// Appends a number of thousandths as a decimal fraction, without zeros at its end.
+fn append_thousandths(number: u32, out: &mut String) -> Result<(), AllocError>
+    ensures { OnOk result (string_bytes out.new ≡ string_bytes out.old ++ thousandths_text number) }
+{
+    let whole = number / 1000;
+    write!(out, "{whole}")?;
+    let a = number % 1000 / 100 % 10;
+    let b = number % 1000 / 10 % 10;
+    let c = number % 1000 % 10;
+    if c != 0 {
+        write!(out, ".{a}{b}{c}")?;
+    } else if b != 0 {
+        write!(out, ".{a}{b}")?;
+    } else if a != 0 {
+        write!(out, ".{a}")?;
+    }
+    Ok(())
+}

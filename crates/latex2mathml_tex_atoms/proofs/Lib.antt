@@ -1,0 +1,3 @@
+pub mod Boxing
+pub mod Outlined
+pub mod Shaping

@@ -1,0 +1,205 @@
+-- The uppermost elements changed, and a row with an atom after it.
+use Rattle.std.proofs.Common.{◌≡◌, ℕ, ◌+◌, ◌<◌, ◌≤◌, ◌==◌, Bool, false, true, zero, suc, List, [], ◌∷◌, ◌++◌, Option, Some, None, length, take, drop, arith, refl, sym, ap, ◌∙◌}
+use Rattle.std.proofs.Math.Dec.{eqb-suc-zero}
+use Rattle.std.proofs.lemmas.List.{drop-drop}
+use Rattle.latex2mathml_elements.specs.Attributes.{Attributes}
+use Rattle.latex2mathml_elements.specs.Element.{Element, Mo, Token, token}
+use Rattle.latex2mathml_attributes.specs.Names.{token_of}
+use Rattle.latex2mathml_builder.specs.Stacks.{are_tokens, given, joined, token_at, token_of_element, with_attributes}
+use Rattle.latex2mathml_attributes.specs.declared.tag.Token.{Token as CodeToken}
+use Rattle.latex2mathml_attributes.specs.declared.tag.Token.TheVariants as code_token
+use Rattle.latex2mathml_tex_grammar.specs.Atoms
+use Rattle.latex2mathml_tex_grammar.specs.Atoms.{Before, Kind}
+use Rattle.latex2mathml_tex_grammar.specs.Makes
+use Rattle.latex2mathml_tex_grammar.specs.Meaning
+use Rattle.latex2mathml_tex_grammar.specs.Rows
+use Rattle.latex2mathml_tex_grammar.specs.Symbols.{Class, Ordinary, Style}
+use Rattle.latex2mathml_tex_commands.specs.Meanings.{class_of}
+use Rattle.latex2mathml_tex_atoms.specs.Models.{kind_of, top}
+use Rattle.latex2mathml_tex_atoms.specs.Shapes.{changed_at, mapped_first}
+use Rattle.latex2mathml_tex_atoms.specs.declared.atoms.Kind.{Kind as CodeKind}
+use Rattle.latex2mathml_tex_atoms.specs.declared.atoms.Kind.TheVariants as code_kind
+use Rattle.latex2mathml_tex_commands.specs.declared.meaning.Class.{Class as CodeClass}
+use Rattle.latex2mathml_tex_commands.specs.declared.meaning.Class.TheVariants as code_class
+
+-- One element changed
+
+-- .. which holds a text, and gets other attributes
+module _ (f : Element → Element) (t : Token) (a b : Attributes) (same : (text : List ℕ) → f (token t a text) ≡ token t b text) where
+  given_there : (x : Element) → token_of_element x ≡ Some (t, a) → with_attributes b x ≡ f x
+  given_there (token u c text) found =
+      let tags : ◌≡◌ {A = Token × Attributes} (u, c) (t, a) = cc in
+      ap (λ p. token p.0 b text) tags ∙ sym (same text) ∙ ap (λ p. f (token p.0 p.1 text)) (sym tags)
+  given_there x found = cc
+
+  pub given_changed : (depth : ℕ) (xs : List Element) → token_at depth xs ≡ Some (t, a) → given depth b xs ≡ changed_at f depth xs
+  given_changed depth [] found = refl
+  given_changed zero (x ∷ xs) found = ap (λ y. y ∷ xs) (given_there x found)
+  given_changed (suc depth) (x ∷ xs) found = ap (λ ys. x ∷ ys) (given_changed depth xs found)
+
+-- .. which stays what it is
+pub unchanged_at : (f : Element → Element) (depth : ℕ) (xs : List Element) → ((x : Element) → token_of_element x ≡ token_at depth xs → f x ≡ x) → changed_at f depth xs ≡ xs
+unchanged_at f depth [] stays = refl
+unchanged_at f zero (x ∷ xs) stays = ap (λ y. y ∷ xs) (stays x refl)
+unchanged_at f (suc depth) (x ∷ xs) stays = ap (λ ys. x ∷ ys) (unchanged_at f depth xs stays)
+
+-- .. as any element does
+pub unchanged : (f : Element → Element) (depth : ℕ) (xs : List Element) → ((x : Element) → f x ≡ x) → changed_at f depth xs ≡ xs
+unchanged f depth xs stays = unchanged_at f depth xs (λ x e. stays x)
+
+-- .. as a sign between two operands
+pub infix_there : (style : Style) (first : Bool) (before : Before) (xs : List Element) → Atoms.begins_operand before ≡ false → changed_at (Atoms.tight style) 0 (changed_at (Atoms.as_infix first) 0 xs) ≡ changed_at (Atoms.element_there style first before Atoms.PlusOrMinus) 0 xs
+infix_there style first before [] none = refl
+infix_there style first before (x ∷ xs) none = rw none
+
+pub length_changed : (f : Element → Element) (depth : ℕ) (xs : List Element) → length (changed_at f depth xs) ≡ length xs
+length_changed f depth [] = refl
+length_changed f zero (x ∷ xs) = refl
+length_changed f (suc depth) (x ∷ xs) = ap suc (length_changed f depth xs)
+
+-- What stays what it is: an element that holds no text, ..
+
+pub no_prefix : (x : Element) → token_of_element x ≡ None → Atoms.as_prefix x ≡ x
+no_prefix (token t a text) h = cc
+no_prefix x h = refl
+
+pub no_infix : (first : Bool) (x : Element) → token_of_element x ≡ None → Atoms.as_infix first x ≡ x
+no_infix true (token t a text) h = cc
+no_infix true x h = refl
+no_infix false x h = refl
+
+pub no_space : (x : Element) → token_of_element x ≡ None → Atoms.without_space x ≡ x
+no_space (token t a text) h = cc
+no_space x h = refl
+
+pub no_sign_alone : (style : Style) (class : Class) (x : Element) → token_of_element x ≡ None → Atoms.lone_sign style class x ≡ x
+no_sign_alone style class (token Mo a text) h = cc
+no_sign_alone style class x h = refl
+
+pub no_divider : (x : Element) → token_of_element x ≡ None → Makes.lowered_divider x ≡ x
+no_divider (token t a text) h = cc
+no_divider x h = refl
+
+pub no_base : (x : Element) → token_of_element x ≡ None → Makes.fixed_base Meaning.Stacked x ≡ x
+no_base (token t a text) h = cc
+no_base x h = refl
+
+-- .. what is no fence, ..
+pub no_fence : (x : Element) (t : Token) (a : Attributes) → token_of_element x ≡ Some (t, a) → a.fence ≡ false → Makes.lowered_divider x ≡ x
+no_fence (token t b text) u a h none =
+    let tags : ◌≡◌ {A = Token × Attributes} (t, b) (u, a) = cc in
+    rw (ap (λ p. p.1.fence) tags ∙ none)
+no_fence x u a h none = refl
+
+-- .. what is no operator, ..
+module _ (tag : CodeToken) (other : tag ≡ code_token.Mo → ⊥) where
+  clash : (tag : CodeToken) → (tag ≡ code_token.Mo → ⊥) → Mo ≡ token_of tag → ⊥
+  clash code_token.Mo other h = other refl
+  clash tag other h = cc
+
+  is_operator : (a b : Attributes) → ◌≡◌ {A = Token × Attributes} (Mo, b) (token_of tag, a) → ⊥
+  is_operator a b tags = clash tag other (ap (λ p. p.0) tags)
+
+  pub no_operator : (x : Element) (a : Attributes) → token_of_element x ≡ Some (token_of tag, a) → Makes.fixed_base Meaning.Stacked x ≡ x
+  no_operator (token Mo b text) a h = absurd (is_operator a b cc)
+  no_operator x a h = refl
+
+  pub no_operator_alone : (style : Style) (class : Class) (x : Element) (a : Attributes) → token_of_element x ≡ Some (token_of tag, a) → Atoms.lone_sign style class x ≡ x
+  no_operator_alone style class (token Mo b text) a h = absurd (is_operator a b cc)
+  no_operator_alone style class x a h = refl
+
+-- .. a sign that has its space in scripts too, ..
+pub spaced_sign : (style : Style) (class : CodeClass) → (class ≡ code_class.Binary → ⊥) → (class ≡ code_class.Relation → ⊥) → (class ≡ code_class.Punctuation → ⊥) → (x : Element) → Atoms.sign_there style (class_of class) x ≡ x
+spaced_sign style code_class.Binary b r p x = absurd (b refl)
+spaced_sign style code_class.Relation b r p x = absurd (r refl)
+spaced_sign style code_class.Punctuation b r p x = absurd (p refl)
+spaced_sign style class b r p x = refl
+
+-- .. what is neither a binary sign nor a relation, ..
+pub no_base_changed : (style : Style) (class : Class) (own : CodeClass) → (own ≡ code_class.Binary → ⊥) → (own ≡ code_class.Relation → ⊥) → (x : Element) → Atoms.element_as style class (class_of own) x ≡ x
+no_base_changed style class code_class.Binary b r x = absurd (b refl)
+no_base_changed style class code_class.Relation b r x = absurd (r refl)
+no_base_changed style class own b r x = refl
+
+-- .. and what is no sign
+pub no_sign : (style : Style) (first : Bool) (before : Before) (kind : CodeKind) → ((class : CodeClass) → kind ≡ code_kind.SignOf class → ⊥) → (kind ≡ code_kind.PlusOrMinus → ⊥) → (x : Element) → Atoms.element_there style first before (kind_of kind) x ≡ x
+no_sign style first before (code_kind.SignOf class) s p x = absurd (s class refl)
+no_sign style first before code_kind.PlusOrMinus s p x = absurd (p refl)
+no_sign style first before kind s p x = refl
+
+-- The first elements changed, one after the other
+
+pub mapped_none : (f : Element → Element) (xs : List Element) → xs ≡ mapped_first f 0 xs
+mapped_none f [] = refl
+mapped_none f (x ∷ xs) = refl
+
+pub mapped_more : (f : Element → Element) (n : ℕ) (xs : List Element) → changed_at f n (mapped_first f n xs) ≡ mapped_first f (suc n) xs
+mapped_more f n [] = refl
+mapped_more f zero (x ∷ xs) = ap (λ ys. f x ∷ ys) (mapped_none f xs)
+mapped_more f (suc n) (x ∷ xs) = ap (λ ys. f x ∷ ys) (mapped_more f n xs)
+
+-- A word, and a letter behind it
+
+lone : (x : Element) → x ∷ [] ≡ Rows.join x []
+lone (token t a text) = refl
+lone x = refl
+
+pub word_begun : (xs : List Element) → 1 ≤ length xs → take 1 xs ≡ Rows.join (top xs) []
+word_begun [] h = absurd (omega arith)
+word_begun (x ∷ xs) h = lone x
+
+pub word_apart : (n : ℕ) (xs : List Element) → suc n ≤ length xs → are_tokens xs ≡ false → take (suc n) xs ≡ Rows.join (top xs) (take n (drop 1 xs))
+word_apart n [] enough apart = absurd (omega arith)
+word_apart zero (x ∷ xs) enough apart = lone x
+word_apart (suc n) (x ∷ []) enough apart = absurd (omega arith)
+word_apart (suc n) (token t a letter ∷ token u b word ∷ xs) enough apart = cc
+word_apart (suc n) (x ∷ y ∷ xs) enough apart = refl
+
+pub word_joined : (n : ℕ) (xs : List Element) → 0 < n → are_tokens xs ≡ true → take n (joined xs) ≡ Rows.join (top xs) (take n (drop 1 xs))
+word_joined zero xs some both = absurd (omega arith)
+word_joined (suc n) (token t a letter ∷ token u b word ∷ xs) some both = refl
+word_joined n xs some both = cc
+
+pub not_joined : (xs : List Element) → are_tokens xs ≡ false → joined xs ≡ xs
+not_joined (token t a letter ∷ token u b word ∷ xs) apart = cc
+not_joined xs apart = refl
+
+-- A row, and an atom behind it
+
+pub length_parted : (x : Element) (xs : List Element) → length (take 1 xs ++ (x ∷ drop 1 xs)) ≡ suc (length xs)
+length_parted x [] = refl
+length_parted x (y ∷ xs) = refl
+
+-- it does not matter whether the atom is high
+pub put_high : (joins : Bool) (style : Style) (before : Before) (kind : Kind) (high : Bool) (x : Element) (xs : List Element) → Rows.put joins style before (Atoms.atom kind false x) xs ≡ Rows.put joins style before (Atoms.atom kind high x) xs
+put_high true style before kind high x xs = refl
+put_high false style before kind high x xs = refl
+
+-- an atom is the first of a row that has none
+pub begins_row : (n : ℕ) (xs : List Element) → suc n ≤ length xs → Rows.is_empty (take n (drop 1 xs)) ≡ (n == 0)
+begins_row n [] enough = absurd (omega arith)
+begins_row zero (x ∷ xs) enough = refl
+begins_row (suc n) (x ∷ []) enough = absurd (omega arith)
+begins_row (suc n) (x ∷ y ∷ xs) enough = sym (eqb-suc-zero n)
+
+-- .. behind which no space stands
+pub put_adapted : (n : ℕ) (style : Style) (before : Before) (kind : Kind) (xs : List Element) → suc n ≤ length xs → Atoms.is_parted before kind ≡ false → take (suc n) (changed_at (Atoms.element_there style (n == 0) before kind) 0 xs) ≡ Rows.put false style before (Atoms.atom kind false (top xs)) (take n (drop 1 xs))
+put_adapted n style before kind [] enough none = absurd (omega arith)
+put_adapted n style before kind (x ∷ xs) enough none = rw (begins_row n (x ∷ xs) enough, none)
+
+pub class_behind : (n : ℕ) (xs : List Element) (kind : Kind) → 0 < n → suc n ≤ length xs → Ordinary ≡ Rows.class_after (take n (drop 1 xs)) kind
+class_behind zero xs kind some enough = absurd (omega arith)
+class_behind (suc n) [] kind some enough = absurd (omega arith)
+class_behind (suc n) (x ∷ []) kind some enough = absurd (omega arith)
+class_behind (suc n) (x ∷ y ∷ xs) kind some enough = refl
+
+pub same_row : (xs ys : List Element) (b c : Before) (v w h i : Bool) (k l : Class) (e f : Option Rows.Restyled) (r u : Option Rows.Upper) → xs ≡ ys → b ≡ c → v ≡ w → h ≡ i → k ≡ l → e ≡ f → r ≡ u → ◌≡◌ {A = Rows.Row} (record { elements = xs; before = b; ends_in_word = v; high = h; class = k; restyled = e; under = r }) (record { elements = ys; before = c; ends_in_word = w; high = i; class = l; restyled = f; under = u })
+same_row xs ys b c v w h i k l e f r u p q s t m n o = cc
+
+-- what stands below the atoms of a row stays where it is
+module _ (n k : ℕ) (xs ys : List Element) (below : drop k ys ≡ drop (n + 1) xs) where
+  pub same_below : drop k ys ≡ drop n (drop 1 xs)
+  same_below = let swap : n + 1 ≡ 1 + n = omega arith in below ∙ ap (λ m. drop m xs) swap ∙ sym (drop-drop n 1 xs)
+
+  pub same_far_below : (m : ℕ) → drop (k + m) ys ≡ drop (n + m) (drop 1 xs)
+  same_far_below m = sym (drop-drop m k ys) ∙ ap (drop m) same_below ∙ drop-drop m n (drop 1 xs)

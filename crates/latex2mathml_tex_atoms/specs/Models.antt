@@ -1,0 +1,133 @@
+-- What the parser's values are in the definitions. A value holds no element: its elements are the first of those that stand
+-- beside it, the uppermost first.
+use Rattle.std.specs.Prelude.{ℕ, ◌+◌, Bool, true, false, List, [], ◌∷◌, drop, option_map, Option, Some, None, take}
+use Rattle.latex2mathml_elements.specs.Element.{Element}
+use Rattle.latex2mathml_attributes.specs.Arounds.{color_of}
+use Rattle.latex2mathml_builder.specs.Stacks.{no_element}
+use Rattle.latex2mathml_tex_grammar.specs.Atoms as atoms
+use Rattle.latex2mathml_tex_grammar.specs.Makes as makes
+use Rattle.latex2mathml_tex_grammar.specs.Rows as rows
+use Rattle.latex2mathml_tex_grammar.specs.Rules as rules
+use Rattle.latex2mathml_tex_grammar.specs.Words as words
+use Rattle.latex2mathml_tex_commands.specs.Meanings.{alphabet_of, class_of, fraction_rule_of, limit_place_of, style_of}
+use Rattle.latex2mathml_attributes.specs.declared.attributes.Side.{Side}
+use Rattle.latex2mathml_attributes.specs.declared.attributes.Side.TheVariants as side
+use Rattle.latex2mathml_tex_commands.specs.declared.meaning.Class.TheVariants as class
+use Rattle.latex2mathml_tex_commands.specs.declared.meaning.FractionRule.{FractionRule}
+use Rattle.latex2mathml_tex_atoms.specs.declared.atoms.{Before.Before, Context.Context, Core.Core, Kind.Kind, Operand.Operand, Restyled.Restyled, Row.Row, Scripts.Scripts, Words.Words}
+use Rattle.latex2mathml_tex_atoms.specs.declared.atoms.Before.TheVariants as before
+use Rattle.latex2mathml_tex_atoms.specs.declared.atoms.Kind.TheVariants as kind
+
+abbrev pub kind_of : Kind → atoms.Kind
+kind_of (kind.SignOf class) = atoms.SignOf (class_of class)
+kind_of kind.PlusOrMinus = atoms.PlusOrMinus
+kind_of (kind.Plain class) = atoms.Plain (class_of class)
+kind_of kind.UprightLetters = atoms.UprightLetters
+kind_of kind.FunctionWord = atoms.FunctionWord
+kind_of kind.Divider = atoms.Divider
+kind_of kind.Blank = atoms.Blank
+
+abbrev pub before_of : Before → atoms.Before
+before_of before.Nothing = atoms.Nothing
+before_of (before.After class) = atoms.After (class_of class)
+before_of before.AfterName = atoms.AfterName
+
+abbrev pub context_of : Context → rules.Context
+context_of c = rules.in_context (style_of c.style) (option_map alphabet_of c.alphabet)
+
+-- the uppermost element
+abbrev pub top : List Element → Element
+top [] = no_element
+top (x ∷ xs) = x
+
+-- an atom without scripts, whose element is this
+abbrev pub core_with : Core → Element → makes.Core
+core_with core x = record { atom = atoms.atom (kind_of core.kind) core.high x; limits = limit_place_of core.limits }
+
+abbrev pub operand_with : Operand → Element → rows.Operand
+operand_with operand x = record { element = x; class = class_of operand.class; high = operand.high }
+
+-- the change of style or color in a row, with the elements before it
+abbrev pub restyled_with : Option Restyled → ℕ → List Element → Option rows.Restyled
+restyled_with None settled xs = None
+restyled_with (Some change) settled xs = Some (record {
+  before = take settled xs;
+  group = style_of change.group;
+  has_own_style = change.has_own_style;
+  color = option_map color_of change.color;
+})
+
+-- what a row stands below
+abbrev pub under_with : Option FractionRule → List Element → Option rows.Upper
+under_with None xs = None
+under_with (Some rule) xs = Some (record { rule = fraction_rule_of rule; element = top xs })
+
+-- how many elements stand before a change, where there was one
+abbrev pub settled_count : Option Restyled → ℕ → ℕ
+settled_count None settled = 0
+settled_count (Some change) settled = settled
+
+abbrev pub under_count : Option FractionRule → ℕ
+under_count None = 0
+under_count (Some rule) = 1
+
+-- how many elements of a row are below those since the last change
+abbrev pub row_rest : Row → ℕ
+row_rest row = settled_count row.restyled row.settled + under_count row.under
+
+-- how many there are
+abbrev pub row_count : Row → ℕ
+row_count row = row.count + row_rest row
+
+-- a row without atoms
+abbrev pub empty_row : Row
+empty_row = record { count = 0; before = before.Nothing; ends_in_word = false; high = false; class = class.Ordinary; restyled = None; settled = 0; under = None }
+
+abbrev pub row_with : Row → List Element → rows.Row
+row_with row xs = record {
+  elements = take row.count xs;
+  before = before_of row.before;
+  ends_in_word = row.ends_in_word;
+  high = row.high;
+  class = class_of row.class;
+  restyled = restyled_with row.restyled row.settled (drop row.count xs);
+  under = under_with row.under (drop (row.count + settled_count row.restyled row.settled) xs);
+}
+
+abbrev pub words_with : Words → List Element → words.Words
+words_with ws xs = record { elements = take ws.count xs; ends_in_text = ws.ends_in_text }
+
+abbrev pub one_if : Bool → ℕ
+one_if true = 1
+one_if false = 0
+
+-- whether a script stands on this side
+abbrev pub has_script : Side → Scripts → Bool
+has_script side.Below scripts = scripts.below
+has_script side.Above scripts = scripts.above
+
+-- how many scripts there are
+abbrev pub script_count : Scripts → ℕ
+script_count s = one_if s.below + one_if s.above
+
+-- the elements below and above, as they were read
+abbrev pub element_below : Bool → Bool → Bool → List Element → Option Element
+element_below false above is_exchanged xs = None
+element_below true false is_exchanged xs = Some (top xs)
+element_below true true false xs = Some (top (drop 1 xs))
+element_below true true true xs = Some (top xs)
+
+abbrev pub element_above : Bool → Bool → Bool → List Element → Option Element
+element_above below false is_exchanged xs = None
+element_above false true is_exchanged xs = Some (top xs)
+element_above true true false xs = Some (top xs)
+element_above true true true xs = Some (top (drop 1 xs))
+
+abbrev pub scripts_with : Scripts → List Element → makes.Scripts
+scripts_with s xs = record {
+  primes = s.primes;
+  below = element_below s.below s.above s.is_exchanged xs;
+  above = element_above s.below s.above s.is_exchanged xs;
+  limits = limit_place_of s.limits;
+  takes_limits = s.takes_limits;
+}

@@ -1,0 +1,315 @@
+//! Atoms and rows, and what an atom is to those beside it.
+ghost use Rattle.std.specs.Prelude.{◌≡◌, false};
+ghost use Rattle.latex2mathml_tex_grammar.specs.Atoms;
+ghost use Rattle.latex2mathml_tex_grammar.specs.Makes;
+ghost use Rattle.latex2mathml_tex_grammar.specs.Rows;
+ghost use Rattle.latex2mathml_tex_commands.specs.Meanings.{class_of, limit_place_of, style_of};
+ghost use Rattle.latex2mathml_tex_atoms.specs.Models.{has_script, empty_row, before_of, kind_of};
+
+use latex2mathml_attributes::around::Color;
+use latex2mathml_attributes::attributes::Side;
+use latex2mathml_tex_commands::meaning::{Alphabet, Class, FractionRule, LimitPlace, Style};
+
+/// In what a unit is read: the style, and the alphabet of letters and digits, if there is one.
+#[derive(Clone, Copy)]
+pub struct Context {
+    pub style: Style,
+    pub alphabet: Option<Alphabet>,
+}
+
+impl Context {
+    /// The same alphabet in another style.
+    pub fn styled(self, style: Style) -> Context
+        ensures { result ≡ record self { style = style } }
+    {
+        Context { style, ..self }
+    }
+}
+
+/// What an atom is to its neighbours.
+#[derive(Clone, Copy)]
+pub enum Kind {
+    /// A sign of this class, an `mo` of its own.
+    SignOf(Class),
+    /// A binary sign that is a prefix where no binary operator can stand.
+    PlusOrMinus,
+    /// Any other element, of this class.
+    Plain(Class),
+    /// An upright letter, which is one word with those beside it.
+    UprightLetters,
+    /// The name of a function.
+    FunctionWord,
+    /// A delimiter within others.
+    Divider,
+    /// A space.
+    Blank,
+}
+
+impl Kind {
+    pub fn is_letters(self) -> bool
+        ensures { result ≡ Atoms.is_letters (kind_of self) }
+    {
+        matches!(self, Kind::UprightLetters)
+    }
+
+    /// Whether it can be said where the limits of the atom are to stand: it is an operator.
+    pub fn takes_limits(self) -> bool
+        ensures { result ≡ Makes.takes_limits (kind_of self) }
+    {
+        matches!(
+            self,
+            Kind::SignOf(Class::Operator) | Kind::Plain(Class::Operator) | Kind::FunctionWord
+        )
+    }
+
+    /// The class of the atom as a base: a binary operator and a relation stay what they are.
+    pub fn class(self) -> Class
+        ensures { class_of result ≡ Rows.class_of_kind (kind_of self) }
+    {
+        match self {
+            Kind::SignOf(Class::Binary) | Kind::PlusOrMinus | Kind::Plain(Class::Binary) => {
+                Class::Binary
+            }
+            Kind::SignOf(Class::Relation) | Kind::Plain(Class::Relation) => Class::Relation,
+            _ => Class::Ordinary,
+        }
+    }
+
+    /// What the atom is when it is changed: letters are no part of a word.
+    pub fn without_letters(self) -> Kind
+        ensures { kind_of result ≡ Makes.no_letters (kind_of self) }
+    {
+        match self {
+            Kind::UprightLetters => Kind::Plain(Class::Ordinary),
+            kind => kind,
+        }
+    }
+
+    /// What the atom is with scripts: a sign is no `mo` of its own.
+    pub fn with_scripts(self) -> Kind
+        ensures { kind_of result ≡ Makes.scripted_kind (kind_of self) }
+    {
+        match self {
+            Kind::SignOf(class) => Kind::Plain(class),
+            Kind::PlusOrMinus => Kind::Plain(Class::Binary),
+            kind => kind.without_letters(),
+        }
+    }
+}
+
+/// What stands before an atom, spaces aside.
+#[derive(Clone, Copy)]
+pub enum Before {
+    Nothing,
+    After(Class),
+    AfterName,
+}
+
+impl Before {
+    /// Whether no binary operator can stand there.
+    pub fn begins_operand(self) -> bool
+        ensures { result ≡ Atoms.begins_operand (before_of self) }
+    {
+        match self {
+            Before::Nothing | Before::AfterName => true,
+            Before::After(class) => match class {
+                Class::Operator
+                | Class::Binary
+                | Class::Relation
+                | Class::Opening
+                | Class::Punctuation => true,
+                Class::Ordinary | Class::Closing | Class::Inner => false,
+            },
+        }
+    }
+
+    /// The class that an atom of this class has there.
+    pub fn class_there(self, class: Class) -> Class
+        ensures { class_of result ≡ Atoms.class_there (before_of self) (class_of class) }
+    {
+        match class {
+            Class::Binary => {
+                if self.begins_operand() {
+                    Class::Ordinary
+                } else {
+                    Class::Binary
+                }
+            }
+            class => class,
+        }
+    }
+
+    /// What an atom there is to the atom after it.
+    pub fn past(self, kind: Kind) -> Before
+        ensures { before_of result ≡ Atoms.past (before_of self) (kind_of kind) }
+    {
+        match kind {
+            Kind::SignOf(class) => Before::After(self.class_there(class)),
+            Kind::PlusOrMinus => Before::After(self.class_there(Class::Binary)),
+            Kind::Plain(class) => Before::After(self.class_there(class)),
+            Kind::UprightLetters => Before::After(Class::Ordinary),
+            Kind::FunctionWord => Before::AfterName,
+            Kind::Divider => Before::After(Class::Opening),
+            Kind::Blank => self,
+        }
+    }
+
+    /// Whether a thin space stands before an atom of this kind.
+    pub fn is_parted(self, kind: Kind) -> bool
+        ensures { result ≡ Atoms.is_parted (before_of self) (kind_of kind) }
+    {
+        match kind {
+            Kind::Blank => false,
+            kind => parts(self, self.past(kind)),
+        }
+    }
+}
+
+/// Whether a thin space stands between two atoms. An operator has a space of its own before it.
+fn parts(before: Before, behind: Before) -> bool
+    ensures { result ≡ Atoms.parts (before_of before) (before_of behind) }
+{
+    match (before, behind) {
+        (Before::AfterName, Before::AfterName) => true,
+        (Before::AfterName, Before::After(Class::Ordinary | Class::Inner)) => true,
+        (Before::After(Class::Ordinary | Class::Closing | Class::Inner), Before::AfterName) => true,
+        _ => false,
+    }
+}
+
+/// An atom without scripts. Its element is the uppermost one.
+#[derive(Clone, Copy)]
+pub struct Core {
+    pub kind: Kind,
+    /// Whether it is higher than a letter.
+    pub high: bool,
+    /// Where its limits stand.
+    pub limits: LimitPlace,
+}
+
+impl Core {
+    /// An atom whose limits stand beside it.
+    pub fn new(kind: Kind, high: bool) -> Core
+        ensures { result ≡ record { kind = kind; high = high; limits = LimitPlace.Beside } }
+    {
+        Core {
+            kind,
+            high,
+            limits: LimitPlace::Beside,
+        }
+    }
+}
+
+/// What a command takes. Its element is the uppermost one.
+#[derive(Clone, Copy)]
+pub struct Operand {
+    /// Its class as the base of a mark.
+    pub class: Class,
+    /// Whether it is higher than a letter.
+    pub high: bool,
+}
+
+/// A change of style or color in a row.
+#[derive(Clone, Copy)]
+pub struct Restyled {
+    /// The style of the group.
+    pub group: Style,
+    /// Whether the style was changed.
+    pub has_own_style: bool,
+    /// The color of what stands after the change, if there is one.
+    pub color: Option<Color>,
+}
+
+/// Atoms side by side. Their elements are the uppermost ones.
+#[derive(Clone, Copy)]
+pub struct Row {
+    /// How many elements there are since the last change of style or color.
+    pub count: usize,
+    /// What the next atom stands behind.
+    pub before: Before,
+    /// Whether the last element is a word of upright letters.
+    pub ends_in_word: bool,
+    /// Whether any atom is higher than a letter.
+    pub high: bool,
+    /// The class of the row as the base of a mark.
+    pub class: Class,
+    /// That change, if there was one.
+    pub restyled: Option<Restyled>,
+    /// How many elements stand before that change, below the others.
+    pub settled: usize,
+    /// The rule of the fraction whose lower part it is, if it is one. The upper part is below the others.
+    pub under: Option<FractionRule>,
+}
+
+impl Row {
+    /// No atoms.
+    pub fn empty() -> Row
+        ensures { result ≡ empty_row }
+    {
+        Row {
+            count: 0,
+            before: Before::Nothing,
+            ends_in_word: false,
+            high: false,
+            class: Class::Ordinary,
+            restyled: None,
+            settled: 0,
+            under: None,
+        }
+    }
+}
+
+/// What stands after an atom. The elements of its scripts are above that of the atom, as they were read.
+#[derive(Clone, Copy)]
+pub struct Scripts {
+    pub primes: usize,
+    pub below: bool,
+    pub above: bool,
+    /// Whether the script below was read after the one above.
+    pub is_exchanged: bool,
+    pub limits: LimitPlace,
+    /// Whether it can be said where they are to stand.
+    pub takes_limits: bool,
+}
+
+impl Scripts {
+    /// No scripts after an atom of this kind.
+    pub fn none(kind: Kind, limits: LimitPlace) -> Scripts
+        ensures { result ≡ record {
+          primes = 0;
+          below = false;
+          above = false;
+          is_exchanged = false;
+          limits = limits;
+          takes_limits = Makes.takes_limits (kind_of kind);
+        } }
+    {
+        Scripts {
+            primes: 0,
+            below: false,
+            above: false,
+            is_exchanged: false,
+            limits,
+            takes_limits: kind.takes_limits(),
+        }
+    }
+
+    /// Whether a script stands on this side.
+    pub fn has(self, side: Side) -> bool
+        ensures { result ≡ has_script side self }
+    {
+        match side {
+            Side::Below => self.below,
+            Side::Above => self.above,
+        }
+    }
+}
+
+/// Words. Their elements are the uppermost ones.
+#[derive(Clone, Copy)]
+pub struct Words {
+    /// How many elements there are.
+    pub count: usize,
+    /// Whether the last one is a text.
+    pub ends_in_text: bool,
+}

@@ -1,0 +1,79 @@
+//! Boxes around the uppermost element, and black rectangles.
+ghost use Rattle.std.specs.Prelude.{◌≡◌, ◌≤◌, OnOk, length};
+ghost use Rattle.latex2mathml_elements.specs.Element.{Element};
+ghost use Rattle.latex2mathml_attributes.specs.Arounds.{element_around};
+ghost use Rattle.latex2mathml_builder.specs.Built.{Puts, elements_in};
+ghost use Rattle.latex2mathml_tex_grammar.specs.Makes;
+ghost use Rattle.latex2mathml_tex_commands.specs.Meanings.{box_of};
+ghost use Rattle.latex2mathml_tex_atoms.specs.Shapes.{ReplacesTop, within_any};
+
+use latex2mathml_attributes::around::{Around, Boxing};
+use latex2mathml_attributes::extent::Extent;
+use latex2mathml_builder::builder::Builder;
+use latex2mathml_tex_commands::meaning::OperandBox;
+use std::alloc::AllocError;
+
+/// The uppermost element in a box.
+pub fn put_in_box(builder: &mut Builder, operand_box: OperandBox) -> Result<(), AllocError>
+    requires { 1 ≤ length (elements_in builder.old) }
+    ensures { OnOk result (ReplacesTop (Makes.in_box (box_of operand_box))
+        builder.old builder.new) }
+{
+    let (inner, outer) = boxes(operand_box);
+    if let Some(around) = inner {
+        builder.surround(around)?;
+    }
+    builder.surround(outer)
+}
+
+/// What is put around an element in a box: first the one, if there is one, and then the other.
+fn boxes(operand_box: OperandBox) -> (Option<Around>, Around)
+    ensures { (x : Element) → Makes.in_box (box_of operand_box) x
+        ≡ element_around result.1 (within_any result.0 x) }
+{
+    match operand_box {
+        OperandBox::Phantom => (None, Around::Unseen),
+        OperandBox::PhantomWidth => (Some(Around::Unseen), Around::Boxed(Boxing::Flat)),
+        OperandBox::PhantomHeight => (Some(Around::Unseen), Around::Boxed(Boxing::NoWidth)),
+        OperandBox::Smashed => (None, Around::Boxed(Boxing::Flat)),
+        OperandBox::WithoutHeight => (None, Around::Boxed(Boxing::NoHeight)),
+        OperandBox::WithoutDepth => (None, Around::Boxed(Boxing::NoDepth)),
+        OperandBox::OverRight => (None, Around::Boxed(Boxing::NoWidth)),
+        OperandBox::OverLeft => (
+            Some(Around::Boxed(Boxing::ByItsWidth)),
+            Around::Boxed(Boxing::NoWidth),
+        ),
+        OperandBox::OverBoth => (
+            Some(Around::Boxed(Boxing::ByHalfItsWidth)),
+            Around::Boxed(Boxing::NoWidth),
+        ),
+        OperandBox::Frame => (None, Around::Boxed(Boxing::Framed)),
+        OperandBox::StrikeUp => (None, Around::Boxed(Boxing::StruckUp)),
+        OperandBox::StrikeDown => (None, Around::Boxed(Boxing::StruckDown)),
+        OperandBox::StrikeTwice => (None, Around::Boxed(Boxing::StruckTwice)),
+        OperandBox::Raised(height) => (None, Around::Raised(height)),
+        OperandBox::Colored(color) => (None, Around::Colored(color)),
+        OperandBox::OnColor(color) => (None, Around::Before(color)),
+    }
+}
+
+/// Puts a black rectangle that a length raises, if there is one.
+pub fn put_bar(
+    builder: &mut Builder,
+    raise: Option<i32>,
+    width: i32,
+    height: i32,
+) -> Result<(), AllocError>
+    ensures { OnOk result (Puts (Makes.bar raise width height).element builder.old builder.new) }
+{
+    builder.rectangle(Extent {
+        width,
+        height,
+        depth: 0,
+        is_black: true,
+    })?;
+    if let Some(height) = raise {
+        builder.surround(Around::Raised(height))?;
+    }
+    Ok(())
+}

@@ -1,0 +1,95 @@
+//! The elements of fractions, as the builder's uppermost elements.
+ghost use Rattle.std.specs.Prelude.{◌≡◌, ◌≤◌, ◌∷◌, true, OnOk, Some, drop, length, option_map};
+ghost use Rattle.latex2mathml_builder.specs.Built.{elements_in};
+ghost use Rattle.latex2mathml_attributes.specs.Names.{attributes_of};
+ghost use Rattle.latex2mathml_tex_grammar.specs.Makes;
+ghost use Rattle.latex2mathml_tex_commands.specs.{Delimiters.delimiter_text, Meanings.fraction_rule_of, Meanings.style_of};
+ghost use Rattle.latex2mathml_tex_atoms.specs.Models.{top};
+
+use crate::shapes::enclose;
+use latex2mathml_attributes::attributes::Attributes;
+use latex2mathml_attributes::tag::{Container, Pair};
+use latex2mathml_builder::builder::Builder;
+use latex2mathml_tex_commands::meaning::{FractionRule, Style};
+use std::alloc::AllocError;
+
+/// A fraction of the two uppermost elements, which may have a style of its own.
+pub fn put_fraction(
+    builder: &mut Builder,
+    rule: FractionRule,
+    own: Option<Style>,
+) -> Result<(), AllocError>
+    requires { 2 ≤ length (elements_in builder.old) }
+    ensures { OnOk result (elements_in builder.new
+        ≡ (Makes.fraction (fraction_rule_of rule) (option_map style_of own)
+        (top (drop 1 (elements_in builder.old))) (top (elements_in builder.old))).atom.element
+        ∷ drop 2 (elements_in builder.old)) }
+{
+    put_quotient(builder, rule)?;
+    put_in_style(builder, own)
+}
+
+/// Puts the uppermost element in a style of its own, if there is one.
+pub fn put_in_style(builder: &mut Builder, own: Option<Style>) -> Result<(), AllocError>
+    requires { 1 ≤ length (elements_in builder.old) }
+    ensures { OnOk result (elements_in builder.new
+        ≡ Makes.in_style (option_map style_of own) (top (elements_in builder.old))
+        ∷ drop 1 (elements_in builder.old)) }
+{
+    if let Some(style) = own {
+        builder.container(Container::Mstyle, style_attributes(style), 1)?;
+    }
+    Ok(())
+}
+
+/// The attributes of an element in a style of its own.
+pub fn style_attributes(style: Style) -> Attributes
+    ensures { attributes_of result ≡ Makes.style_attributes (style_of style) }
+{
+    Attributes {
+        style: Some(style.math_style()),
+        ..Attributes::plain()
+    }
+}
+
+/// A fraction of the two uppermost elements.
+fn put_quotient(builder: &mut Builder, rule: FractionRule) -> Result<(), AllocError>
+    requires { 2 ≤ length (elements_in builder.old) }
+    ensures { OnOk result (elements_in builder.new
+        ≡ Makes.fraction_element (fraction_rule_of rule) (top (drop 1 (elements_in builder.old)))
+        (top (elements_in builder.old)) ∷ drop 2 (elements_in builder.old)) }
+{
+    match rule {
+        FractionRule::Bar => builder.pair(Pair::Mfrac, Attributes::plain(), false),
+        FractionRule::NoBar => put_between(builder, '(', ')'),
+        FractionRule::Braced => put_between(builder, '{', '}'),
+        FractionRule::Bracketed => put_between(builder, '[', ']'),
+        FractionRule::Bare => put_without_bar(builder),
+    }
+}
+
+/// A fraction without its bar, of the two uppermost elements, between delimiters.
+fn put_between(builder: &mut Builder, opening: char, closing: char) -> Result<(), AllocError>
+    requires { 2 ≤ length (elements_in builder.old) }
+    ensures { OnOk result (elements_in builder.new
+        ≡ Makes.fenced true (delimiter_text (Some opening)) (delimiter_text (Some closing))
+        (Makes.without_bar (top (drop 1 (elements_in builder.old)))
+        (top (elements_in builder.old))) ∷ drop 2 (elements_in builder.old)) }
+{
+    put_without_bar(builder)?;
+    enclose(builder, true, Some(opening), Some(closing))
+}
+
+/// A fraction without its bar, of the two uppermost elements.
+pub fn put_without_bar(builder: &mut Builder) -> Result<(), AllocError>
+    requires { 2 ≤ length (elements_in builder.old) }
+    ensures { OnOk result (elements_in builder.new
+        ≡ Makes.without_bar (top (drop 1 (elements_in builder.old)))
+        (top (elements_in builder.old)) ∷ drop 2 (elements_in builder.old)) }
+{
+    let attributes = Attributes {
+        no_line: true,
+        ..Attributes::plain()
+    };
+    builder.pair(Pair::Mfrac, attributes, false)
+}

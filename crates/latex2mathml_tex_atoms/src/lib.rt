@@ -1,0 +1,12 @@
+//! The atoms of a formula: what they are to their neighbours, and the elements that each construct makes of them.
+//!
+//! The elements stand on the stack of a `Builder`. An atom, an operand or a row says how many of the uppermost ones are its own.
+//! The crate `latex2mathml_tex` has the parser, which calls these.
+#![tactic(auto)]
+
+pub mod atoms;
+pub mod boxes;
+pub mod fractions;
+pub mod outlines;
+pub mod rests;
+pub mod shapes;

@@ -1,0 +1,81 @@
+//! Fractions whose delimiters, line and style their authors say.
+ghost use Rattle.std.specs.Prelude.{◌≡◌, ◌≤◌, ◌∷◌, true, OnOk, drop, length, option_map};
+ghost use Rattle.latex2mathml_builder.specs.Built.{elements_in};
+ghost use Rattle.latex2mathml_tex_grammar.specs.Makes;
+ghost use Rattle.latex2mathml_tex_grammar.specs.Rules;
+ghost use Rattle.latex2mathml_tex_commands.specs.{Delimiters.delimiter_text, Meanings.style_of};
+ghost use Rattle.latex2mathml_tex_atoms.specs.{Models.top, Outlines.outline_of};
+
+use crate::fractions::{put_in_style, put_without_bar};
+use crate::shapes::enclose;
+use latex2mathml_attributes::attributes::Attributes;
+use latex2mathml_attributes::tag::Pair;
+use latex2mathml_builder::builder::Builder;
+use latex2mathml_tex_commands::meaning::Style;
+use std::alloc::AllocError;
+
+/// How an author says that a fraction is drawn.
+#[derive(Clone, Copy)]
+pub struct Outline {
+    /// The delimiters, where it has any.
+    pub opening: Option<char>,
+    pub closing: Option<char>,
+    pub has_line: bool,
+    /// Its style, where it has one of its own.
+    pub own: Option<Style>,
+}
+
+/// The style of this number, if there is one. No number is the style around the fraction.
+pub fn numbered_style(number: &str) -> Option<Option<Style>>
+    ensures { option_map (option_map style_of) result ≡ Rules.numbered_style number.now }
+{
+    match number {
+        "" => Some(None),
+        "0" => Some(Some(Style::InDisplay)),
+        "1" => Some(Some(Style::InText)),
+        "2" | "3" => Some(Some(Style::InScript)),
+        _ => None,
+    }
+}
+
+/// A fraction of the two uppermost elements, as its author says.
+pub fn put_outlined(builder: &mut Builder, outline: Outline) -> Result<(), AllocError>
+    requires { 2 ≤ length (elements_in builder.old) }
+    ensures { OnOk result (elements_in builder.new
+        ≡ (Makes.outlined_fraction (outline_of outline) (top (drop 1 (elements_in builder.old)))
+        (top (elements_in builder.old))).atom.element ∷ drop 2 (elements_in builder.old)) }
+{
+    put_quotient(builder, outline.has_line)?;
+    put_between_any(builder, outline.opening, outline.closing)?;
+    put_in_style(builder, outline.own)
+}
+
+/// A fraction of the two uppermost elements, with its line or without.
+fn put_quotient(builder: &mut Builder, has_line: bool) -> Result<(), AllocError>
+    requires { 2 ≤ length (elements_in builder.old) }
+    ensures { OnOk result (elements_in builder.new
+        ≡ Makes.quotient has_line (top (drop 1 (elements_in builder.old)))
+        (top (elements_in builder.old)) ∷ drop 2 (elements_in builder.old)) }
+{
+    if has_line {
+        return builder.pair(Pair::Mfrac, Attributes::plain(), false);
+    }
+    put_without_bar(builder)
+}
+
+/// Puts the uppermost element between delimiters, if there is one.
+fn put_between_any(
+    builder: &mut Builder,
+    opening: Option<char>,
+    closing: Option<char>,
+) -> Result<(), AllocError>
+    requires { 1 ≤ length (elements_in builder.old) }
+    ensures { OnOk result (elements_in builder.new
+        ≡ Makes.between_any (delimiter_text opening) (delimiter_text closing)
+        (top (elements_in builder.old)) ∷ drop 1 (elements_in builder.old)) }
+{
+    if opening.is_none() && closing.is_none() {
+        return Ok(());
+    }
+    enclose(builder, true, opening, closing)
+}

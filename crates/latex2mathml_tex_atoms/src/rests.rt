@@ -1,0 +1,234 @@
+//! What a change makes of the row before what stands after it, and what a row is at the end of its group.
+ghost use Rattle.std.specs.Prelude.{◌≡◌, ◌≤◌, ◌∷◌, IfOk, List, None, OnOk, Some, drop, length, option_map, take};
+ghost use Rattle.latex2mathml_elements.specs.Element.{Element};
+ghost use Rattle.latex2mathml_attributes.specs.Arounds.{color_of};
+ghost use Rattle.latex2mathml_builder.specs.Built.{elements_in};
+ghost use Rattle.latex2mathml_tex_grammar.specs.Rests;
+ghost use Rattle.latex2mathml_tex_grammar.specs.Rows;
+ghost use Rattle.latex2mathml_tex_commands.specs.Meanings.{fraction_rule_of, style_of};
+ghost use Rattle.latex2mathml_tex_atoms.specs.Models.{row_count, row_with};
+
+use crate::atoms::{Before, Restyled, Row};
+use crate::fractions::{put_fraction, style_attributes};
+use crate::shapes::put_row;
+use latex2mathml_attributes::around::{Around, Color};
+use latex2mathml_attributes::tag::Container;
+use latex2mathml_builder::builder::Builder;
+use latex2mathml_tex_commands::meaning::{Class, FractionRule, Style};
+use std::alloc::AllocError;
+
+impl Row {
+    /// The style of the row's group, where the row is now read in this one.
+    pub fn group_style(self, style: Style) -> Style
+        ensures { (xs : List Element) → style_of result
+            ≡ Rests.style_of_group (row_with self xs).restyled (style_of style) }
+    {
+        match self.restyled {
+            Some(change) => change.group,
+            None => style,
+        }
+    }
+
+    /// Whether the style was changed in the row.
+    fn has_own_style(self) -> bool
+        ensures { (xs : List Element) → result
+            ≡ Rests.has_own_style (row_with self xs).restyled }
+    {
+        match self.restyled {
+            Some(change) => change.has_own_style,
+            None => false,
+        }
+    }
+
+    /// The color of its last atoms, if they have one.
+    fn color(self) -> Option<Color>
+        ensures { (xs : List Element) → option_map color_of result
+            ≡ Rests.color_after (row_with self xs).restyled }
+    {
+        self.restyled?.color
+    }
+
+    /// The row, whose last change of style or color is settled, before what stands after another one.
+    fn begun_anew(self, change: Restyled) -> Row
+        requires { self.restyled ≡ None }
+        ensures row { (xs : List Element) → row_with result xs
+            ≡ Rests.begun_anew (style_of change.group) change.has_own_style
+            (option_map color_of change.color) (row_with self xs) }
+        ensures count { row_count result ≡ row_count self }
+    {
+        Row {
+            count: 0,
+            ends_in_word: false,
+            high: true,
+            restyled: Some(change),
+            settled: self.count,
+            ..self
+        }
+    }
+}
+
+/// Makes one element of so many, which stand after a change and are read in this style.
+fn put_restyled(
+    builder: &mut Builder,
+    style: Style,
+    change: Restyled,
+    count: usize,
+) -> Result<(), AllocError>
+    requires { count ≤ length (elements_in builder.old) }
+    ensures { OnOk result (elements_in builder.new
+        ≡ Rests.in_color (option_map color_of change.color)
+        (Rests.in_own_style change.has_own_style (style_of style)
+        (take count (elements_in builder.old))) ∷ drop count (elements_in builder.old)) }
+{
+    put_styled(builder, style, change, count)?;
+    if let Some(color) = change.color {
+        builder.surround(Around::Colored(color))?;
+    }
+    Ok(())
+}
+
+/// Makes one element of so many, which are in this style if the change is one of style.
+fn put_styled(
+    builder: &mut Builder,
+    style: Style,
+    change: Restyled,
+    count: usize,
+) -> Result<(), AllocError>
+    requires { count ≤ length (elements_in builder.old) }
+    ensures { OnOk result (elements_in builder.new
+        ≡ Rests.in_own_style change.has_own_style (style_of style)
+        (take count (elements_in builder.old)) ∷ drop count (elements_in builder.old)) }
+{
+    if change.has_own_style {
+        return builder.container(Container::Mstyle, style_attributes(style), count);
+    }
+    put_row(builder, count)
+}
+
+/// Makes one element of what a row that is read in this style has after its last change of style or color, if there was one.
+fn settle(builder: &mut Builder, style: Style, row: Row) -> Result<Row, AllocError>
+    requires { row_count row ≤ length (elements_in builder.old) }
+    ensures row { IfOk result (λ whole. row_with whole (elements_in builder.new)
+        ≡ Rests.settled (style_of style) (row_with row (elements_in builder.old))) }
+    ensures below { IfOk result (λ whole. drop (row_count whole) (elements_in builder.new)
+        ≡ drop (row_count row) (elements_in builder.old)) }
+    ensures restyled { IfOk result (λ whole. whole.restyled ≡ None) }
+    ensures under { IfOk result (λ whole. whole.under ≡ row.under) }
+    ensures count { IfOk result (λ whole. row_count whole ≤ length (elements_in builder.new)) }
+{
+    let Some(change) = row.restyled else {
+        return Ok(row);
+    };
+    put_restyled(builder, style, change, row.count)?;
+    // all elements of a row are among those of the builder, so their number has room in a `usize`
+    let _ = builder.len();
+    Ok(Row {
+        count: row.settled + 1,
+        class: Class::Ordinary,
+        restyled: None,
+        settled: 0,
+        ..row
+    })
+}
+
+/// A row that was read in this style, before what stands after a change of style.
+pub fn restyle(builder: &mut Builder, style: Style, row: Row) -> Result<Row, AllocError>
+    requires { row_count row ≤ length (elements_in builder.old) }
+    ensures row { IfOk result (λ begun. row_with begun (elements_in builder.new)
+        ≡ Rests.restyled (style_of style) (row_with row (elements_in builder.old))) }
+    ensures below { IfOk result (λ begun. drop (row_count begun) (elements_in builder.new)
+        ≡ drop (row_count row) (elements_in builder.old)) }
+    ensures count { IfOk result (λ begun. row_count begun ≤ length (elements_in builder.new)) }
+{
+    let change = Restyled {
+        group: row.group_style(style),
+        has_own_style: true,
+        color: row.color(),
+    };
+    let whole = settle(builder, style, row)?;
+    Ok(whole.begun_anew(change))
+}
+
+/// A row that was read in this style, before what stands after a change of color.
+pub fn recolor(
+    builder: &mut Builder,
+    style: Style,
+    row: Row,
+    color: Color,
+) -> Result<Row, AllocError>
+    requires { row_count row ≤ length (elements_in builder.old) }
+    ensures row { IfOk result (λ begun. row_with begun (elements_in builder.new)
+        ≡ Rests.recolored (color_of color) (style_of style)
+        (row_with row (elements_in builder.old))) }
+    ensures below { IfOk result (λ begun. drop (row_count begun) (elements_in builder.new)
+        ≡ drop (row_count row) (elements_in builder.old)) }
+    ensures count { IfOk result (λ begun. row_count begun ≤ length (elements_in builder.new)) }
+{
+    let change = Restyled {
+        group: row.group_style(style),
+        has_own_style: row.has_own_style(),
+        color: Some(color),
+    };
+    let whole = settle(builder, style, row)?;
+    Ok(whole.begun_anew(change))
+}
+
+/// The row of the lower part of a fraction, whose upper part is a row that was read in this style.
+pub fn divide(
+    builder: &mut Builder,
+    style: Style,
+    row: Row,
+    rule: FractionRule,
+) -> Result<Row, AllocError>
+    requires count { row_count row ≤ length (elements_in builder.old) }
+    requires none { row.under ≡ None }
+    ensures row { IfOk result (λ begun. row_with begun (elements_in builder.new)
+        ≡ Rests.begun_below (fraction_rule_of rule)
+        (Rests.settled (style_of style) (row_with row (elements_in builder.old)))) }
+    ensures below { IfOk result (λ begun. drop (row_count begun) (elements_in builder.new)
+        ≡ drop (row_count row) (elements_in builder.old)) }
+    ensures count { IfOk result (λ begun. row_count begun ≤ length (elements_in builder.new)) }
+{
+    let whole = settle(builder, style, row)?;
+    put_row(builder, whole.count)?;
+    Ok(Row {
+        under: Some(rule),
+        ..Row::empty()
+    })
+}
+
+/// A row that was read in this style, at the end of its group.
+pub fn finish(builder: &mut Builder, style: Style, row: Row) -> Result<Row, AllocError>
+    requires { row_count row ≤ length (elements_in builder.old) }
+    ensures row { IfOk result (λ whole. row_with whole (elements_in builder.new)
+        ≡ Rests.finished (style_of style) (row_with row (elements_in builder.old))) }
+    ensures below { IfOk result (λ whole. drop whole.count (elements_in builder.new)
+        ≡ drop (row_count row) (elements_in builder.old)) }
+    ensures count { IfOk result (λ whole. whole.count ≤ length (elements_in builder.new)) }
+{
+    let row = settle(builder, style, row)?;
+    close_fraction(builder, row)
+}
+
+/// A row whose last change of style is settled, as a fraction if it is the lower part of one.
+fn close_fraction(builder: &mut Builder, row: Row) -> Result<Row, AllocError>
+    requires count { row_count row ≤ length (elements_in builder.old) }
+    requires none { row.restyled ≡ None }
+    ensures row { IfOk result (λ whole. row_with whole (elements_in builder.new)
+        ≡ Rests.whole_fraction (row_with row (elements_in builder.old))) }
+    ensures below { IfOk result (λ whole. drop whole.count (elements_in builder.new)
+        ≡ drop (row_count row) (elements_in builder.old)) }
+    ensures count { IfOk result (λ whole. whole.count ≤ length (elements_in builder.new)) }
+{
+    let Some(rule) = row.under else {
+        return Ok(row);
+    };
+    put_row(builder, row.count)?;
+    put_fraction(builder, rule, None)?;
+    Ok(Row {
+        count: 1,
+        before: Before::After(Class::Inner),
+        high: true,
+        ..Row::empty()
+    })
+}

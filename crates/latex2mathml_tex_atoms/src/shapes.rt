@@ -1,0 +1,500 @@
+//! The elements of atoms, rows and constructs, as the builder's uppermost elements.
+ghost use Rattle.std.specs.Prelude.{◌≡◌, ◌+◌, ◌≤◌, ◌&&◌, ◌∷◌, [], false, true, IfOk, OnOk, drop, length, option_map, take};
+ghost use Rattle.latex2mathml_elements.specs.{Attributes.plain, Element.Element, Element.pair};
+ghost use Rattle.latex2mathml_elements.specs.Attributes as attributes;
+ghost use Rattle.latex2mathml_builder.specs.Built.{Puts, elements_in};
+ghost use Rattle.latex2mathml_attributes.specs.Names.{attributes_of, pair_of, side_of, size_of, space_of, stretch_of};
+ghost use Rattle.latex2mathml_tex_grammar.specs.Atoms;
+ghost use Rattle.latex2mathml_tex_grammar.specs.Makes;
+ghost use Rattle.latex2mathml_tex_grammar.specs.Meaning;
+ghost use Rattle.latex2mathml_tex_grammar.specs.Rows;
+ghost use Rattle.latex2mathml_tex_commands.specs.Meanings.{class_of, style_of};
+ghost use Rattle.latex2mathml_tex_atoms.specs.Models.{before_of, core_with, kind_of, row_rest, row_with, top};
+ghost use Rattle.latex2mathml_tex_atoms.specs.Shapes.{ChangesAt, ReplacesTop, delimiter_element, mapped_first, mark_element};
+ghost use Rattle.latex2mathml_tex_commands.specs.Delimiters.{delimiter_text};
+
+use crate::atoms::{Before, Core, Kind, Row};
+use latex2mathml_attributes::attributes::{Attributes, Form, Side, Size, Space, Stretch};
+use latex2mathml_attributes::tag::{Container, Pair, Token};
+use latex2mathml_builder::builder::Builder;
+use latex2mathml_tex_commands::meaning::{Class, Style};
+use std::alloc::AllocError;
+
+/// Puts an operator that is a delimiter, or empty.
+pub fn put_delimiter(
+    builder: &mut Builder,
+    attributes: Attributes,
+    delimiter: Option<char>,
+) -> Result<(), AllocError>
+    ensures { OnOk result (Puts (delimiter_element
+        (attributes_of attributes) (delimiter_text delimiter)) builder.old builder.new) }
+{
+    match delimiter {
+        Some(c) => builder.character(Token::Mo, attributes, c),
+        None => builder.token(Token::Mo, attributes),
+    }
+}
+
+/// A delimiter within others.
+pub fn put_divider(builder: &mut Builder, delimiter: Option<char>) -> Result<(), AllocError>
+    ensures { OnOk result (Puts (Makes.divider (delimiter_text delimiter)).element
+        builder.old builder.new) }
+{
+    let attributes = Attributes {
+        stretch: Some(Stretch::Stretching),
+        fence: true,
+        space: Some(Space::Narrow),
+        ..Attributes::plain()
+    };
+    put_delimiter(builder, attributes, delimiter)
+}
+
+/// A delimiter of this size.
+pub fn put_sized(
+    builder: &mut Builder,
+    size: Size,
+    class: Class,
+    delimiter: Option<char>,
+) -> Result<(), AllocError>
+    ensures { OnOk result (Puts
+        (Makes.sized (size_of size) (class_of class) (delimiter_text delimiter)).atom.element
+        builder.old builder.new) }
+{
+    let form = match class {
+        Class::Opening => Some(Form::Prefix),
+        Class::Closing => Some(Form::Postfix),
+        _ => None,
+    };
+    let attributes = Attributes {
+        form,
+        stretch: Some(Stretch::Stretching),
+        size: Some(size),
+        space: Some(Space::NoSpace),
+        ..Attributes::plain()
+    };
+    put_delimiter(builder, attributes, delimiter)
+}
+
+/// Makes one element of so many.
+pub fn put_row(builder: &mut Builder, count: usize) -> Result<(), AllocError>
+    requires { count ≤ length (elements_in builder.old) }
+    ensures { OnOk result (elements_in builder.new
+        ≡ Rows.row_element (take count (elements_in builder.old))
+        ∷ drop count (elements_in builder.old)) }
+{
+    if count == 1 {
+        return Ok(());
+    }
+    builder.container(Container::Mrow, Attributes::plain(), count)
+}
+
+/// Puts the uppermost element between delimiters, which stretch if it is high.
+pub fn enclose(
+    builder: &mut Builder,
+    high: bool,
+    opening: Option<char>,
+    closing: Option<char>,
+) -> Result<(), AllocError>
+    requires { 1 ≤ length (elements_in builder.old) }
+    ensures { OnOk result (ReplacesTop
+        (Makes.fenced high (delimiter_text opening) (delimiter_text closing))
+        builder.old builder.new) }
+{
+    let stretch = if high {
+        Stretch::Stretching
+    } else {
+        Stretch::Rigid
+    };
+    put_delimiter(
+        builder,
+        Attributes {
+            form: Some(Form::Prefix),
+            stretch: Some(stretch),
+            ..Attributes::plain()
+        },
+        opening,
+    )?;
+    put_delimiter(
+        builder,
+        Attributes {
+            form: Some(Form::Postfix),
+            stretch: Some(stretch),
+            ..Attributes::plain()
+        },
+        closing,
+    )?;
+    builder.fence()
+}
+
+/// Makes the dividers among the uppermost elements, which are so many, no higher than a letter.
+pub fn lower_dividers(builder: &mut Builder, count: usize)
+    ensures { elements_in builder.new
+        ≡ mapped_first Makes.lowered_divider count (elements_in builder.old) }
+{
+    'elements: for depth in 0..count {
+        lower_divider(builder, depth);
+    }
+}
+
+/// Makes the element below so many others no higher than a letter, if it is a divider.
+fn lower_divider(builder: &mut Builder, depth: usize)
+    ensures { ChangesAt Makes.lowered_divider depth builder.old builder.new }
+{
+    if let Some((_, attributes)) = builder.token_at(depth)
+        && attributes.fence
+    {
+        builder.give(
+            depth,
+            Attributes {
+                stretch: Some(Stretch::Rigid),
+                ..attributes
+            },
+        );
+    }
+}
+
+/// Keeps the browser from moving the limits of the operator below so many elements.
+pub fn fix_limits(builder: &mut Builder, depth: usize)
+    ensures { ChangesAt (Makes.fixed_base Meaning.Stacked) depth builder.old builder.new }
+{
+    let Some((tag, attributes)) = builder.token_at(depth) else {
+        return;
+    };
+    if let Token::Mo = tag {
+        builder.give(
+            depth,
+            Attributes {
+                limits_stay: true,
+                ..attributes
+            },
+        );
+    }
+}
+
+/// In scripts a sign has no space around it.
+fn tighten(builder: &mut Builder, style: Style)
+    ensures { ChangesAt (Atoms.tight (style_of style)) 0 builder.old builder.new }
+{
+    match style {
+        Style::InScript => remove_space(builder),
+        Style::InDisplay | Style::InText => {}
+    }
+}
+
+fn remove_space(builder: &mut Builder)
+    ensures { ChangesAt Atoms.without_space 0 builder.old builder.new }
+{
+    if let Some((_, attributes)) = builder.token_at(0) {
+        builder.give(
+            0,
+            Attributes {
+                space: Some(Space::NoSpace),
+                ..attributes
+            },
+        );
+    }
+}
+
+fn make_prefix(builder: &mut Builder)
+    ensures { ChangesAt Atoms.as_prefix 0 builder.old builder.new }
+{
+    if let Some((_, attributes)) = builder.token_at(0) {
+        builder.give(
+            0,
+            Attributes {
+                form: Some(Form::Prefix),
+                ..attributes
+            },
+        );
+    }
+}
+
+/// A sign between two operands, which may be the first of its row.
+fn make_infix(builder: &mut Builder, first: bool)
+    ensures { ChangesAt (Atoms.as_infix first) 0 builder.old builder.new }
+{
+    if first && let Some((_, attributes)) = builder.token_at(0) {
+        builder.give(
+            0,
+            Attributes {
+                form: Some(Form::Infix),
+                ..attributes
+            },
+        );
+    }
+}
+
+/// Makes the uppermost element, an operand of its own class, what an atom of another class is made of.
+pub fn make_base(builder: &mut Builder, style: Style, class: Class, own: Class)
+    ensures elements { ChangesAt
+        (Atoms.element_as (style_of style) (class_of class) (class_of own)) 0
+        builder.old builder.new }
+    ensures length { length (elements_in builder.new) ≡ length (elements_in builder.old) }
+{
+    match own {
+        Class::Binary | Class::Relation => free_sign(builder, style, class),
+        _ => {}
+    }
+}
+
+/// A sign that is all of an atom of this class stands before no operand.
+fn free_sign(builder: &mut Builder, style: Style, class: Class)
+    ensures { ChangesAt (Atoms.lone_sign (style_of style) (class_of class)) 0
+        builder.old builder.new }
+{
+    let Some((tag, attributes)) = builder.token_at(0) else {
+        return;
+    };
+    if let Token::Mo = tag {
+        builder.give(
+            0,
+            Attributes {
+                form: None,
+                space: space_as(style, class, attributes.space),
+                ..attributes
+            },
+        );
+    }
+}
+
+/// The space around a sign that is all of an atom of this class.
+fn space_as(style: Style, class: Class, space: Option<Space>) -> Option<Space>
+    ensures { option_map space_of result
+        ≡ Atoms.space_as (style_of style) (class_of class) (option_map space_of space) }
+{
+    match style {
+        Style::InScript => Some(Space::NoSpace),
+        Style::InDisplay | Style::InText => match class {
+            Class::Binary | Class::Relation => space,
+            Class::Ordinary
+            | Class::Operator
+            | Class::Opening
+            | Class::Closing
+            | Class::Punctuation
+            | Class::Inner => Some(Space::NoSpace),
+        },
+    }
+}
+
+/// Makes the uppermost element what its atom is there. A sign may be a prefix, or between two operands, and has no space in
+/// scripts. The atom may be the first of its row.
+fn adapt(builder: &mut Builder, style: Style, first: bool, before: Before, kind: Kind)
+    ensures { ChangesAt
+        (Atoms.element_there (style_of style) first (before_of before) (kind_of kind)) 0
+        builder.old builder.new }
+{
+    match kind {
+        Kind::SignOf(class) => match before.class_there(class) {
+            Class::Binary | Class::Relation | Class::Punctuation => tighten(builder, style),
+            _ => {}
+        },
+        Kind::PlusOrMinus => {
+            if before.begins_operand() {
+                make_prefix(builder);
+            } else {
+                make_infix(builder, first);
+                tighten(builder, style);
+            }
+        }
+        _ => {}
+    }
+}
+
+/// A row with an atom after it, whose element is uppermost.
+pub fn with_atom(
+    builder: &mut Builder,
+    style: Style,
+    row: Row,
+    core: Core,
+) -> Result<Row, AllocError>
+    requires { row.count + 1 ≤ length (elements_in builder.old) }
+    ensures row { IfOk result (λ longer. row_with longer (elements_in builder.new)
+        ≡ Rows.with_atom (style_of style) (row_with row (drop 1 (elements_in builder.old)))
+        (core_with core (top (elements_in builder.old))).atom) }
+    ensures below { IfOk result (λ longer. drop longer.count (elements_in builder.new)
+        ≡ drop (row.count + 1) (elements_in builder.old)) }
+    ensures rest { IfOk result (λ longer. row_rest longer ≡ row_rest row) }
+    ensures count { IfOk result (λ longer. longer.count ≤ length (elements_in builder.new)) }
+{
+    let count = put_behind(builder, style, row, core.kind)?;
+    Ok(Row {
+        count,
+        before: row.before.past(core.kind),
+        ends_in_word: core.kind.is_letters(),
+        high: row.high || core.high,
+        class: if row.count == 0 {
+            core.kind.class()
+        } else {
+            Class::Ordinary
+        },
+        restyled: row.restyled,
+        settled: row.settled,
+        under: row.under,
+    })
+}
+
+/// Makes the uppermost element the last one of a row. Returns how many there are then.
+fn put_behind(
+    builder: &mut Builder,
+    style: Style,
+    row: Row,
+    kind: Kind,
+) -> Result<usize, AllocError>
+    requires { row.count + 1 ≤ length (elements_in builder.old) }
+    ensures elements { IfOk result (λ count. take count (elements_in builder.new)
+        ≡ Rows.put (row.ends_in_word && Atoms.is_letters (kind_of kind)) (style_of style)
+        (before_of row.before) (Atoms.atom (kind_of kind) false (top (elements_in builder.old)))
+        (take row.count (drop 1 (elements_in builder.old)))) }
+    ensures below { IfOk result (λ count. drop count (elements_in builder.new)
+        ≡ drop (row.count + 1) (elements_in builder.old)) }
+    ensures count { IfOk result (λ count. count ≤ length (elements_in builder.new)) }
+{
+    if continues_word(row, kind) {
+        return Ok(join_word(builder, row.count));
+    }
+    adapt(builder, style, row.count == 0, row.before, kind);
+    if row.before.is_parted(kind) {
+        builder.space_below(3)?;
+        // all elements of a row are among those of the builder, so their number has room in a `usize`
+        let _ = builder.len();
+        return Ok(row.count + 2);
+    }
+    let _ = builder.len();
+    Ok(row.count + 1)
+}
+
+/// Whether an atom of this kind is one word with the last element of a row.
+fn continues_word(row: Row, kind: Kind) -> bool
+    ensures { result ≡ (row.ends_in_word && Atoms.is_letters (kind_of kind)) }
+{
+    row.ends_in_word && kind.is_letters()
+}
+
+/// Joins the uppermost element to the last of so many below it, if there is one and both hold a text. Returns how many there
+/// are then.
+fn join_word(builder: &mut Builder, count: usize) -> usize
+    requires { count + 1 ≤ length (elements_in builder.old) }
+    ensures elements { take result (elements_in builder.new)
+        ≡ Rows.join (top (elements_in builder.old))
+        (take count (drop 1 (elements_in builder.old))) }
+    ensures below { drop result (elements_in builder.new)
+        ≡ drop (count + 1) (elements_in builder.old) }
+    ensures count { result ≤ length (elements_in builder.new) }
+{
+    if count > 0 && builder.join() {
+        return count;
+    }
+    let _ = builder.len();
+    count + 1
+}
+
+/// A mark on the uppermost element.
+pub fn put_accent(
+    builder: &mut Builder,
+    side: Side,
+    mark: char,
+    stretch: Stretch,
+) -> Result<(), AllocError>
+    requires { 1 ≤ length (elements_in builder.old) }
+    ensures { OnOk result (ReplacesTop
+        (λ x. (Makes.accent (side_of side) mark (stretch_of stretch) x).atom.element)
+        builder.old builder.new) }
+{
+    let attributes = Attributes {
+        accent: Some(side),
+        ..Attributes::plain()
+    };
+    put_mark(builder, side, mark, stretch, attributes)
+}
+
+/// A brace on the uppermost element.
+pub fn put_brace(builder: &mut Builder, side: Side, mark: char) -> Result<(), AllocError>
+    requires { 1 ≤ length (elements_in builder.old) }
+    ensures { OnOk result (ReplacesTop (λ x. (Makes.brace (side_of side) mark x).atom.element)
+        builder.old builder.new) }
+{
+    put_mark(
+        builder,
+        side,
+        mark,
+        Stretch::Stretching,
+        Attributes::plain(),
+    )
+}
+
+fn put_mark(
+    builder: &mut Builder,
+    side: Side,
+    mark: char,
+    stretch: Stretch,
+    attributes: Attributes,
+) -> Result<(), AllocError>
+    requires { 1 ≤ length (elements_in builder.old) }
+    ensures { OnOk result (ReplacesTop
+        (λ x. Makes.on_side (side_of side) (attributes_of attributes) x
+        (mark_element mark (stretch_of stretch))) builder.old builder.new) }
+{
+    builder.character(
+        Token::Mo,
+        Attributes {
+            stretch: Some(stretch),
+            ..Attributes::plain()
+        },
+        mark,
+    )?;
+    builder.pair(pair_on(side), attributes, false)
+}
+
+/// Puts an arrow that is as long as what stands above and below it.
+pub fn put_arrow(builder: &mut Builder, sign: char) -> Result<(), AllocError>
+    ensures { OnOk result (Puts (Makes.arrow_sign sign) builder.old builder.new) }
+{
+    let attributes = Attributes {
+        stretch: Some(Stretch::Stretching),
+        ..Attributes::plain()
+    };
+    builder.character(Token::Mo, attributes, sign)
+}
+
+/// The element below the uppermost one as a mark on it.
+pub fn put_stack(builder: &mut Builder, side: Side) -> Result<(), AllocError>
+    requires { 2 ≤ length (elements_in builder.old) }
+    ensures { OnOk result (elements_in builder.new
+        ≡ Makes.on_side (side_of side) plain (top (elements_in builder.old))
+        (top (drop 1 (elements_in builder.old))) ∷ drop 2 (elements_in builder.old)) }
+{
+    builder.pair(pair_on(side), Attributes::plain(), true)
+}
+
+/// Puts a mark for so many primes.
+pub fn put_primes(builder: &mut Builder, primes: usize) -> Result<(), AllocError>
+    ensures { OnOk result (Puts (Makes.prime_mark primes) builder.old builder.new) }
+{
+    let attributes = Attributes {
+        space: Some(Space::NoSpace),
+        ..Attributes::plain()
+    };
+    match primes {
+        2 => builder.character(Token::Mo, attributes, '″'),
+        3 => builder.character(Token::Mo, attributes, '‴'),
+        4 => builder.character(Token::Mo, attributes, '⁗'),
+        primes => {
+            builder.token(Token::Mo, attributes)?;
+            for _ in 0..primes {
+                builder.push('′')?;
+            }
+            Ok(())
+        }
+    }
+}
+
+/// The element of a mark on this side of its base.
+fn pair_on(side: Side) -> Pair
+    ensures { (a : attributes.Attributes) (x y : Element)
+        → Makes.on_side (side_of side) a x y ≡ pair (pair_of result) a x y }
+{
+    match side {
+        Side::Above => Pair::Mover,
+        Side::Below => Pair::Munder,
+    }
+}

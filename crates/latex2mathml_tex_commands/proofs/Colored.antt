@@ -1,0 +1,73 @@
+-- Which color a name is, and which digits are none.
+use Rattle.std.proofs.Common.{◌≡◌, ◌≢◌, ◌==◌, ℕ, Bool, true, false, inl, inr, List, [], ◌∷◌, Option, Some, None, length, map, refl, sym, ap, ◌∙◌, arith}
+use Rattle.std.proofs.{lemmas.Bool.cases_Bool, lemmas.Slice.Eq.bytes_eq-Decides}
+use Rattle.std.specs.{Bool.Decides, Char.to_ascii_lowercase}
+use Rattle.std.specs.Str.{byte, str_eq_ignore_ascii_case}
+use Rattle.std.specs.Bool.{⊤}
+use Rattle.latex2mathml_tex_grammar.specs.Colors.{color, color_entries, color_of, color_of_digits, digit_value, digit_values, entry_color, named_color, with_digit}
+use Rattle.latex2mathml_tex_commands.specs.{Colors.entry_of, declared.colors.Named.Named}
+use Rattle.latex2mathml_tex_grammar.proofs.OneList.{is_byte}
+
+-- Names
+
+pub same_letters : (r : Bool) (a b : List ℕ) → Decides r (map to_ascii_lowercase a ≡ map to_ascii_lowercase b) → r ≡ str_eq_ignore_ascii_case a b
+same_letters true a b d = sym ((bytes_eq-Decides _ _).1 (d.0 refl))
+same_letters false a b d = elim (cases_Bool (str_eq_ignore_ascii_case a b)) [
+  | inl s ↦ (let no : false ≡ true = d.1 ((bytes_eq-Decides _ _).0 s) in absurd (cc))
+  | inr s ↦ sym s
+]
+
+pub named_is : (table : List (List ℕ × ℕ × ℕ × ℕ)) (name : List ℕ) → table ≡ color_entries → entry_color table name ≡ named_color name
+unfolding named_color
+named_is table name e = ap (λ t. entry_color t name) e
+
+pub entry_named : (e : Named) (es xs : List Named) (name : List ℕ) → xs ≡ e ∷ es → str_eq_ignore_ascii_case name e.name.now ≡ true → entry_color (map entry_of xs) name ≡ Some (color e.red e.green e.blue)
+entry_named e es xs name p q = rw (p, q) refl
+
+pub entry_other : (e : Named) (es xs : List Named) (name : List ℕ) → xs ≡ e ∷ es → str_eq_ignore_ascii_case name e.name.now ≡ false → entry_color (map entry_of xs) name ≡ entry_color (map entry_of es) name
+entry_other e es xs name p q = rw (p, q) refl
+
+-- a name that does not begin with a number sign
+pub no_digits : (name : List ℕ) → ((rest : List ℕ) → name ≢ byte "#" ∷ rest) → color_of name ≡ named_color name
+no_digits [] h = refl
+no_digits (c ∷ name) h = elim (cases_Bool (c == byte "#")) [
+  | inl s ↦ absurd (h name (ap (λ d. d ∷ name) (is_byte c (byte "#") s)))
+  | inr s ↦ rw s refl
+]
+
+pub by_digits : (name digits : List ℕ) → name ≡ byte "#" ∷ digits → color_of name ≡ color_of_digits (digit_values digits)
+by_digits name digits e = rw e refl
+
+-- Digits
+
+-- there are as many values as digits
+abbrev AreAsMany : List ℕ → Option (List ℕ) → Type 0
+AreAsMany cs None = ⊤
+AreAsMany cs (Some ds) = length ds ≡ length cs
+
+one_more : (c : ℕ) (cs : List ℕ) (d : Option ℕ) (ds : Option (List ℕ)) → AreAsMany cs ds → AreAsMany (c ∷ cs) (with_digit d ds)
+one_more c cs (Some d) (Some ds) h = omega (arith, h)
+one_more c cs (Some d) None h = tt
+one_more c cs None ds h = tt
+
+as_many : (cs : List ℕ) → AreAsMany cs (digit_values cs)
+as_many [] = refl
+as_many (c ∷ cs) = one_more c cs (digit_value c) (digit_values cs) (as_many cs)
+
+other_count : (ds : List ℕ) → (length ds ≡ 3 → ⊥) → (length ds ≡ 6 → ⊥) → color_of_digits (Some ds) ≡ None
+other_count [] three six = refl
+other_count (a ∷ []) three six = refl
+other_count (a ∷ b ∷ []) three six = refl
+other_count (a ∷ b ∷ c ∷ []) three six = absurd (three refl)
+other_count (a ∷ b ∷ c ∷ d ∷ []) three six = refl
+other_count (a ∷ b ∷ c ∷ d ∷ e ∷ []) three six = refl
+other_count (a ∷ b ∷ c ∷ d ∷ e ∷ f ∷ []) three six = absurd (six refl)
+other_count (a ∷ b ∷ c ∷ d ∷ e ∷ f ∷ g ∷ ds) three six = refl
+
+of_values : (cs : List ℕ) (found : Option (List ℕ)) → AreAsMany cs found → (length cs ≡ 3 → ⊥) → (length cs ≡ 6 → ⊥) → color_of_digits found ≡ None
+of_values cs None h three six = refl
+of_values cs (Some ds) h three six = other_count ds (λ e. three (sym h ∙ e)) (λ e. six (sym h ∙ e))
+
+-- neither three digits nor six are no color
+pub no_color : (cs : List ℕ) → (length cs ≡ 3 → ⊥) → (length cs ≡ 6 → ⊥) → color_of_digits (digit_values cs) ≡ None
+no_color cs three six = of_values cs (digit_values cs) (as_many cs) three six

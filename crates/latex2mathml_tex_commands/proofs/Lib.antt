@@ -1,0 +1,7 @@
+pub mod Colored
+pub mod Lookups
+pub mod NamedEntries
+pub mod Parts
+pub mod SignLookups
+pub mod SignTables
+pub mod Telling

@@ -1,0 +1,236 @@
+//! The colors that authors name.
+ghost use Rattle.std.specs.Prelude.{◌≡◌, ◌<◌, ◌≤◌, ◌∷◌, ℕ, [], List, MatchOption, None, Some, map, option_map};
+ghost use Rattle.latex2mathml_attributes.specs.Arounds.{color_of};
+ghost use Rattle.latex2mathml_tex_grammar.specs.Colors;
+ghost use Rattle.latex2mathml_tex_grammar.specs.Colors.{color_entries, color_of_digits, digit_value, digit_values, entry_color, named_color};
+ghost use Rattle.latex2mathml_tex_commands.specs.Colors.{entry_of};
+
+use latex2mathml_attributes::around::Color;
+
+/// The name of a color, and how much it has of red, green and blue.
+#[derive(Clone, Copy)]
+struct Named {
+    name: &'static str,
+    red: u8,
+    green: u8,
+    blue: u8,
+}
+
+/// The entries.
+#[tactic(auto, unfolding(latex2mathml_tex_grammar::specs::Colors::color_entries))]
+fn entries() -> &'static [Named]
+    ensures { map entry_of result.now ≡ color_entries }
+{
+    &ENTRIES
+}
+
+/// The colors of style sheets, in the order of their names.
+#[rattlefmt::skip]
+static ENTRIES: [Named; 148] = [
+    Named { name: "aliceblue", red: 0xF0, green: 0xF8, blue: 0xFF },
+    Named { name: "antiquewhite", red: 0xFA, green: 0xEB, blue: 0xD7 },
+    Named { name: "aqua", red: 0x00, green: 0xFF, blue: 0xFF },
+    Named { name: "aquamarine", red: 0x7F, green: 0xFF, blue: 0xD4 },
+    Named { name: "azure", red: 0xF0, green: 0xFF, blue: 0xFF },
+    Named { name: "beige", red: 0xF5, green: 0xF5, blue: 0xDC },
+    Named { name: "bisque", red: 0xFF, green: 0xE4, blue: 0xC4 },
+    Named { name: "black", red: 0x00, green: 0x00, blue: 0x00 },
+    Named { name: "blanchedalmond", red: 0xFF, green: 0xEB, blue: 0xCD },
+    Named { name: "blue", red: 0x00, green: 0x00, blue: 0xFF },
+    Named { name: "blueviolet", red: 0x8A, green: 0x2B, blue: 0xE2 },
+    Named { name: "brown", red: 0xA5, green: 0x2A, blue: 0x2A },
+    Named { name: "burlywood", red: 0xDE, green: 0xB8, blue: 0x87 },
+    Named { name: "cadetblue", red: 0x5F, green: 0x9E, blue: 0xA0 },
+    Named { name: "chartreuse", red: 0x7F, green: 0xFF, blue: 0x00 },
+    Named { name: "chocolate", red: 0xD2, green: 0x69, blue: 0x1E },
+    Named { name: "coral", red: 0xFF, green: 0x7F, blue: 0x50 },
+    Named { name: "cornflowerblue", red: 0x64, green: 0x95, blue: 0xED },
+    Named { name: "cornsilk", red: 0xFF, green: 0xF8, blue: 0xDC },
+    Named { name: "crimson", red: 0xDC, green: 0x14, blue: 0x3C },
+    Named { name: "cyan", red: 0x00, green: 0xFF, blue: 0xFF },
+    Named { name: "darkblue", red: 0x00, green: 0x00, blue: 0x8B },
+    Named { name: "darkcyan", red: 0x00, green: 0x8B, blue: 0x8B },
+    Named { name: "darkgoldenrod", red: 0xB8, green: 0x86, blue: 0x0B },
+    Named { name: "darkgray", red: 0xA9, green: 0xA9, blue: 0xA9 },
+    Named { name: "darkgreen", red: 0x00, green: 0x64, blue: 0x00 },
+    Named { name: "darkgrey", red: 0xA9, green: 0xA9, blue: 0xA9 },
+    Named { name: "darkkhaki", red: 0xBD, green: 0xB7, blue: 0x6B },
+    Named { name: "darkmagenta", red: 0x8B, green: 0x00, blue: 0x8B },
+    Named { name: "darkolivegreen", red: 0x55, green: 0x6B, blue: 0x2F },
+    Named { name: "darkorange", red: 0xFF, green: 0x8C, blue: 0x00 },
+    Named { name: "darkorchid", red: 0x99, green: 0x32, blue: 0xCC },
+    Named { name: "darkred", red: 0x8B, green: 0x00, blue: 0x00 },
+    Named { name: "darksalmon", red: 0xE9, green: 0x96, blue: 0x7A },
+    Named { name: "darkseagreen", red: 0x8F, green: 0xBC, blue: 0x8F },
+    Named { name: "darkslateblue", red: 0x48, green: 0x3D, blue: 0x8B },
+    Named { name: "darkslategray", red: 0x2F, green: 0x4F, blue: 0x4F },
+    Named { name: "darkslategrey", red: 0x2F, green: 0x4F, blue: 0x4F },
+    Named { name: "darkturquoise", red: 0x00, green: 0xCE, blue: 0xD1 },
+    Named { name: "darkviolet", red: 0x94, green: 0x00, blue: 0xD3 },
+    Named { name: "deeppink", red: 0xFF, green: 0x14, blue: 0x93 },
+    Named { name: "deepskyblue", red: 0x00, green: 0xBF, blue: 0xFF },
+    Named { name: "dimgray", red: 0x69, green: 0x69, blue: 0x69 },
+    Named { name: "dimgrey", red: 0x69, green: 0x69, blue: 0x69 },
+    Named { name: "dodgerblue", red: 0x1E, green: 0x90, blue: 0xFF },
+    Named { name: "firebrick", red: 0xB2, green: 0x22, blue: 0x22 },
+    Named { name: "floralwhite", red: 0xFF, green: 0xFA, blue: 0xF0 },
+    Named { name: "forestgreen", red: 0x22, green: 0x8B, blue: 0x22 },
+    Named { name: "fuchsia", red: 0xFF, green: 0x00, blue: 0xFF },
+    Named { name: "gainsboro", red: 0xDC, green: 0xDC, blue: 0xDC },
+    Named { name: "ghostwhite", red: 0xF8, green: 0xF8, blue: 0xFF },
+    Named { name: "gold", red: 0xFF, green: 0xD7, blue: 0x00 },
+    Named { name: "goldenrod", red: 0xDA, green: 0xA5, blue: 0x20 },
+    Named { name: "gray", red: 0x80, green: 0x80, blue: 0x80 },
+    Named { name: "green", red: 0x00, green: 0x80, blue: 0x00 },
+    Named { name: "greenyellow", red: 0xAD, green: 0xFF, blue: 0x2F },
+    Named { name: "grey", red: 0x80, green: 0x80, blue: 0x80 },
+    Named { name: "honeydew", red: 0xF0, green: 0xFF, blue: 0xF0 },
+    Named { name: "hotpink", red: 0xFF, green: 0x69, blue: 0xB4 },
+    Named { name: "indianred", red: 0xCD, green: 0x5C, blue: 0x5C },
+    Named { name: "indigo", red: 0x4B, green: 0x00, blue: 0x82 },
+    Named { name: "ivory", red: 0xFF, green: 0xFF, blue: 0xF0 },
+    Named { name: "khaki", red: 0xF0, green: 0xE6, blue: 0x8C },
+    Named { name: "lavender", red: 0xE6, green: 0xE6, blue: 0xFA },
+    Named { name: "lavenderblush", red: 0xFF, green: 0xF0, blue: 0xF5 },
+    Named { name: "lawngreen", red: 0x7C, green: 0xFC, blue: 0x00 },
+    Named { name: "lemonchiffon", red: 0xFF, green: 0xFA, blue: 0xCD },
+    Named { name: "lightblue", red: 0xAD, green: 0xD8, blue: 0xE6 },
+    Named { name: "lightcoral", red: 0xF0, green: 0x80, blue: 0x80 },
+    Named { name: "lightcyan", red: 0xE0, green: 0xFF, blue: 0xFF },
+    Named { name: "lightgoldenrodyellow", red: 0xFA, green: 0xFA, blue: 0xD2 },
+    Named { name: "lightgray", red: 0xD3, green: 0xD3, blue: 0xD3 },
+    Named { name: "lightgreen", red: 0x90, green: 0xEE, blue: 0x90 },
+    Named { name: "lightgrey", red: 0xD3, green: 0xD3, blue: 0xD3 },
+    Named { name: "lightpink", red: 0xFF, green: 0xB6, blue: 0xC1 },
+    Named { name: "lightsalmon", red: 0xFF, green: 0xA0, blue: 0x7A },
+    Named { name: "lightseagreen", red: 0x20, green: 0xB2, blue: 0xAA },
+    Named { name: "lightskyblue", red: 0x87, green: 0xCE, blue: 0xFA },
+    Named { name: "lightslategray", red: 0x77, green: 0x88, blue: 0x99 },
+    Named { name: "lightslategrey", red: 0x77, green: 0x88, blue: 0x99 },
+    Named { name: "lightsteelblue", red: 0xB0, green: 0xC4, blue: 0xDE },
+    Named { name: "lightyellow", red: 0xFF, green: 0xFF, blue: 0xE0 },
+    Named { name: "lime", red: 0x00, green: 0xFF, blue: 0x00 },
+    Named { name: "limegreen", red: 0x32, green: 0xCD, blue: 0x32 },
+    Named { name: "linen", red: 0xFA, green: 0xF0, blue: 0xE6 },
+    Named { name: "magenta", red: 0xFF, green: 0x00, blue: 0xFF },
+    Named { name: "maroon", red: 0x80, green: 0x00, blue: 0x00 },
+    Named { name: "mediumaquamarine", red: 0x66, green: 0xCD, blue: 0xAA },
+    Named { name: "mediumblue", red: 0x00, green: 0x00, blue: 0xCD },
+    Named { name: "mediumorchid", red: 0xBA, green: 0x55, blue: 0xD3 },
+    Named { name: "mediumpurple", red: 0x93, green: 0x70, blue: 0xDB },
+    Named { name: "mediumseagreen", red: 0x3C, green: 0xB3, blue: 0x71 },
+    Named { name: "mediumslateblue", red: 0x7B, green: 0x68, blue: 0xEE },
+    Named { name: "mediumspringgreen", red: 0x00, green: 0xFA, blue: 0x9A },
+    Named { name: "mediumturquoise", red: 0x48, green: 0xD1, blue: 0xCC },
+    Named { name: "mediumvioletred", red: 0xC7, green: 0x15, blue: 0x85 },
+    Named { name: "midnightblue", red: 0x19, green: 0x19, blue: 0x70 },
+    Named { name: "mintcream", red: 0xF5, green: 0xFF, blue: 0xFA },
+    Named { name: "mistyrose", red: 0xFF, green: 0xE4, blue: 0xE1 },
+    Named { name: "moccasin", red: 0xFF, green: 0xE4, blue: 0xB5 },
+    Named { name: "navajowhite", red: 0xFF, green: 0xDE, blue: 0xAD },
+    Named { name: "navy", red: 0x00, green: 0x00, blue: 0x80 },
+    Named { name: "oldlace", red: 0xFD, green: 0xF5, blue: 0xE6 },
+    Named { name: "olive", red: 0x80, green: 0x80, blue: 0x00 },
+    Named { name: "olivedrab", red: 0x6B, green: 0x8E, blue: 0x23 },
+    Named { name: "orange", red: 0xFF, green: 0xA5, blue: 0x00 },
+    Named { name: "orangered", red: 0xFF, green: 0x45, blue: 0x00 },
+    Named { name: "orchid", red: 0xDA, green: 0x70, blue: 0xD6 },
+    Named { name: "palegoldenrod", red: 0xEE, green: 0xE8, blue: 0xAA },
+    Named { name: "palegreen", red: 0x98, green: 0xFB, blue: 0x98 },
+    Named { name: "paleturquoise", red: 0xAF, green: 0xEE, blue: 0xEE },
+    Named { name: "palevioletred", red: 0xDB, green: 0x70, blue: 0x93 },
+    Named { name: "papayawhip", red: 0xFF, green: 0xEF, blue: 0xD5 },
+    Named { name: "peachpuff", red: 0xFF, green: 0xDA, blue: 0xB9 },
+    Named { name: "peru", red: 0xCD, green: 0x85, blue: 0x3F },
+    Named { name: "pink", red: 0xFF, green: 0xC0, blue: 0xCB },
+    Named { name: "plum", red: 0xDD, green: 0xA0, blue: 0xDD },
+    Named { name: "powderblue", red: 0xB0, green: 0xE0, blue: 0xE6 },
+    Named { name: "purple", red: 0x80, green: 0x00, blue: 0x80 },
+    Named { name: "rebeccapurple", red: 0x66, green: 0x33, blue: 0x99 },
+    Named { name: "red", red: 0xFF, green: 0x00, blue: 0x00 },
+    Named { name: "rosybrown", red: 0xBC, green: 0x8F, blue: 0x8F },
+    Named { name: "royalblue", red: 0x41, green: 0x69, blue: 0xE1 },
+    Named { name: "saddlebrown", red: 0x8B, green: 0x45, blue: 0x13 },
+    Named { name: "salmon", red: 0xFA, green: 0x80, blue: 0x72 },
+    Named { name: "sandybrown", red: 0xF4, green: 0xA4, blue: 0x60 },
+    Named { name: "seagreen", red: 0x2E, green: 0x8B, blue: 0x57 },
+    Named { name: "seashell", red: 0xFF, green: 0xF5, blue: 0xEE },
+    Named { name: "sienna", red: 0xA0, green: 0x52, blue: 0x2D },
+    Named { name: "silver", red: 0xC0, green: 0xC0, blue: 0xC0 },
+    Named { name: "skyblue", red: 0x87, green: 0xCE, blue: 0xEB },
+    Named { name: "slateblue", red: 0x6A, green: 0x5A, blue: 0xCD },
+    Named { name: "slategray", red: 0x70, green: 0x80, blue: 0x90 },
+    Named { name: "slategrey", red: 0x70, green: 0x80, blue: 0x90 },
+    Named { name: "snow", red: 0xFF, green: 0xFA, blue: 0xFA },
+    Named { name: "springgreen", red: 0x00, green: 0xFF, blue: 0x7F },
+    Named { name: "steelblue", red: 0x46, green: 0x82, blue: 0xB4 },
+    Named { name: "tan", red: 0xD2, green: 0xB4, blue: 0x8C },
+    Named { name: "teal", red: 0x00, green: 0x80, blue: 0x80 },
+    Named { name: "thistle", red: 0xD8, green: 0xBF, blue: 0xD8 },
+    Named { name: "tomato", red: 0xFF, green: 0x63, blue: 0x47 },
+    Named { name: "turquoise", red: 0x40, green: 0xE0, blue: 0xD0 },
+    Named { name: "violet", red: 0xEE, green: 0x82, blue: 0xEE },
+    Named { name: "wheat", red: 0xF5, green: 0xDE, blue: 0xB3 },
+    Named { name: "white", red: 0xFF, green: 0xFF, blue: 0xFF },
+    Named { name: "whitesmoke", red: 0xF5, green: 0xF5, blue: 0xF5 },
+    Named { name: "yellow", red: 0xFF, green: 0xFF, blue: 0x00 },
+    Named { name: "yellowgreen", red: 0x9A, green: 0xCD, blue: 0x32 },
+];
+
+/// The color of the entry with this name, in letters of either case, if there is one.
+fn find(table: &[Named], name: &str) -> Option<Color>
+    ensures { option_map color_of result ≡ entry_color (map entry_of table.now) name.now }
+{
+    for entry in table {
+        if name.eq_ignore_ascii_case(entry.name) {
+            return Some(Color {
+                red: entry.red,
+                green: entry.green,
+                blue: entry.blue,
+            });
+        }
+    }
+    None
+}
+
+/// The color that a text names, if it names one.
+pub fn color_of(name: &str) -> Option<Color>
+    ensures { option_map color_of result ≡ Colors.color_of name.now }
+{
+    match name.strip_prefix('#') {
+        Some(digits) => color_of_digits(digits.as_bytes()),
+        None => find(entries(), name),
+    }
+}
+
+/// The color of so many digits in hexadecimal, if these are such digits.
+fn color_of_digits(digits: &[u8]) -> Option<Color>
+    ensures { option_map color_of result ≡ color_of_digits (digit_values digits.now) }
+{
+    match *digits {
+        [r, g, b] => Some(Color {
+            red: digit_value(r)? * 17,
+            green: digit_value(g)? * 17,
+            blue: digit_value(b)? * 17,
+        }),
+        [r, s, g, h, b, c] => Some(Color {
+            red: digit_value(r)? * 16 + digit_value(s)?,
+            green: digit_value(g)? * 16 + digit_value(h)?,
+            blue: digit_value(b)? * 16 + digit_value(c)?,
+        }),
+        _ => None,
+    }
+}
+
+/// What a digit in hexadecimal counts.
+fn digit_value(digit: u8) -> Option<u8>
+    ensures value { result ≡ digit_value digit }
+    ensures small { MatchOption result (digit_value digit ≡ None) (λ value. value < 16) }
+{
+    match digit {
+        b'0'..=b'9' => Some(digit - b'0'),
+        b'a'..=b'f' => Some(digit - b'a' + 10),
+        b'A'..=b'F' => Some(digit - b'A' + 10),
+        _ => None,
+    }
+}

@@ -1,0 +1,68 @@
+//! The look-up of commands.
+ghost use Rattle.std.specs.Prelude.{◌≡◌, ◌<◌, IsTrue, map, length, Some, None, MatchOption};
+ghost use Rattle.std.specs.{Cmp.Lexicographic.slice_cmp, Ordering.nat_cmp};
+ghost use Rattle.latex2mathml_tex_grammar.specs.{Commands.entry_meaning, Commands.meaning_of, Sorted.ascending};
+ghost use Rattle.latex2mathml_tex_commands.specs.Meanings;
+ghost use Rattle.latex2mathml_tex_commands.specs.{Meanings.entry_of, Parts.entries_in, Parts.part_of};
+
+mod c_to_l;
+mod from_r;
+mod m_to_q;
+mod up_to_b;
+
+use crate::meaning::{Entry, Meaning};
+use std::cmp::Ordering;
+
+/// What the command of this name means, if there is one.
+pub fn look_up(name: &str) -> Option<Meaning>
+    ensures { MatchOption result (meaning_of name.now ≡ None)
+        (λ meaning. meaning_of name.now ≡ Some (Meanings.meaning_of meaning)) }
+{
+    search(part_for(name), name)
+}
+
+/// The part of the table in which this name is looked up.
+fn part_for(name: &str) -> &'static [Entry]
+    ensures { map entry_of result.now ≡ entries_in (part_of name.now) }
+{
+    match name.as_bytes() {
+        [c, ..] if *c >= b'r' => from_r::entries(),
+        [c, ..] if *c >= b'm' => m_to_q::entries(),
+        [c, ..] if *c >= b'c' => c_to_l::entries(),
+        _ => up_to_b::entries(),
+    }
+}
+
+/// What the entry with this name means, if there is one among sorted entries. Each comparison halves the entries that are
+/// left.
+fn search(table: &[Entry], name: &str) -> Option<Meaning>
+    requires ordered { IsTrue (ascending (map entry_of table.now)) }
+    requires few { length table.now < 512 }
+    ensures { MatchOption result (entry_meaning (map entry_of table.now) name.now ≡ None)
+        (λ meaning. entry_meaning (map entry_of table.now) name.now
+        ≡ Some (Meanings.meaning_of meaning)) }
+{
+    let mut entries = table;
+    while !entries.is_empty() {
+        let middle = entries.len() / 2;
+        let entry = &entries[middle];
+        match order(name, entry.name) {
+            Ordering::Equal => return Some(entry.meaning),
+            Ordering::Less => entries = &entries[..middle],
+            Ordering::Greater => entries = &entries[middle + 1..],
+        }
+    }
+    None
+}
+
+/// How two names are ordered. Most of them differ in their first bytes, which are compared first.
+#[inline(always)]
+pub fn order(name: &str, other: &str) -> Ordering
+    ensures { result ≡ slice_cmp nat_cmp name.now other.now }
+{
+    match (name.as_bytes(), other.as_bytes()) {
+        ([first, ..], [second, ..]) if first < second => Ordering::Less,
+        ([first, ..], [second, ..]) if first > second => Ordering::Greater,
+        _ => name.cmp(other),
+    }
+}

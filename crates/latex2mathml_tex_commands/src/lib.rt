@@ -1,0 +1,13 @@
+//! The tables of LaTeX as authors write it: what commands, signs, colors and lengths mean, and the letters of alphabets.
+//!
+//! The crate `latex2mathml_tex_units` has what else comes before the parser.
+#![tactic(auto)]
+
+pub mod alphabets;
+pub mod colors;
+pub mod commands;
+pub mod lengths;
+pub mod meaning;
+pub mod named;
+pub mod signs;
+pub mod text_commands;

@@ -1,0 +1,249 @@
+//! What the names of commands mean.
+ghost use Rattle.std.specs.Prelude.{◌≡◌};
+ghost use Rattle.latex2mathml_attributes.specs.Names.{math_style_of};
+ghost use Rattle.latex2mathml_tex_grammar.specs.Makes;
+ghost use Rattle.latex2mathml_tex_grammar.specs.Symbols.{smaller};
+ghost use Rattle.latex2mathml_tex_commands.specs.Meanings.{limit_place_of, style_of};
+
+use latex2mathml_attributes::around::Color;
+use latex2mathml_attributes::attributes::{MathStyle, Side, Size, Stretch};
+
+/// The class of an atom.
+#[derive(Clone, Copy)]
+pub enum Class {
+    Ordinary,
+    Operator,
+    Binary,
+    Relation,
+    Opening,
+    Closing,
+    Punctuation,
+    Inner,
+}
+
+/// The style of a formula.
+#[derive(Clone, Copy)]
+pub enum Style {
+    InDisplay,
+    InText,
+    InScript,
+}
+
+impl Style {
+    /// The style of the parts of a fraction.
+    pub fn smaller(self) -> Style
+        ensures { style_of result ≡ smaller (style_of self) }
+    {
+        match self {
+            Style::InDisplay => Style::InText,
+            Style::InText | Style::InScript => Style::InScript,
+        }
+    }
+
+    pub fn is_display(self) -> bool
+        ensures { result ≡ Makes.is_display (style_of self) }
+    {
+        matches!(self, Style::InDisplay)
+    }
+
+    /// What an element of this style says.
+    pub fn math_style(self) -> MathStyle
+        ensures { math_style_of result ≡ Makes.math_style (style_of self) }
+    {
+        match self {
+            Style::InDisplay => MathStyle::Display,
+            Style::InText => MathStyle::Text,
+            Style::InScript => MathStyle::Script,
+        }
+    }
+
+    /// Whether scripts stand below and above an atom whose limits are to stand there.
+    pub fn stacks(self, limits: LimitPlace) -> bool
+        ensures { result ≡ Makes.are_stacked (style_of self) (limit_place_of limits) }
+    {
+        match limits {
+            LimitPlace::Beside => false,
+            LimitPlace::ByStyle => self.is_display(),
+            LimitPlace::Movable | LimitPlace::Stacked => true,
+        }
+    }
+}
+
+/// An alphabet for letters and digits.
+#[derive(Clone, Copy)]
+pub enum Alphabet {
+    Upright,
+    Italic,
+    Bold,
+    BoldItalic,
+    DoubleStruck,
+    Fraktur,
+    Calligraphic,
+    SansSerif,
+    Monospace,
+}
+
+/// What a character is.
+#[derive(Clone, Copy)]
+pub enum Symbol {
+    /// A letter that is italic by itself.
+    Letter(char),
+    /// A letter that is upright by itself.
+    UprightLetter(char),
+    /// A sign of this class.
+    Sign(Class, char),
+    /// An operator whose limits the browser moves.
+    BigOperator(char),
+    /// An operator whose limits stand beside it.
+    Integral(char),
+}
+
+/// Whether a fraction has its bar, or has none: then parentheses, braces, brackets or nothing stand around it.
+#[derive(Clone, Copy)]
+pub enum FractionRule {
+    Bar,
+    NoBar,
+    Braced,
+    Bracketed,
+    Bare,
+}
+
+/// Where the limits of an operator stand.
+#[derive(Clone, Copy)]
+pub enum LimitPlace {
+    Beside,
+    /// In display style above and below it, else beside it.
+    ByStyle,
+    /// Above and below it, where the browser moves them beside it in text.
+    Movable,
+    /// Always above and below it.
+    Stacked,
+}
+
+/// What a command changes up to the end of its group.
+#[derive(Clone, Copy)]
+pub enum Change {
+    /// Letters and digits are in an alphabet.
+    ToAlphabet(Alphabet),
+    /// All is in a style.
+    ToStyle(Style),
+    /// All is the lower part of a fraction, and what stands before it the upper one.
+    Divides(FractionRule),
+    /// All is in the color that stands next.
+    ToColor,
+}
+
+/// What is made of the box of an operand.
+#[derive(Clone, Copy)]
+pub enum OperandBox {
+    /// It is not seen.
+    Phantom,
+    /// Nor has its box a height or a depth.
+    PhantomWidth,
+    /// Nor has its box a width.
+    PhantomHeight,
+    /// It has no height and no depth.
+    Smashed,
+    WithoutHeight,
+    WithoutDepth,
+    /// It has no width, and reaches over what stands to the right of it.
+    OverRight,
+    /// To the left of it.
+    OverLeft,
+    /// On both sides of it.
+    OverBoth,
+    /// A line stands around it.
+    Frame,
+    /// A line goes through it, from its lower left.
+    StrikeUp,
+    /// From its upper left.
+    StrikeDown,
+    /// Both.
+    StrikeTwice,
+    /// It stands so many thousandths of an em above its place.
+    Raised(i32),
+    /// It is in this color.
+    Colored(Color),
+    /// It lies on this color.
+    OnColor(Color),
+}
+
+/// What a command means.
+#[derive(Clone, Copy)]
+pub enum Meaning {
+    /// A character.
+    Shows(Symbol),
+    /// The name of a function.
+    FunctionName(LimitPlace, &'static str),
+    /// Dots, in the middle of the line before an operator or a relation, otherwise on the line.
+    Dots,
+    /// A space, in eighteenths of an em.
+    Spacing(i8),
+    /// A space as wide as the length that stands next.
+    Skip,
+    /// A space as wide as the length that stands next in braces.
+    SkipInBraces,
+    /// Its operand in a box.
+    Boxed(OperandBox),
+    /// Its operand in a box without height or depth.
+    Smash,
+    /// Its operand, raised by the length that stands next in braces.
+    Raise,
+    /// Its operand in the color that stands next.
+    InColor,
+    /// Its operand on the color that stands next.
+    Highlight,
+    /// A black rectangle of two lengths in braces. A length in brackets before them raises it.
+    Rectangle,
+    /// An arrow that is as long as what stands above it, and below it in brackets.
+    Arrow(char),
+    /// Its operand in an alphabet.
+    Styled(Alphabet),
+    /// Words, which may have an alphabet.
+    Words(Option<Alphabet>),
+    /// A fraction, which may have a style of its own.
+    Fraction(FractionRule, Option<Style>),
+    /// A fraction in the style of a block, whose numerator may be pushed to a side.
+    ContinuedFraction,
+    /// A fraction whose delimiters, line and style its author says.
+    GeneralFraction,
+    Root,
+    /// A mark on one operand.
+    Accent(Side, char, Stretch),
+    /// A brace, which takes scripts as labels.
+    Brace(Side, char),
+    /// A first operand above or below the second.
+    Stack(Side),
+    /// A first operand above the second, which both are a relation.
+    StackedRelation,
+    OperatorName,
+    /// A stroke through the relation that follows.
+    Negation,
+    /// A stroke through an operand.
+    Slash,
+    /// A delimiter of this size and class.
+    Sized(Size, Class),
+    Left,
+    Middle,
+    Right,
+    Limits,
+    NoLimits,
+    /// Its operand as an atom of this class.
+    Classed(Class),
+    /// A change of what stands after it in its group.
+    Changes(Change),
+    /// A table, and its end.
+    BeginTable,
+    EndTable,
+    /// What ends a row of a table.
+    LineBreak,
+    /// Rows in braces.
+    Substack,
+}
+
+/// The name of a command, without its backslash, and what it means.
+#[derive(Clone, Copy)]
+pub struct Entry {
+    pub name: &'static str,
+    pub meaning: Meaning,
+}

@@ -1,0 +1,63 @@
+//! The commands that are one character in words.
+ghost use Rattle.std.specs.Prelude.{◌≡◌, map};
+ghost use Rattle.latex2mathml_tex_grammar.specs.{Delimiters.entry_of_name, TextCommands.text_commands};
+ghost use Rattle.latex2mathml_tex_commands.specs.Named.{named_entry};
+
+use crate::named::{Named, find};
+
+/// The character that a command is in words, if it is one.
+pub fn text_character(name: &str) -> Option<char>
+    ensures { result ≡ entry_of_name text_commands name.now }
+{
+    find(text_commands(), name)
+}
+
+/// These commands, in the order of their names' bytes.
+#[tactic(auto, unfolding(latex2mathml_tex_grammar::specs::TextCommands::text_commands))]
+fn text_commands() -> &'static [Named]
+    ensures { map named_entry result.now ≡ text_commands }
+{
+    &TEXT_COMMANDS
+}
+
+#[rattlefmt::skip]
+static TEXT_COMMANDS: [Named; 38] = [
+    Named { name: "#", character: '#' },
+    Named { name: "$", character: '$' },
+    Named { name: "%", character: '%' },
+    Named { name: "&", character: '&' },
+    Named { name: "AA", character: 'Å' },
+    Named { name: "AE", character: 'Æ' },
+    Named { name: "O", character: 'Ø' },
+    Named { name: "OE", character: 'Œ' },
+    Named { name: "_", character: '_' },
+    Named { name: "aa", character: 'å' },
+    Named { name: "ae", character: 'æ' },
+    Named { name: "i", character: 'ı' },
+    Named { name: "j", character: 'ȷ' },
+    Named { name: "o", character: 'ø' },
+    Named { name: "oe", character: 'œ' },
+    Named { name: "ss", character: 'ß' },
+    Named { name: "textasciicircum", character: '^' },
+    Named { name: "textasciitilde", character: '~' },
+    Named { name: "textbackslash", character: '\\' },
+    Named { name: "textbar", character: '|' },
+    Named { name: "textbraceleft", character: '{' },
+    Named { name: "textbraceright", character: '}' },
+    Named { name: "textdegree", character: '°' },
+    Named { name: "textdollar", character: '$' },
+    Named { name: "textellipsis", character: '…' },
+    Named { name: "textemdash", character: '—' },
+    Named { name: "textendash", character: '–' },
+    Named { name: "textgreater", character: '>' },
+    Named { name: "textless", character: '<' },
+    Named { name: "textquotedblleft", character: '“' },
+    Named { name: "textquotedblright", character: '”' },
+    Named { name: "textquoteleft", character: '‘' },
+    Named { name: "textquoteright", character: '’' },
+    Named { name: "textregistered", character: '®' },
+    Named { name: "textsterling", character: '£' },
+    Named { name: "textunderscore", character: '_' },
+    Named { name: "{", character: '{' },
+    Named { name: "}", character: '}' },
+];
